@@ -1,0 +1,80 @@
+-- The calls with their arguments, and what each gives on any state and any lent slices.
+use Prim.Native.Nat.{ℕ}
+use mathlib.Core.List.{List, []}
+use Rattle.model.specs.declared.Sizes.{Sizes}
+use Rattle.model.specs.declared.Core.{Core}
+use Rattle.model.specs.World.{World}
+use Rattle.model.specs.State.{newCore}
+use Rattle.model.specs.Refusal.{Row, Task, Result, verdict, conclude}
+use Rattle.model.specs.Transaction.{beginRows, beginTask, updateRows, updateTask, readRows, readTask, commitRows, commitTask}
+use Rattle.model.specs.Abort.{abortRows, abortTask}
+use Rattle.model.specs.Format.{formatRows, formatTask}
+use Rattle.model.specs.Checkpoint.{checkpointBeginRows, checkpointBeginTask, checkpointStepRows, checkpointStepTask, checkpointEndRows, checkpointEndTask}
+use Rattle.model.specs.Restart.{restartBeginRows, restartBeginTask, restartStepRows, restartStepTask, restartEndRows, restartEndTask}
+
+-- "Each storing call takes an allowance": here its budget, the last argument.
+pub data Call : Type 0 where
+  format : Sizes → (budget : ℕ) → Call
+  begin : Call
+  update : (number page slot : ℕ) → List ℕ → (budget : ℕ) → Call
+  read : (reader page slot : ℕ) → Call
+  commit : (number budget : ℕ) → Call
+  abort : (number budget : ℕ) → Call
+  checkpointBegin : Call
+  checkpointStep : (budget : ℕ) → Call
+  checkpointEnd : (budget : ℕ) → Call
+  restartBegin : Call
+  restartStep : (source : ℕ) → Call
+  restartEnd : (budget : ℕ) → Call
+  newState : Call
+
+-- the rows of "Turned away" that a call checks
+abbrev pub rowsOf : Call → Core → World → List Row
+rowsOf (format s budget) c w = formatRows c w s
+rowsOf begin c w = beginRows c w
+rowsOf (update number page slot value budget) c w = updateRows c w number page slot value
+rowsOf (read reader page slot) c w = readRows c w reader page slot
+rowsOf (commit number budget) c w = commitRows c w number
+rowsOf (abort number budget) c w = abortRows c w number
+rowsOf checkpointBegin c w = checkpointBeginRows c w
+rowsOf (checkpointStep budget) c w = checkpointStepRows c w
+rowsOf (checkpointEnd budget) c w = checkpointEndRows c w
+rowsOf restartBegin c w = restartBeginRows c w
+rowsOf (restartStep source) c w = restartStepRows c w source
+rowsOf (restartEnd budget) c w = restartEndRows c w
+rowsOf newState c w = []
+
+-- what it does when none of them applies
+abbrev pub taskOf : Call → Core → World → Task
+taskOf (format s budget) c w = formatTask s
+taskOf begin c w = beginTask c w
+taskOf (update number page slot value budget) c w = updateTask c w number page slot value
+taskOf (read reader page slot) c w = readTask c w reader page slot
+taskOf (commit number budget) c w = commitTask c w number
+taskOf (abort number budget) c w = abortTask c w number
+taskOf checkpointBegin c w = checkpointBeginTask c w
+taskOf (checkpointStep budget) c w = checkpointStepTask c w
+taskOf (checkpointEnd budget) c w = checkpointEndTask c w
+taskOf restartBegin c w = restartBeginTask w
+taskOf (restartStep source) c w = restartStepTask c w source
+taskOf (restartEnd budget) c w = restartEndTask c w
+taskOf newState c w = record { actions = []; core = newCore; value = 0 }
+
+-- a call that stores nothing needs no budget
+abbrev pub budgetOf : Call → ℕ
+budgetOf (format s budget) = budget
+budgetOf begin = 0
+budgetOf (update number page slot value budget) = budget
+budgetOf (read reader page slot) = 0
+budgetOf (commit number budget) = budget
+budgetOf (abort number budget) = budget
+budgetOf checkpointBegin = 0
+budgetOf (checkpointStep budget) = budget
+budgetOf (checkpointEnd budget) = budget
+budgetOf restartBegin = 0
+budgetOf (restartStep source) = 0
+budgetOf (restartEnd budget) = budget
+budgetOf newState = 0
+
+unfoldable pub resultOf : Call → Core → World → Result
+resultOf call c w = conclude (verdict (rowsOf call c w)) (budgetOf call) (taskOf call c w) c w

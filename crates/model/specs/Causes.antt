@@ -1,0 +1,133 @@
+-- 01, "Turned away": one definition for the cause of each row, shared by all the calls that check it.
+use Prim.Native.Nat.{ℕ, zero, suc, _+_, _-_}
+use mathlib.Core.List.{List, [], _∷_}
+use mathlib.Core.Bool.{Bool, true, false, cond, not, _&&_, _||_}
+use lib.ListN.{length, getD}
+use lib.Dec.{leb, ltb, eqb}
+use Rattle.model.specs.declared.Stage.{Stage}
+use Rattle.model.specs.declared.Stage.the-variants.{Shut, Replaying, Open, Copying}
+use Rattle.model.specs.declared.Sizes.{Sizes}
+use Rattle.model.specs.declared.Core.{Core}
+use Rattle.model.specs.declared.Fault.{Fault}
+use Rattle.model.specs.declared.Fault.the-variants.{Sound, BadRecord}
+use Rattle.model.specs.Below.{firstBelow}
+use Rattle.model.specs.Sizes.{slotsIn, widthIn, ringOf, tailWord, sizesInBounds}
+use Rattle.model.specs.Anchor.{anchorWords, epochOn, startOn}
+use Rattle.model.specs.Decode.{readLog}
+use Rattle.model.specs.Scan.{Scan, scan, faultIn}
+use Rattle.model.specs.World.{World}
+use Rattle.model.specs.Memory.{ownerOf, lengthsRight}
+use Rattle.model.specs.State.{places, limit, sound, isOpen, placeOf}
+use Rattle.model.specs.Refusal.{Row}
+
+-- the stages that a call is for
+abbrev pub whenShut : Stage → Bool
+whenShut Shut = true
+whenShut Replaying = false
+whenShut Open = false
+whenShut Copying = false
+
+abbrev pub whenReplaying : Stage → Bool
+whenReplaying Shut = false
+whenReplaying Replaying = true
+whenReplaying Open = false
+whenReplaying Copying = false
+
+abbrev pub whenOpen : Stage → Bool
+whenOpen Shut = false
+whenOpen Replaying = false
+whenOpen Open = true
+whenOpen Copying = false
+
+abbrev pub whenCopying : Stage → Bool
+whenCopying Shut = false
+whenCopying Replaying = false
+whenCopying Open = false
+whenCopying Copying = true
+
+abbrev pub whenServing : Stage → Bool
+whenServing Shut = false
+whenServing Replaying = false
+whenServing Open = true
+whenServing Copying = true
+
+-- 1. "stage does not allow the call". A state that no call made is in no stage.
+unfoldable pub stageForbids : (Stage → Bool) → Core → Bool
+stageForbids allowed c = not (allowed (c .stage) && sound c)
+
+-- 2. "anchor is not 148 words"
+unfoldable pub anchorWrong : World → Bool
+anchorWrong w = not (eqb (length (w .anchor)) anchorWords)
+
+-- 3. "c is 0 (restart begin)"
+unfoldable pub unformatted : World → Bool
+unformatted w = eqb (epochOn (w .anchor)) 0
+
+-- 4. "sizes or arrays out of bounds, or page entries from P on not 0"
+unfoldable pub sizesWrong : Sizes → Bool
+sizesWrong s = not (sizesInBounds s)
+
+-- 5. "another lent slice has the wrong length"
+unfoldable pub lengthsWrong : Sizes → World → Bool
+lengthsWrong s w = not (lengthsRight s w)
+
+-- 6. "tail below start, more than W above it, or above 2^62"; returned: "lowest such disk"
+unfoldable pub tailOn : Sizes → World → ℕ → ℕ
+tailOn s w disk = getD (w .logs) (tailWord s disk) 0
+
+unfoldable pub tailWrong : Sizes → World → ℕ → Bool
+tailWrong s w disk =
+    ltb (tailOn s w disk) (startOn (w .anchor) disk)
+    || ltb (startOn (w .anchor) disk + ringOf s disk) (tailOn s w disk)
+    || ltb limit (tailOn s w disk)
+
+unfoldable pub wrongTail : Sizes → World → ℕ
+wrongTail s w = firstBelow (tailWrong s w) (s .disks)
+
+abbrev pub tailRow : Sizes → World → Row
+tailRow s w = record { number = 6; applies = ltb (wrongTail s w) (s .disks); first = wrongTail s w; second = 0 }
+
+-- 7. "retained record malformed": "The words from the current start up to the tail, tail excluded, are the retained log."
+unfoldable pub retained : Sizes → World → ℕ → Scan
+retained s w disk = scan s (readLog s (w .logs) disk (tailOn s w disk) []) (tailOn s w disk) (startOn (w .anchor) disk)
+
+-- of n disks from `disk` on: "lowest disk, first position there"
+unfoldable pub faultFrom : Sizes → World → ℕ → ℕ → Fault
+faultFrom s w zero disk = Sound
+faultFrom s w (suc n) disk = faultIn disk (retained s w disk) (faultFrom s w n (disk + 1))
+
+abbrev pub faultRow : Fault → Row
+faultRow Sound = record { number = 7; applies = false; first = 0; second = 0 }
+faultRow (BadRecord disk p) = record { number = 7; applies = true; first = disk; second = p }
+
+-- 8. "page, slot or source number too large"
+unfoldable pub slotMissing : Sizes → ℕ → ℕ → Bool
+slotMissing s page slot = leb (s .pages) page || leb (slotsIn s page) slot
+
+unfoldable pub sourceMissing : Sizes → ℕ → Bool
+sourceMissing s source = ltb (s .disks) source
+
+-- 9. "transaction not open (reader 0 excepted)"
+unfoldable pub notOpen : Core → ℕ → Bool
+notOpen c number = not (isOpen (c .table) number)
+
+unfoldable pub readerNotOpen : Core → ℕ → Bool
+readerNotOpen c reader = not (eqb reader 0) && notOpen c reader
+
+-- 10. "value is not the slot's length"
+unfoldable pub valueWrong : Sizes → ℕ → List ℕ → Bool
+valueWrong s page value = not (eqb (length value) (widthIn s page))
+
+-- 11. "slot held by another transaction": "A held slot answers 11 to all but its holder."
+unfoldable pub locked : Core → World → ℕ → ℕ → ℕ → Bool
+locked c w number page slot =
+    isOpen (c .table) (ownerOf (c .sizes) (w .work) page slot)
+    && not (eqb (ownerOf (c .sizes) (w .work) page slot) number)
+
+-- 12. "sixteen already open"
+unfoldable pub tableFull : Core → Bool
+tableFull c = leb places (placeOf (c .table) 0)
+
+-- 13. "c is 2^62 or more, or the next number is"
+unfoldable pub spent : ℕ → Bool
+spent n = leb limit n

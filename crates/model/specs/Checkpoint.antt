@@ -1,0 +1,119 @@
+-- 01, "Calls": checkpoint begin, step and end. n = c + 1 is the number of the checkpoint under way.
+use Prim.Native.Nat.{ℕ, zero, suc, _+_, min}
+use mathlib.Core.List.{List, [], _∷_, _++_}
+use mathlib.Core.Bool.{Bool, cond, _&&_}
+use lib.ListN.{getD, replicate}
+use lib.Dec.{leb, ltb}
+use Rattle.model.specs.declared.Stage.the-variants.{Open, Copying}
+use Rattle.model.specs.declared.Sizes.{Sizes}
+use Rattle.model.specs.declared.Table.{Table}
+use Rattle.model.specs.declared.Core.{Core}
+use Rattle.model.specs.Below.{firstBelow, joinBelow, listBelow}
+use Rattle.model.specs.Word.{part}
+use Rattle.model.specs.Sizes.{pageBase, pageWords}
+use Rattle.model.specs.Anchor.{epochWord, startWord, backupAt}
+use Rattle.model.specs.World.{World, Action, store, write, anchor, backups, work, each}
+use Rattle.model.specs.Memory.{epochAt}
+use Rattle.model.specs.State.{places, endOf, servedBy, firstAt, hasUpdate, noCheckpoint}
+use Rattle.model.specs.Refusal.{Row, row, Task}
+use Rattle.model.specs.Causes.{whenOpen, whenCopying, stageForbids, anchorWrong, lengthsWrong, spent}
+use Rattle.model.specs.Append.{flush}
+
+-- a number for each of the eight disks, 0 from D on
+unfoldable pub perDisk : Sizes → (ℕ → ℕ) → List ℕ
+perDisk s f = listBelow (λ d. cond (ltb d (s .disks)) (f d) 0) 8
+
+-- Begin (open): "number n = c + 1; each disk's end (tail plus buffered) is remembered".
+unfoldable pub checkpointBeginRows : Core → World → List Row
+checkpointBeginRows c w =
+    row 1 (stageForbids whenOpen c) ∷ row 2 (anchorWrong w) ∷ row 5 (lengthsWrong (c .sizes) w) ∷ row 13 (spent (c .epoch)) ∷ []
+
+unfoldable pub checkpointBeginTask : Core → World → Task
+checkpointBeginTask c w =
+    record {
+      actions = [];
+      core =
+          record {
+            stage = Copying;
+            sizes = c .sizes;
+            epoch = c .epoch;
+            logs = c .logs;
+            table = c .table;
+            next = c .next;
+            checkpoint = record { ends = perDisk (c .sizes) (endOf (c .logs)); copied = 0 };
+            replay = c .replay;
+          };
+      value = 0;
+    }
+
+-- Step (copying): "the lowest page not yet copied goes whole to backup n mod 2 and takes copy number n".
+unfoldable pub toCopy : Core → ℕ → Bool
+toCopy c page = leb (c .checkpoint .copied) page
+
+unfoldable pub lowestToCopy : Core → ℕ
+lowestToCopy c = firstBelow (toCopy c) (c .sizes .pages)
+
+unfoldable pub checkpointStepRows : Core → World → List Row
+checkpointStepRows c w =
+    row 1 (stageForbids whenCopying c) ∷ row 2 (anchorWrong w) ∷ row 5 (lengthsWrong (c .sizes) w)
+    ∷ row 15 (leb (c .sizes .pages) (lowestToCopy c)) ∷ []
+
+unfoldable pub copyPage : Core → World → ℕ → List Action
+copyPage c w page =
+    each (store backups) (backupAt (c .sizes) (c .epoch + 1) + pageBase (c .sizes) page)
+    (part (pageBase (c .sizes) page) (pageWords (c .sizes) page) (w .pages))
+    ++ write work (epochAt (c .sizes) page) (c .epoch + 1) ∷ []
+
+unfoldable pub checkpointStepTask : Core → World → Task
+checkpointStepTask c w =
+    record {
+      actions = copyPage c w (lowestToCopy c);
+      core =
+          record {
+            stage = c .stage;
+            sizes = c .sizes;
+            epoch = c .epoch;
+            logs = c .logs;
+            table = c .table;
+            next = c .next;
+            checkpoint = record { ends = c .checkpoint .ends; copied = c .checkpoint .copied + 1 };
+            replay = c .replay;
+          };
+      value = 0;
+    }
+
+-- End (copying): "flush disks in order; store D starts in row n mod 2; c := n".
+-- "A start is the remembered end, or the first record of a transaction of that disk still open, if that is smaller."
+unfoldable pub leastFirst : Table → ℕ → ℕ → ℕ → ℕ
+leastFirst t disk remembered zero = remembered
+leastFirst t disk remembered (suc n) =
+    min (leastFirst t disk remembered n) (cond (servedBy t disk n && hasUpdate t n) (firstAt t n) remembered)
+
+unfoldable pub newStart : Core → ℕ → ℕ
+newStart c disk = leastFirst (c .table) disk (getD (c .checkpoint .ends) disk 0) places
+
+unfoldable pub checkpointEndRows : Core → World → List Row
+checkpointEndRows c w =
+    row 1 (stageForbids whenCopying c) ∷ row 2 (anchorWrong w) ∷ row 5 (lengthsWrong (c .sizes) w)
+    ∷ row 15 (ltb (lowestToCopy c) (c .sizes .pages)) ∷ []
+
+unfoldable pub checkpointEndTask : Core → World → Task
+checkpointEndTask c w =
+    record {
+      actions =
+          joinBelow (flush (c .sizes) (c .logs) (w .work)) (c .sizes .disks)
+          ++ listBelow (λ d. store anchor (startWord (c .epoch + 1) d) (newStart c d)) (c .sizes .disks)
+          ++ store anchor epochWord (c .epoch + 1) ∷ [];
+      core =
+          record {
+            stage = Open;
+            sizes = c .sizes;
+            epoch = c .epoch + 1;
+            logs = record { starts = perDisk (c .sizes) (newStart c); tails = perDisk (c .sizes) (endOf (c .logs)); fills = replicate 8 0 };
+            table = c .table;
+            next = c .next;
+            checkpoint = noCheckpoint;
+            replay = c .replay;
+          };
+      value = 0;
+    }

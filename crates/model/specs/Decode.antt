@@ -1,0 +1,57 @@
+-- What stands at a position of a log, with every malformed cause of No. 7.
+use Prim.Native.Nat.{ℕ, zero, suc, _+_, _-_, _/_, _%_}
+use mathlib.Core.List.{List, [], _∷_}
+use mathlib.Core.Bool.{Bool, cond, not, _||_}
+use lib.ListN.{getD}
+use lib.Dec.{leb, ltb, eqb}
+use Rattle.model.specs.declared.Sizes.{Sizes}
+use Rattle.model.specs.declared.Decoded.{Decoded}
+use Rattle.model.specs.declared.Decoded.the-variants.{Change, Close, Malformed}
+use Rattle.model.specs.Sizes.{slotsIn, widthIn, ringWord}
+use Rattle.model.specs.Record.{wordsOf}
+
+-- A log is read through a function from position to word: below the tail the ring's word, from the tail on the buffer's.
+unfoldable pub readLog : Sizes → List ℕ → ℕ → ℕ → List ℕ → ℕ → ℕ
+readLog s logs disk tail buffer p = cond (ltb p tail) (getD logs (ringWord s disk p) 0) (getD buffer (p - tail) 0)
+
+-- the n words from position p on
+unfoldable pub span : (ℕ → ℕ) → ℕ → ℕ → List ℕ
+span read p zero = []
+span read p (suc n) = read p ∷ span read (p + 1) n
+
+-- the fields of word 0
+abbrev pub kindField : ℕ → ℕ
+kindField w = w % 8
+
+abbrev pub pageField : ℕ → ℕ
+pageField w = w / 8 % 64
+
+abbrev pub slotField : ℕ → ℕ
+slotField w = w / 512 % 128
+
+abbrev pub widthField : ℕ → ℕ
+widthField w = w / 65536
+
+-- "page, slot or length not the page's"
+unfoldable pub misplaced : Sizes → ℕ → Bool
+misplaced s w =
+    leb (s .pages) (pageField w) || leb (slotsIn s (pageField w)) (slotField w)
+    || not (eqb (widthField w) (widthIn s (pageField w)))
+
+-- a record whose first three words are w, number and epoch, at position p of a log that ends at `end`
+unfoldable pub decodeWords : Sizes → ℕ → ℕ → ℕ → ℕ → ℕ → Decoded
+decodeWords s end p w number epoch =
+    -- "kind above 3"
+    cond (ltb 3 (kindField w)) Malformed
+    -- "end past the tail"
+    (cond (ltb end (p + wordsOf (kindField w) (widthField w))) Malformed
+    -- "number 0"
+    (cond (eqb number 0) Malformed
+    (cond (ltb (kindField w) 2)
+    (cond (misplaced s w) Malformed
+    (Change (kindField w) (pageField w) (slotField w) number epoch (widthField w) (p + wordsOf (kindField w) (widthField w))))
+    -- "set fields in a close"
+    (cond (eqb (w / 8) 0) (Close (kindField w) number (p + wordsOf (kindField w) (widthField w))) Malformed))))
+
+unfoldable pub decodeAt : Sizes → (ℕ → ℕ) → ℕ → ℕ → Decoded
+decodeAt s read end p = decodeWords s end p (read p) (read (p + 1)) (read (p + 2))

@@ -1,0 +1,54 @@
+-- What a restart can see of the devices, and the pages that it makes of that.
+use Prim.Native.Nat.{ℕ, _-_}
+use mathlib.Core.List.{List, [], _∷_}
+use mathlib.Core.Bool.{cond}
+use lib.ListN.{length, getD}
+use lib.Seq.{sets}
+use Rattle.model.specs.declared.Sizes.{Sizes}
+use Rattle.model.specs.Below.{listBelow}
+use Rattle.model.specs.Word.{xors, part}
+use Rattle.model.specs.Sizes.{total, slotBase}
+use Rattle.model.specs.Anchor.{epochOn, sizesOn, startOn, backupAt}
+use Rattle.model.specs.Record.{Record, change, close}
+use Rattle.model.specs.Decode.{readLog, span}
+use Rattle.model.specs.Scan.{Scan, end, bad, item, scan, fateIn}
+use Rattle.model.specs.World.{World}
+use Rattle.model.specs.Causes.{tailOn}
+use Rattle.model.specs.Restart.{replays}
+
+-- The sizes, c, the current backup, and the words of each retained log.
+pub record Image : Type 0 where
+  pub sizes : Sizes
+  pub epoch : ℕ
+  pub backup : List ℕ
+  pub logs : List (List ℕ)
+
+unfoldable pub retainedWords : Sizes → World → ℕ → List ℕ
+retainedWords s w disk =
+    span (readLog s (w .logs) disk (tailOn s w disk) []) (startOn (w .anchor) disk) (tailOn s w disk - startOn (w .anchor) disk)
+
+unfoldable pub imageOf : World → Image
+imageOf w =
+    let s : Sizes = sizesOn (w .anchor) in
+    let c : ℕ = epochOn (w .anchor) in
+    record { sizes = s; epoch = c; backup = part (backupAt s c) (total s) (w .backups); logs = listBelow (retainedWords s w) (s .disks) }
+
+-- a difference XORed in at a place
+unfoldable pub xorAt : ℕ → List ℕ → List ℕ → List ℕ
+xorAt at diff words = sets words at (xors (part at (length diff) words) diff)
+
+-- the records of a log replayed by 01's rule, first to last
+unfoldable pub replayed : Sizes → ℕ → Scan → List ℕ → List ℕ
+replayed s c end words = words
+replayed s c (bad p) words = words
+replayed s c (item p (close kind number) rest) words = replayed s c rest words
+replayed s c (item p (change kind page slot number epoch diff) rest) words =
+    replayed s c rest (cond (replays c (fateIn number rest) epoch) (xorAt (slotBase s page slot) diff words) words)
+
+unfoldable pub replayedAll : Sizes → ℕ → List (List ℕ) → List ℕ → List ℕ
+replayedAll s c [] words = words
+replayedAll s c (log ∷ rest) words = replayedAll s c rest (replayed s c (scan s (λ p. getD log p 0) (length log) 0) words)
+
+-- the pages that a restart makes: the backup, then each log
+unfoldable pub restarted : Image → List ℕ
+restarted i = replayedAll (i .sizes) (i .epoch) (i .logs) (i .backup)

@@ -1,0 +1,30 @@
+-- Document 01 as definitions, in its order.
+-- Counting and words.
+pub mod Below
+pub mod Word
+-- "Devices" and "Records".
+pub mod Sizes
+pub mod Anchor
+pub mod Record
+pub mod Decode
+pub mod Scan
+-- What a call works on, and the frame of every call.
+pub mod World
+pub mod Memory
+pub mod State
+pub mod Room
+pub mod Refusal
+pub mod Causes
+-- "Calls".
+pub mod Append
+pub mod Format
+pub mod Transaction
+pub mod Abort
+pub mod Checkpoint
+pub mod Restart
+pub mod Call
+-- What a restart makes of the devices; "The book"; lists of calls; the promise.
+pub mod Image
+pub mod Reference
+pub mod Machine
+pub mod Promise

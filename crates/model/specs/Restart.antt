@@ -1,0 +1,159 @@
+-- 01, "Calls": restart begin, step and end.
+use Prim.Native.Nat.{ℕ, _+_, _-_}
+use mathlib.Core.List.{List, [], _∷_, _++_}
+use mathlib.Core.Bool.{Bool, true, false, cond, not, _&&_}
+use lib.ListN.{getD, set, replicate}
+use lib.Dec.{ltb, eqb}
+use Rattle.model.specs.declared.Stage.the-variants.{Replaying}
+use Rattle.model.specs.declared.Sizes.{Sizes}
+use Rattle.model.specs.declared.Replay.{Replay}
+use Rattle.model.specs.declared.Core.{Core}
+use Rattle.model.specs.declared.Decoded.{Decoded}
+use Rattle.model.specs.declared.Decoded.the-variants.{Change, Close, Malformed}
+use Rattle.model.specs.declared.Fate.{Fate}
+use Rattle.model.specs.declared.Fate.the-variants.{Closed, Unclosed, Unreadable}
+use Rattle.model.specs.declared.Fault.{Fault}
+use Rattle.model.specs.declared.Fault.the-variants.{Sound, BadRecord}
+use Rattle.model.specs.Below.{allBelow, listBelow}
+use Rattle.model.specs.Word.{part}
+use Rattle.model.specs.Sizes.{total, pageBase, pageWords, slotBase}
+use Rattle.model.specs.Anchor.{epochWord, epochOn, sizesOn, startOn, startWord, backupAt}
+use Rattle.model.specs.Record.{inBackup}
+use Rattle.model.specs.Decode.{readLog, decodeAt, span}
+use Rattle.model.specs.Scan.{scan, fateIn}
+use Rattle.model.specs.World.{World, Action, store, write, anchor, backups, pages, each}
+use Rattle.model.specs.State.{openCore, noTable, noCheckpoint, tailOf}
+use Rattle.model.specs.Refusal.{Row, row, Task}
+use Rattle.model.specs.Causes.{whenShut, whenReplaying, stageForbids, anchorWrong, unformatted, sizesWrong, lengthsWrong, tailRow, tailOn, faultFrom, faultRow, sourceMissing, spent}
+use Rattle.model.specs.Abort.{xorIn}
+use Rattle.model.specs.Format.{freshMemory}
+use Rattle.model.specs.Checkpoint.{perDisk}
+
+-- Begin (shut): "all checks; page memory zeroed".
+unfoldable pub restartBeginRows : Core → World → List Row
+restartBeginRows c w =
+    let s : Sizes = sizesOn (w .anchor) in
+    row 1 (stageForbids whenShut c) ∷ row 2 (anchorWrong w) ∷ row 3 (unformatted w) ∷ row 4 (sizesWrong s)
+    ∷ row 5 (lengthsWrong s w) ∷ tailRow s w ∷ faultRow (faultFrom s w (s .disks) 0) ∷ row 13 (spent (epochOn (w .anchor))) ∷ []
+
+unfoldable pub restartBeginTask : World → Task
+restartBeginTask w =
+    let s : Sizes = sizesOn (w .anchor) in
+    let starts : List ℕ = perDisk s (startOn (w .anchor)) in
+    record {
+      actions = each (write pages) 0 (replicate (total s) 0);
+      core =
+          record {
+            stage = Replaying;
+            sizes = s;
+            epoch = epochOn (w .anchor);
+            logs = record { starts = starts; tails = perDisk s (tailOn s w); fills = replicate 8 0 };
+            table = noTable;
+            next = 0;
+            checkpoint = noCheckpoint;
+            replay = record { positions = starts; page = 0 };
+          };
+      value = 0;
+    }
+
+-- Step (replaying): "the caller names source 0 to D − 1, a log, or D, the backup".
+unfoldable pub positionOf : Core → ℕ → ℕ
+positionOf c disk = getD (c .replay .positions) disk 0
+
+-- what remains of a source: words of a log, pages of the backup
+unfoldable pub remaining : Core → ℕ → ℕ
+remaining c source =
+    cond (ltb source (c .sizes .disks)) (tailOf (c .logs) source - positionOf c source)
+    (cond (eqb source (c .sizes .disks)) (c .sizes .pages - c .replay .page) 0)
+
+unfoldable pub withReplay : Core → Replay → Core
+withReplay c r =
+    record { stage = c .stage; sizes = c .sizes; epoch = c .epoch; logs = c .logs; table = c .table; next = c .next; checkpoint = c .checkpoint; replay = r }
+
+-- "A closed one's record not in backup c, or a loose one's record in it, is XORed in; others change nothing."
+abbrev pub replays : ℕ → Fate → ℕ → Bool
+replays c Closed epoch = not (inBackup c epoch)
+replays c Unclosed epoch = inBackup c epoch
+replays c (Unreadable p) epoch = false
+
+-- the log of a disk, read up to its tail
+unfoldable pub readDisk : Core → World → ℕ → ℕ → ℕ
+readDisk c w disk p = readLog (c .sizes) (w .logs) disk (tailOf (c .logs) disk) [] p
+
+-- the transaction's fate in that log from position p on
+unfoldable pub fateFrom : Core → World → ℕ → ℕ → ℕ → Fate
+fateFrom c w disk number p = fateIn number (scan (c .sizes) (readDisk c w disk) (tailOf (c .logs) disk) p)
+
+unfoldable pub nextRecord : Core → World → ℕ → Decoded
+nextRecord c w disk = decodeAt (c .sizes) (readDisk c w disk) (tailOf (c .logs) disk) (positionOf c disk)
+
+-- "A log step reads from its record to its transaction's next close, or to the tail."; a closing record is its own next close.
+abbrev pub fateFault : ℕ → Fate → Fault
+fateFault disk Closed = Sound
+fateFault disk Unclosed = Sound
+fateFault disk (Unreadable p) = BadRecord disk p
+
+abbrev pub recordFault : Core → World → ℕ → Decoded → Fault
+recordFault c w disk (Change kind page slot number epoch width next) = fateFault disk (fateFrom c w disk number next)
+recordFault c w disk (Close kind number next) = Sound
+recordFault c w disk Malformed = BadRecord disk (positionOf c disk)
+
+unfoldable pub stepFault : Core → World → ℕ → Fault
+stepFault c w source =
+    cond (ltb source (c .sizes .disks) && ltb 0 (remaining c source)) (recordFault c w source (nextRecord c w source)) Sound
+
+unfoldable pub restartStepRows : Core → World → ℕ → List Row
+restartStepRows c w source =
+    row 1 (stageForbids whenReplaying c) ∷ row 2 (anchorWrong w) ∷ row 5 (lengthsWrong (c .sizes) w)
+    ∷ faultRow (stepFault c w source) ∷ row 8 (sourceMissing (c .sizes) source) ∷ row 15 (eqb (remaining c source) 0) ∷ []
+
+-- "A backup step XORs its next page in."
+unfoldable pub backupStep : Core → World → Task
+backupStep c w =
+    let page : ℕ = c .replay .page in
+    let from : ℕ = backupAt (c .sizes) (c .epoch) + pageBase (c .sizes) page in
+    record {
+      actions = xorIn (pageBase (c .sizes) page) (part from (pageWords (c .sizes) page) (w .backups)) (w .pages);
+      core = withReplay c (record { positions = c .replay .positions; page = page + 1 });
+      value = 0;
+    }
+
+-- "A log step takes the next record."
+unfoldable pub movedTo : Core → ℕ → ℕ → Core
+movedTo c disk next = withReplay c (record { positions = set (c .replay .positions) disk next; page = c .replay .page })
+
+abbrev pub recordStep : Core → World → ℕ → Decoded → Task
+recordStep c w disk (Change kind page slot number epoch width next) =
+    record {
+      actions =
+          cond (replays (c .epoch) (fateFrom c w disk number next) epoch)
+          (xorIn (slotBase (c .sizes) page slot) (span (readDisk c w disk) (positionOf c disk + 3) width) (w .pages))
+          [];
+      core = movedTo c disk next;
+      value = 0;
+    }
+recordStep c w disk (Close kind number next) = record { actions = []; core = movedTo c disk next; value = 0 }
+recordStep c w disk Malformed = record { actions = []; core = c; value = 0 }
+
+unfoldable pub restartStepTask : Core → World → ℕ → Task
+restartStepTask c w source =
+    cond (ltb source (c .sizes .disks)) (recordStep c w source (nextRecord c w source)) (backupStep c w)
+
+-- End (replaying): "all pages to backup (c + 1) mod 2; each tail into row (c + 1) mod 2; c := c + 1. Copy numbers become that
+-- number."
+unfoldable pub restartEndRows : Core → World → List Row
+restartEndRows c w =
+    row 1 (stageForbids whenReplaying c) ∷ row 2 (anchorWrong w) ∷ row 5 (lengthsWrong (c .sizes) w)
+    ∷ row 15 (not (allBelow (λ i. eqb (remaining c i) 0) (c .sizes .disks + 1))) ∷ []
+
+unfoldable pub restartEndTask : Core → World → Task
+restartEndTask c w =
+    record {
+      actions =
+          each (store backups) (backupAt (c .sizes) (c .epoch + 1)) (w .pages)
+          ++ listBelow (λ d. store anchor (startWord (c .epoch + 1) d) (tailOf (c .logs) d)) (c .sizes .disks)
+          ++ store anchor epochWord (c .epoch + 1) ∷ []
+          ++ freshMemory (c .sizes) (c .epoch + 1);
+      core = openCore (c .sizes) (c .epoch + 1) (c .logs .tails);
+      value = c .epoch + 1;
+    }

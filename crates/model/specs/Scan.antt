@@ -1,0 +1,72 @@
+-- The records of a log in order, the search ahead for a closing record, and a transaction's updates.
+use Prim.Native.Nat.{ℕ, zero, suc, _+_, _-_}
+use mathlib.Core.List.{List, [], _∷_, _++_}
+use mathlib.Core.Bool.{Bool, true, false, cond, _&&_}
+use lib.ListN.{length}
+use lib.Dec.{ltb, eqb}
+use Rattle.model.specs.declared.Sizes.{Sizes}
+use Rattle.model.specs.declared.Decoded.{Decoded}
+use Rattle.model.specs.declared.Decoded.the-variants.{Change, Close, Malformed}
+use Rattle.model.specs.declared.Fate.{Fate}
+use Rattle.model.specs.declared.Fate.the-variants.{Closed, Unclosed, Unreadable}
+use Rattle.model.specs.declared.Fault.{Fault}
+use Rattle.model.specs.declared.Fault.the-variants.{Sound, BadRecord}
+use Rattle.model.specs.Record.{Record, change, close, updateKind}
+use Rattle.model.specs.Decode.{decodeAt, span}
+
+-- A log as it is read: each record with its position, up to the end or to the first malformed one.
+pub data Scan : Type 0 where
+  end : Scan
+  bad : (position : ℕ) → Scan
+  item : (position : ℕ) → Record → Scan → Scan
+
+-- what was decoded at p, then the scan from the next position on
+abbrev pub scanned : (ℕ → ℕ) → ℕ → Decoded → (ℕ → Scan) → Scan
+scanned read p (Change kind page slot number epoch width next) rest =
+    item p (change kind page slot number epoch (span read (p + 3) width)) (rest next)
+scanned read p (Close kind number next) rest = item p (close kind number) (rest next)
+scanned read p Malformed rest = bad p
+
+-- at most n records from p on
+unfoldable pub scanAtMost : Sizes → (ℕ → ℕ) → ℕ → ℕ → ℕ → Scan
+scanAtMost s read stop zero p = end
+scanAtMost s read stop (suc n) p =
+    cond (ltb p stop) (scanned read p (decodeAt s read stop p) (scanAtMost s read stop n)) end
+
+-- the log from p up to `stop`: each record has a word or more, so there are at most stop - p
+unfoldable pub scan : Sizes → (ℕ → ℕ) → ℕ → ℕ → Scan
+scan s read stop p = scanAtMost s read stop (stop - p) p
+
+-- "a transaction with a closing record (commit or abort) further on in that retained log is closed, else it is loose"
+unfoldable pub fateIn : ℕ → Scan → Fate
+fateIn number end = Unclosed
+fateIn number (bad p) = Unreadable p
+fateIn number (item p (change kind page slot n epoch diff) rest) = fateIn number rest
+fateIn number (item p (close kind n) rest) = cond (eqb n number) Closed (fateIn number rest)
+
+-- the first malformed record of a disk's scan, and else what `rest` says
+unfoldable pub faultIn : ℕ → Scan → Fault → Fault
+faultIn disk end rest = rest
+faultIn disk (bad p) rest = BadRecord disk p
+faultIn disk (item p r more) rest = faultIn disk more rest
+
+-- An update as an abort reads it.
+pub record Update : Type 0 where
+  pub position : ℕ
+  pub page : ℕ
+  pub slot : ℕ
+  pub diff : List ℕ
+
+-- a transaction's updates, "newest first"
+unfoldable pub updatesIn : ℕ → Scan → List Update
+updatesIn number end = []
+updatesIn number (bad p) = []
+updatesIn number (item p (close kind n) rest) = updatesIn number rest
+updatesIn number (item p (change kind page slot n epoch diff) rest) =
+    updatesIn number rest
+    ++ cond (eqb kind updateKind && eqb n number) (record { position = p; page = page; slot = slot; diff = diff } ∷ []) []
+
+-- the words of their records
+unfoldable pub updateWords : List Update → ℕ
+updateWords [] = 0
+updateWords (u ∷ us) = 3 + length (u .diff) + updateWords us

@@ -1,0 +1,155 @@
+-- The state: a new one, an open one, its table of transactions, and the test that a state made by the calls passes.
+use Prim.Native.Nat.{ℕ, _+_, _-_, _^_}
+use mathlib.Core.List.{List}
+use mathlib.Core.Bool.{Bool, true, false, cond, not, _&&_, _||_}
+use lib.ListN.{getD, set, replicate}
+use lib.Dec.{leb, ltb, eqb}
+use Rattle.model.specs.declared.Stage.{Stage}
+use Rattle.model.specs.declared.Stage.the-variants.{Shut, Replaying, Open, Copying}
+use Rattle.model.specs.declared.Sizes.{Sizes}
+use Rattle.model.specs.declared.Logs.{Logs}
+use Rattle.model.specs.declared.Table.{Table}
+use Rattle.model.specs.declared.Checkpoint.{Checkpoint}
+use Rattle.model.specs.declared.Replay.{Replay}
+use Rattle.model.specs.declared.Core.{Core}
+use Rattle.model.specs.Below.{within, sumBelow, allBelow, firstBelow}
+use Rattle.model.specs.Sizes.{ringOf, sizesInBounds}
+
+-- "sixteen transactions may be open"; the bound of positions, checkpoint numbers and transaction numbers
+abbrev pub places : ℕ
+places = 16
+
+abbrev pub limit : ℕ
+limit = 2 ^ 62
+
+-- A new state; also what an interrupted call hands back.
+abbrev pub noSizes : Sizes
+noSizes = record { pages = 0; disks = 0; ring = 0; slots = replicate 64 0; widths = replicate 64 0 }
+
+abbrev pub noTable : Table
+noTable = record { numbers = replicate 16 0; disks = replicate 16 0; firsts = replicate 16 0; reserved = replicate 16 0 }
+
+abbrev pub noCheckpoint : Checkpoint
+noCheckpoint = record { ends = replicate 8 0; copied = 0 }
+
+abbrev pub noReplay : Replay
+noReplay = record { positions = replicate 8 0; page = 0 }
+
+-- logs that start at their tails, with nothing buffered
+abbrev pub emptyLogs : List ℕ → Logs
+emptyLogs tails = record { starts = tails; tails = tails; fills = replicate 8 0 }
+
+unfoldable pub newCore : Core
+newCore =
+    record { stage = Shut; sizes = noSizes; epoch = 0; logs = emptyLogs (replicate 8 0); table = noTable; next = 0; checkpoint = noCheckpoint; replay = noReplay }
+
+-- An open state with no transaction, as format and restart end leave it: "next number, from 1 after a format or restart".
+unfoldable pub openCore : Sizes → ℕ → List ℕ → Core
+openCore sizes epoch tails =
+    record { stage = Open; sizes = sizes; epoch = epoch; logs = emptyLogs tails; table = noTable; next = 1; checkpoint = noCheckpoint; replay = noReplay }
+
+-- the state with other logs and another table
+unfoldable pub withLog : Core → Logs → Table → Core
+withLog c logs table =
+    record { stage = c .stage; sizes = c .sizes; epoch = c .epoch; logs = logs; table = table; next = c .next; checkpoint = c .checkpoint; replay = c .replay }
+
+-- A disk's log: where it starts, its tail, how many words are buffered, and its end, "tail plus buffered".
+unfoldable pub startOf : Logs → ℕ → ℕ
+startOf l disk = getD (l .starts) disk 0
+
+unfoldable pub tailOf : Logs → ℕ → ℕ
+tailOf l disk = getD (l .tails) disk 0
+
+unfoldable pub fillOf : Logs → ℕ → ℕ
+fillOf l disk = getD (l .fills) disk 0
+
+unfoldable pub endOf : Logs → ℕ → ℕ
+endOf l disk = tailOf l disk + fillOf l disk
+
+unfoldable pub withFill : Logs → ℕ → ℕ → Logs
+withFill l disk n = record { starts = l .starts; tails = l .tails; fills = set (l .fills) disk n }
+
+unfoldable pub flushed : Logs → ℕ → Logs
+flushed l disk = record { starts = l .starts; tails = set (l .tails) disk (endOf l disk); fills = set (l .fills) disk 0 }
+
+-- The table, by place.
+unfoldable pub numberAt : Table → ℕ → ℕ
+numberAt t place = getD (t .numbers) place 0
+
+unfoldable pub diskAtPlace : Table → ℕ → ℕ
+diskAtPlace t place = getD (t .disks) place 0
+
+unfoldable pub firstAt : Table → ℕ → ℕ
+firstAt t place = getD (t .firsts) place 0
+
+unfoldable pub reservedAt : Table → ℕ → ℕ
+reservedAt t place = getD (t .reserved) place 0
+
+-- the place of a transaction; for 0, of the lowest free place; 16 where there is none
+unfoldable pub placeOf : Table → ℕ → ℕ
+placeOf t number = firstBelow (λ i. eqb (numberAt t i) number) places
+
+unfoldable pub isOpen : Table → ℕ → Bool
+isOpen t number = not (eqb number 0) && ltb (placeOf t number) places
+
+unfoldable pub withPlace : Table → ℕ → ℕ → ℕ → ℕ → ℕ → Table
+withPlace t place number disk first reserved =
+    record {
+      numbers = set (t .numbers) place number;
+      disks = set (t .disks) place disk;
+      firsts = set (t .firsts) place first;
+      reserved = set (t .reserved) place reserved;
+    }
+
+-- the table without the transaction
+unfoldable pub without : Table → ℕ → Table
+without t number = withPlace t (placeOf t number) 0 0 0 0
+
+-- The transaction has an update: each takes four words or more beyond the two reserved at its begin.
+unfoldable pub hasUpdate : Table → ℕ → Bool
+hasUpdate t place = ltb 2 (reservedAt t place)
+
+-- a place of the table that holds a transaction of the disk
+unfoldable pub servedBy : Table → ℕ → ℕ → Bool
+servedBy t disk place = not (eqb (numberAt t place) 0) && eqb (diskAtPlace t place) disk
+
+-- "owed is, over a disk's open transactions, 2 words each plus the words of their update records"
+unfoldable pub reservedOn : Table → ℕ → ℕ
+reservedOn t disk = sumBelow (λ i. cond (servedBy t disk i) (reservedAt t i) 0) places
+
+-- The bounds that keep indices, sums and the room rule safe. Every state that a call hands back is within them.
+unfoldable pub diskSound : Core → ℕ → Bool
+diskSound c disk =
+    leb (fillOf (c .logs) disk) 64 && leb (startOf (c .logs) disk) (tailOf (c .logs) disk)
+    && leb (endOf (c .logs) disk - startOf (c .logs) disk + reservedOn (c .table) disk) (ringOf (c .sizes) disk)
+    && leb (endOf (c .logs) disk + reservedOn (c .table) disk) limit
+
+unfoldable pub placeSound : Core → ℕ → Bool
+placeSound c i =
+    eqb (numberAt (c .table) i) 0
+    || ltb (diskAtPlace (c .table) i) (c .sizes .disks) && leb 2 (reservedAt (c .table) i)
+    && (not (hasUpdate (c .table) i)
+    || within (startOf (c .logs) (diskAtPlace (c .table) i)) (endOf (c .logs) (diskAtPlace (c .table) i)) (firstAt (c .table) i))
+
+unfoldable pub servingSound : Core → Bool
+servingSound c =
+    sizesInBounds (c .sizes) && allBelow (diskSound c) (c .sizes .disks) && allBelow (placeSound c) places
+
+unfoldable pub checkpointSound : Core → Bool
+checkpointSound c =
+    ltb (c .epoch) limit && leb (c .checkpoint .copied) (c .sizes .pages)
+    && allBelow (λ d. within (startOf (c .logs) d) (endOf (c .logs) d) (getD (c .checkpoint .ends) d 0)) (c .sizes .disks)
+
+unfoldable pub replaySound : Core → Bool
+replaySound c =
+    sizesInBounds (c .sizes) && ltb (c .epoch) limit && leb (c .replay .page) (c .sizes .pages)
+    && allBelow (λ d. leb (tailOf (c .logs) d) limit && leb (getD (c .replay .positions) d 0) (tailOf (c .logs) d)) (c .sizes .disks)
+
+abbrev pub soundIn : Stage → Core → Bool
+soundIn Shut c = true
+soundIn Replaying c = replaySound c
+soundIn Open c = servingSound c
+soundIn Copying c = servingSound c && checkpointSound c
+
+unfoldable pub sound : Core → Bool
+sound c = soundIn (c .stage) c

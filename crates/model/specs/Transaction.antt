@@ -1,0 +1,119 @@
+-- 01, "Calls": begin, update, read and commit, each as the rows that it checks and what it does when none applies.
+use Prim.Native.Nat.{ℕ, _+_, _*_}
+use mathlib.Core.List.{List, [], _∷_, _++_}
+use mathlib.Core.Bool.{Bool, true, false, cond, not}
+use lib.ListN.{length}
+use lib.Dec.{leb}
+use Rattle.model.specs.declared.Table.{Table}
+use Rattle.model.specs.declared.Core.{Core}
+use Rattle.model.specs.Word.{xors, part}
+use Rattle.model.specs.Sizes.{widthIn, slotBase}
+use Rattle.model.specs.Record.{Record, change, close, encode, wordsOf, updateKind, commitKind}
+use Rattle.model.specs.World.{World, Action, write, pages, work, each, perform}
+use Rattle.model.specs.Memory.{ownerAt, epochOf}
+use Rattle.model.specs.State.{withLog, endOf, flushed, placeOf, diskAtPlace, firstAt, reservedAt, withPlace, without, hasUpdate}
+use Rattle.model.specs.Room.{noDisk, hasRoom, idlest}
+use Rattle.model.specs.Refusal.{Row, row, Task, Verdict, accepted, refused, verdict}
+use Rattle.model.specs.Causes.{whenServing, stageForbids, anchorWrong, lengthsWrong, slotMissing, notOpen, readerNotOpen, valueWrong, locked, tableFull, spent}
+use Rattle.model.specs.Append.{Appended, append, flush}
+
+-- the disk of an open transaction
+unfoldable pub diskOf : Core → ℕ → ℕ
+diskOf c number = diskAtPlace (c .table) (placeOf (c .table) number)
+
+-- Begin: "next number", "the disk with the fewest buffered words among those with log room". "Begin needs 2."
+unfoldable pub beginRows : Core → World → List Row
+beginRows c w =
+    row 1 (stageForbids whenServing c) ∷ row 2 (anchorWrong w) ∷ row 5 (lengthsWrong (c .sizes) w) ∷ row 12 (tableFull c)
+    ∷ row 13 (spent (c .next)) ∷ row 14 (leb noDisk (idlest c 2)) ∷ []
+
+-- its first position is set by its first update; it takes the lowest free place
+unfoldable pub begun : Core → Core
+begun c =
+    record {
+      stage = c .stage;
+      sizes = c .sizes;
+      epoch = c .epoch;
+      logs = c .logs;
+      table = withPlace (c .table) (placeOf (c .table) 0) (c .next) (idlest c 2) 0 2;
+      next = c .next + 1;
+      checkpoint = c .checkpoint;
+      replay = c .replay;
+    }
+
+unfoldable pub beginTask : Core → World → Task
+beginTask c w = record { actions = []; core = begun c; value = c .next }
+
+-- Update: "record appended, slot changed. The slot is held until its transaction closes. An equal value is still logged."
+unfoldable pub slotWords : Core → World → ℕ → ℕ → List ℕ
+slotWords c w page slot = part (slotBase (c .sizes) page slot) (widthIn (c .sizes) page) (w .pages)
+
+unfoldable pub updateRecord : Core → World → ℕ → ℕ → ℕ → List ℕ → Record
+updateRecord c w number page slot value =
+    change updateKind page slot number (epochOf (c .sizes) (w .work) page) (xors (slotWords c w page slot) value)
+
+-- the transaction's entry after an update of r words: "an update of r words needs 2 × r", of which r are its record
+unfoldable pub updated : Core → ℕ → ℕ → Table
+updated c number r =
+    withPlace (c .table) place number (diskOf c number)
+    (cond (hasUpdate (c .table) place) (firstAt (c .table) place) (endOf (c .logs) (diskOf c number)))
+    (reservedAt (c .table) place + r)
+  where
+    place : ℕ
+    place = placeOf (c .table) number
+
+unfoldable pub updateRows : Core → World → ℕ → ℕ → ℕ → List ℕ → List Row
+updateRows c w number page slot value =
+    row 1 (stageForbids whenServing c) ∷ row 2 (anchorWrong w) ∷ row 5 (lengthsWrong (c .sizes) w)
+    ∷ row 8 (slotMissing (c .sizes) page slot) ∷ row 9 (notOpen c number) ∷ row 10 (valueWrong (c .sizes) page value)
+    ∷ row 11 (locked c w number page slot)
+    ∷ row 14 (not (hasRoom c (2 * wordsOf updateKind (widthIn (c .sizes) page)) (diskOf c number))) ∷ []
+
+-- the memory changes come after the stores of a flush
+unfoldable pub updateTask : Core → World → ℕ → ℕ → ℕ → List ℕ → Task
+updateTask c w number page slot value =
+    record {
+      actions =
+          added .actions ++ each (write pages) (slotBase (c .sizes) page slot) value
+          ++ write work (ownerAt (c .sizes) page slot) number ∷ [];
+      core = withLog c (added .logs) (updated c number (length words));
+      value = 0;
+    }
+  where
+    words : List ℕ
+    words = encode (updateRecord c w number page slot value)
+
+    added : Appended
+    added = append (c .sizes) (c .logs) (w .work) (diskOf c number) words
+
+-- Read: "the slot's words as a part of the page memory, empty if refused, with a companion call for the number"
+unfoldable pub readRows : Core → World → ℕ → ℕ → ℕ → List Row
+readRows c w reader page slot =
+    row 1 (stageForbids whenServing c) ∷ row 2 (anchorWrong w) ∷ row 5 (lengthsWrong (c .sizes) w)
+    ∷ row 8 (slotMissing (c .sizes) page slot) ∷ row 9 (readerNotOpen c reader) ∷ row 11 (locked c w reader page slot) ∷ []
+
+unfoldable pub readTask : Core → World → ℕ → ℕ → ℕ → Task
+readTask c w reader page slot = record { actions = []; core = c; value = 0 }
+
+abbrev pub wordsIf : Verdict → List ℕ → List ℕ
+wordsIf accepted words = words
+wordsIf (refused number first second) words = []
+
+unfoldable pub readWords : Core → World → ℕ → ℕ → ℕ → List ℕ
+readWords c w reader page slot = wordsIf (verdict (readRows c w reader page slot)) (slotWords c w page slot)
+
+-- Commit: "closing record, flush, slots released". A slot is released when its owner leaves the table.
+unfoldable pub commitRows : Core → World → ℕ → List Row
+commitRows c w number =
+    row 1 (stageForbids whenServing c) ∷ row 2 (anchorWrong w) ∷ row 5 (lengthsWrong (c .sizes) w) ∷ row 9 (notOpen c number) ∷ []
+
+unfoldable pub commitTask : Core → World → ℕ → Task
+commitTask c w number =
+    record {
+      actions = added .actions ++ flush (c .sizes) (added .logs) (perform (added .actions) w .work) (diskOf c number);
+      core = withLog c (flushed (added .logs) (diskOf c number)) (without (c .table) number);
+      value = 0;
+    }
+  where
+    added : Appended
+    added = append (c .sizes) (c .logs) (w .work) (diskOf c number) (encode (close commitKind number))

@@ -1,0 +1,105 @@
+// The types of the store: its state and its answers. What they mean stands in specs/; there are no functions here.
+
+// 01's stages.
+pub enum Stage {
+    Shut,
+    Replaying,
+    Open,
+    Copying,
+}
+
+// 01's P, D and W, the slots in each page and the words in each slot of that page.
+pub struct Sizes {
+    pub pages: u64,
+    pub disks: u64,
+    pub ring: u64,
+    pub slots: [u8; 64],
+    pub widths: [u8; 64],
+}
+
+// For each disk: where the retained log starts, its tail, and how many words are buffered.
+pub struct Logs {
+    pub starts: [u64; 8],
+    pub tails: [u64; 8],
+    pub fills: [u64; 8],
+}
+
+// The open transactions, by place: number (0: the place is free), disk, position of the first update record, reserved words.
+pub struct Table {
+    pub numbers: [u64; 16],
+    pub disks: [u64; 16],
+    pub firsts: [u64; 16],
+    pub reserved: [u64; 16],
+}
+
+// A checkpoint under way: each disk's end at its begin, and how many pages are copied.
+pub struct Checkpoint {
+    pub ends: [u64; 8],
+    pub copied: u64,
+}
+
+// A restart under way: each log's next position, and the next page of the backup.
+pub struct Replay {
+    pub positions: [u64; 8],
+    pub page: u64,
+}
+
+// The state by value. Buffers, slot owners and copy epochs lie in the lent work memory.
+pub struct Core {
+    pub stage: Stage,
+    pub sizes: Sizes,
+    pub epoch: u64,
+    pub logs: Logs,
+    pub table: Table,
+    pub next: u64,
+    pub checkpoint: Checkpoint,
+    pub replay: Replay,
+}
+
+// What a call answers; specs/Refusal.antt gives 01's number and values for each case.
+pub enum Answer {
+    Finished {
+        stores: u64,
+        value: u64,
+    },
+    Refused {
+        number: u64,
+        first: u64,
+        second: u64,
+    },
+    Interrupted {
+        stores: u64,
+    },
+}
+
+// What stands at a position of a log.
+pub enum Decoded {
+    Change {
+        kind: u64,
+        page: u64,
+        slot: u64,
+        number: u64,
+        epoch: u64,
+        width: u64,
+        next: u64,
+    },
+    Close {
+        kind: u64,
+        number: u64,
+        next: u64,
+    },
+    Malformed,
+}
+
+// What the search ahead for a transaction's closing record finds.
+pub enum Fate {
+    Closed,
+    Unclosed,
+    Unreadable { position: u64 },
+}
+
+// What a check of log records finds.
+pub enum Fault {
+    Sound,
+    BadRecord { disk: u64, position: u64 },
+}
