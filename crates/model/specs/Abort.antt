@@ -41,12 +41,16 @@ abortScan c w number =
     tail : ℕ
     tail = tailOf (c .logs) disk
 
+-- the updates that an abort takes back, newest first
+unfoldable pub updatesLeft : Core → World → ℕ → List Update
+updatesLeft c w number = updatesIn number (abortScan c w number)
+
 -- "if the update records of that number found there have more words than are owed for them, it answers 7 with its disk and
 -- that first position"
 unfoldable pub abortFault : Core → World → ℕ → Fault
 abortFault c w number =
     faultIn (diskOf c number) (abortScan c w number)
-    (cond (ltb (reservedAt (c .table) place - 2) (updateWords (updatesIn number (abortScan c w number))))
+    (cond (ltb (reservedAt (c .table) place - 2) (updateWords (updatesLeft c w number)))
     (BadRecord (diskOf c number) (firstAt (c .table) place))
     Sound)
   where
@@ -89,7 +93,7 @@ abortTask c w number =
     }
   where
     undone : Appended
-    undone = undoAll (c .sizes) (c .logs) w number (diskOf c number) (updatesIn number (abortScan c w number))
+    undone = undoAll (c .sizes) (c .logs) w number (diskOf c number) (updatesLeft c w number)
 
     closed : Appended
     closed =

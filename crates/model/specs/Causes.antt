@@ -17,7 +17,7 @@ use Rattle.model.specs.Decode.{readLog}
 use Rattle.model.specs.Scan.{Scan, scan, faultIn}
 use Rattle.model.specs.World.{World}
 use Rattle.model.specs.Memory.{ownerOf, lengthsRight}
-use Rattle.model.specs.State.{places, limit, sound, isOpen, placeOf}
+use Rattle.model.specs.State.{places, limit, sound, inTable, isOpen, placeOf}
 use Rattle.model.specs.Refusal.{Row}
 
 -- the stages that a call is for
@@ -118,10 +118,11 @@ readerNotOpen c reader = not (eqb reader 0) && notOpen c reader
 unfoldable pub valueWrong : Sizes → ℕ → List ℕ → Bool
 valueWrong s page value = not (eqb (length value) (widthIn s page))
 
--- 11. "slot held by another transaction": "A held slot answers 11 to all but its holder."
+-- 11. "slot held by another transaction": "A held slot answers 11 to all but its holder.". A slot is held while its owner is in
+-- the table, so closing a transaction releases its slots.
 unfoldable pub locked : Core → World → ℕ → ℕ → ℕ → Bool
 locked c w number page slot =
-    isOpen (c .table) (ownerOf (c .sizes) (w .work) page slot)
+    inTable (c .table) (ownerOf (c .sizes) (w .work) page slot)
     && not (eqb (ownerOf (c .sizes) (w .work) page slot) number)
 
 -- 12. "sixteen already open"

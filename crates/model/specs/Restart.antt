@@ -29,12 +29,16 @@ use Rattle.model.specs.Abort.{xorIn}
 use Rattle.model.specs.Format.{freshMemory}
 use Rattle.model.specs.Checkpoint.{perDisk}
 
+-- The checks of an image, of the lent lists alone: rows 2 to 7.
+unfoldable pub imageRows : World → List Row
+imageRows w =
+    let s : Sizes = sizesOn (w .anchor) in
+    row 2 (anchorWrong w) ∷ row 3 (unformatted w) ∷ row 4 (sizesWrong s) ∷ row 5 (lengthsWrong s w) ∷ tailRow s w
+    ∷ faultRow (faultFrom s w (s .disks) 0) ∷ []
+
 -- Begin (shut): "all checks; page memory zeroed".
 unfoldable pub restartBeginRows : Core → World → List Row
-restartBeginRows c w =
-    let s : Sizes = sizesOn (w .anchor) in
-    row 1 (stageForbids whenShut c) ∷ row 2 (anchorWrong w) ∷ row 3 (unformatted w) ∷ row 4 (sizesWrong s)
-    ∷ row 5 (lengthsWrong s w) ∷ tailRow s w ∷ faultRow (faultFrom s w (s .disks) 0) ∷ row 13 (spent (epochOn (w .anchor))) ∷ []
+restartBeginRows c w = row 1 (stageForbids whenShut c) ∷ imageRows w ++ row 13 (spent (epochOn (w .anchor))) ∷ []
 
 unfoldable pub restartBeginTask : World → Task
 restartBeginTask w =

@@ -89,8 +89,13 @@ reservedAt t place = getD (t .reserved) place 0
 unfoldable pub placeOf : Table → ℕ → ℕ
 placeOf t number = firstBelow (λ i. eqb (numberAt t i) number) places
 
+-- number 0 is never in the table
+unfoldable pub inTable : Table → ℕ → Bool
+inTable t number = not (eqb number 0) && ltb (placeOf t number) places
+
+-- every transaction in the table is open
 unfoldable pub isOpen : Table → ℕ → Bool
-isOpen t number = not (eqb number 0) && ltb (placeOf t number) places
+isOpen t number = inTable t number
 
 unfoldable pub withPlace : Table → ℕ → ℕ → ℕ → ℕ → ℕ → Table
 withPlace t place number disk first reserved =
