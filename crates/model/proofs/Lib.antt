@@ -2,3 +2,5 @@
 pub mod Everything
 pub mod Play
 pub mod Positions
+pub mod Blunders
+pub mod Idle

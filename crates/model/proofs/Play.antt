@@ -30,6 +30,13 @@ play (f ∷ fs) m = let r : Result = f (m .core) (m .world) in play fs (record {
 unfoldable pub answers : List Step → Call → Machine → ℕ
 answers fs k m = let n : Machine = play fs m in numberOf (resultOf k (n .core) (n .world) .answer)
 
+-- what each step of a script answers
+unfoldable pub numbers : List Step → Machine → List ℕ
+numbers [] m = []
+numbers (f ∷ fs) m =
+    let r : Result = f (m .core) (m .world) in
+    numberOf (r .answer) ∷ numbers fs (record { core = r .core; world = r .world })
+
 -- slices of the right lengths that hold no store yet
 unfoldable pub unformatted : Sizes → Machine
 unformatted s =
