@@ -4,3 +4,4 @@ pub mod Play
 pub mod Positions
 pub mod Blunders
 pub mod Idle
+pub mod Ledger
