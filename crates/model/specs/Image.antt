@@ -1,5 +1,5 @@
 -- What a restart can see of the devices, and the pages that it makes of that.
-use Prim.Native.Nat.{ℕ, _-_}
+use Prim.Native.Nat.{ℕ, zero, suc, _+_, _-_}
 use mathlib.Core.List.{List, [], _∷_}
 use mathlib.Core.Bool.{cond}
 use lib.ListN.{length, getD}
@@ -16,11 +16,12 @@ use Rattle.model.specs.World.{World}
 use Rattle.model.specs.Causes.{tailOn}
 use Rattle.model.specs.Restart.{replays}
 
--- The sizes, c, the current backup, and the words of each retained log.
+-- The sizes, c, the current backup, and for each disk the current start and the words of the retained log.
 pub record Image : Type 0 where
   pub sizes : Sizes
   pub epoch : ℕ
   pub backup : List ℕ
+  pub starts : List ℕ
   pub logs : List (List ℕ)
 
 unfoldable pub retainedWords : Sizes → World → ℕ → List ℕ
@@ -31,7 +32,13 @@ unfoldable pub imageOf : World → Image
 imageOf w =
     let s : Sizes = sizesOn (w .anchor) in
     let c : ℕ = epochOn (w .anchor) in
-    record { sizes = s; epoch = c; backup = part (backupAt s c) (total s) (w .backups); logs = listBelow (retainedWords s w) (s .disks) }
+    record {
+      sizes = s;
+      epoch = c;
+      backup = part (backupAt s c) (total s) (w .backups);
+      starts = listBelow (startOn (w .anchor)) (s .disks);
+      logs = listBelow (retainedWords s w) (s .disks);
+    }
 
 -- a difference XORed in at a place
 unfoldable pub xorAt : ℕ → List ℕ → List ℕ → List ℕ
@@ -45,10 +52,18 @@ replayed s c (item p (close kind number) rest) words = replayed s c rest words
 replayed s c (item p (change kind page slot number epoch diff) rest) words =
     replayed s c rest (cond (replays c (fateIn number rest) epoch) (xorAt (slotBase s page slot) diff words) words)
 
-unfoldable pub replayedAll : Sizes → ℕ → List (List ℕ) → List ℕ → List ℕ
-replayedAll s c [] words = words
-replayedAll s c (log ∷ rest) words = replayedAll s c rest (replayed s c (scan s (λ p. getD log p 0) (length log) 0) words)
+-- a log of the image, read from its start to its tail
+unfoldable pub logOf : Image → ℕ → Scan
+logOf i disk =
+    let start : ℕ = getD (i .starts) disk 0 in
+    let log : List ℕ = getD (i .logs) disk [] in
+    scan (i .sizes) (λ p. getD log (p - start) 0) (start + length log) start
+
+-- the logs of the disks below n
+unfoldable pub replayedBelow : Image → ℕ → List ℕ → List ℕ
+replayedBelow i zero words = words
+replayedBelow i (suc n) words = replayed (i .sizes) (i .epoch) (logOf i n) (replayedBelow i n words)
 
 -- the pages that a restart makes: the backup, then each log
 unfoldable pub restarted : Image → List ℕ
-restarted i = replayedAll (i .sizes) (i .epoch) (i .logs) (i .backup)
+restarted i = replayedBelow i (i .sizes .disks) (i .backup)
