@@ -1,7 +1,17 @@
 -- The theory of the definitions.
+-- Words and logs.
+pub mod Xor
+pub mod Reader
+pub mod Decode
+pub mod Scan
+pub mod Ring
+pub mod RoundTrip
+pub mod Flush
+-- The store as records.
+pub mod Ledger
+-- Computed tables.
 pub mod Everything
 pub mod Play
 pub mod Positions
 pub mod Blunders
 pub mod Idle
-pub mod Ledger
