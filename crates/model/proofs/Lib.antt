@@ -1,5 +1,6 @@
 -- The theory of the definitions.
 -- Words and logs.
+pub mod Below
 pub mod Xor
 pub mod Reader
 pub mod Decode
@@ -7,6 +8,8 @@ pub mod Scan
 pub mod Ring
 pub mod RoundTrip
 pub mod Flush
+-- The state.
+pub mod Places
 -- The store as records.
 pub mod Ledger
 -- Computed tables.
