@@ -12,6 +12,7 @@ pub mod Flush
 pub mod Places
 -- The store as records.
 pub mod Ledger
+pub mod Store
 -- Computed tables.
 pub mod Everything
 pub mod Play

@@ -1,0 +1,2 @@
+-- The calls keep the promise: what holds of the store between two calls, and that every call keeps it.
+pub mod Cases
