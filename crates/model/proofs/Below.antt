@@ -1,7 +1,7 @@
 -- Laws of the numbers below a bound: the least that passes, tests of all, sums and lists.
-use mathlib.Core.Path.{_≡_, refl, sym, ap, ap₂, _∙_}
+use mathlib.Core.Path.{_≡_, refl, sym, ap, _∙_}
 use mathlib.Core.List.{List, [], _∷_, _++_}
-use mathlib.Core.Bool.{Bool, true, false, true≢false, and-eq-true-iff, cond, _&&_}
+use mathlib.Core.Bool.{Bool, true, false, true≢false, and-eq-true-iff, cond}
 use Prim.Native.Nat.{ℕ, zero, suc, _+_, _≤_, _<_}
 use native.Mathlib.Omega.{arith}
 use native.Mathlib.Numerals.{add-one}

@@ -1,6 +1,17 @@
 -- The theory of the definitions.
--- Words and logs.
+-- Counting, budgets, refusals, and what definitions in a code-like form mean.
 pub mod Below
+pub mod Members
+pub mod Run
+pub mod Lengths
+pub mod Counts
+pub mod Storeless
+pub mod Verdict
+pub mod Meaning
+pub mod Reading
+pub mod Faults
+pub mod Updates
+-- Words and logs.
 pub mod Xor
 pub mod Reader
 pub mod Decode
@@ -8,10 +19,16 @@ pub mod Scan
 pub mod Ring
 pub mod RoundTrip
 pub mod Flush
--- The state.
+-- The page memory, the reference, the table of transactions.
+pub mod Bounds
+pub mod Geometry
+pub mod Slots
+pub mod WriteSets
 pub mod Places
--- The store as records.
+-- The store as records, and the records as words.
 pub mod Ledger
+pub mod Link
+-- The calls.
 pub mod Store
 -- Computed tables.
 pub mod Everything

@@ -1,2 +1,3 @@
 -- The calls keep the promise: what holds of the store between two calls, and that every call keeps it.
 pub mod Cases
+pub mod View

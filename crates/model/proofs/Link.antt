@@ -1,0 +1,2 @@
+-- The words on the devices and in the buffers against the records: flushes, appends, and what a reader finds.
+pub mod Words

@@ -1,0 +1,127 @@
+-- The link of words and records: the ring of each disk holds the words of its flushed records, and its buffer those of the
+-- buffered ones. So the retained log of a disk reads as its flushed records, and as no others.
+use mathlib.Core.Path.{_≡_, refl, sym, ap₂, _∙_}
+use mathlib.Core.List.{List, [], _∷_, _++_, map, append-nil}
+use mathlib.Core.Bool.{Bool, true, false, cond}
+use Prim.Native.Nat.{ℕ, _+_, _-_, _≤_, _<_}
+use native.Mathlib.Omega.{arith}
+use lib.ListN.{length, getD}
+use Rattle.model.specs.declared.Sizes.{Sizes}
+use Rattle.model.specs.declared.Logs.{Logs}
+use Rattle.model.specs.Sizes.{slotBase, ringOf, tailWord, ringWord}
+use Rattle.model.specs.Anchor.{sizesOn, startOn}
+use Rattle.model.specs.Record.{Record, encode, encodeAll}
+use Rattle.model.specs.Decode.{readLog, span}
+use Rattle.model.specs.Scan.{Scan, item, scan}
+use Rattle.model.specs.World.{World, Action, perform, covered, run}
+use Rattle.model.specs.Memory.{bufferOf}
+use Rattle.model.specs.State.{startOf, tailOf, fillOf}
+use Rattle.model.specs.Causes.{tailOn}
+use Rattle.model.specs.Image.{retainedWords, imageOf, logOf}
+use Rattle.model.proofs.Below.{getD-list}
+use Rattle.model.proofs.Run.{perform-lengths}
+use Rattle.model.proofs.Lengths.{Lengths}
+use Rattle.model.proofs.Reader.{Holds, holds-from, holds-agree, read-ring, read-holds, span-holds}
+use Rattle.model.proofs.RoundTrip.{WellFormed, AllWellFormed, placed, scan-placed}
+use Rattle.model.proofs.Ledger.Entry.{Entry, isClose, recordOf, All}
+use Rattle.model.proofs.Ledger.Order.{sizeOf, wordsOf, on, Laid, entriesScan}
+use Rattle.model.proofs.Ledger.Picks.{all-pick}
+
+-- An entry that a writer may put: its record has its page's slot and width, and a change adds at its slot's first word.
+pub record Fit (s : Sizes) (r : Entry) : Type 0 where
+  pub formed : WellFormed s (recordOf r)
+  pub slotted : isClose r ≡ false → r .at ≡ slotBase s (r .page) (r .slot)
+
+-- The arrays of the state have a place for each disk, and the rings have words.
+pub record Arrays (s : Sizes) (l : Logs) : Type 0 where
+  pub starts : length (l .starts) ≡ 8
+  pub tails : length (l .tails) ≡ 8
+  pub fills : length (l .fills) ≡ 8
+  pub disks : s .disks ≤ 8
+  pub ring : 0 < s .ring
+
+-- F are the flushed entries, B the buffered ones.
+pub record Link (s : Sizes) (l : Logs) (w : World) (F B : List Entry) : Type 0 where
+  pub held : (d : ℕ) → d < s .disks → Holds (λ q. getD (w .logs) (ringWord s d q) 0) (startOf l d) (wordsOf (on d F))
+  pub tail : (d : ℕ) → d < s .disks → tailOf l d ≡ startOf l d + length (wordsOf (on d F))
+  pub stored : (d : ℕ) → d < s .disks → tailOn s w d ≡ tailOf l d
+  pub buffer : (d : ℕ) → d < s .disks → bufferOf s (w .work) d (fillOf l d) ≡ wordsOf (on d B)
+  pub fill : (d : ℕ) → d < s .disks → fillOf l d ≡ length (wordsOf (on d B))
+
+-- actions keep the lengths that the sizes give
+pub lengths-perform : {s : Sizes} {w : World} (l : List Action) → Lengths s w → Lengths s (perform l w)
+lengths-perform {s} {w} l right =
+    let same = perform-lengths l w in
+    record {
+      pages = same .pages ∙ right .pages;
+      backups = same .backups ∙ right .backups;
+      logs = same .logs ∙ right .logs;
+      work = same .work ∙ right .work;
+    }
+
+pub lengths-run : {s : Sizes} {w : World} (n : ℕ) (l : List Action) → Lengths s w → Lengths s (run n l w)
+unfolding run
+lengths-run n l right = lengths-perform (covered n l) right
+
+pub ring-positive : (s : Sizes) (d : ℕ) → 0 < s .ring → 0 < ringOf s d
+unfolding ringOf
+ring-positive s d h = h
+
+-- entries as the records that are stored
+pub well-formed-entries : (s : Sizes) (l : List Entry) → All (Fit s) l → AllWellFormed s (map recordOf l)
+well-formed-entries s [] h = tt
+well-formed-entries s (r ∷ l) h = (h .0 .formed, well-formed-entries s l (h .1))
+
+pub fit-on : (s : Sizes) (d : ℕ) (l : List Entry) → All (Fit s) l → All (Fit s) (on d l)
+unfolding on
+fit-on s d l h = all-pick (Fit s) _ l h
+
+-- entries that lie one after the other, as a reader finds them
+pub placed-entries : (p : ℕ) (l : List Entry) → Laid p l → placed p (map recordOf l) ≡ entriesScan l
+unfolding placed entriesScan sizeOf
+placed-entries p [] h = refl
+placed-entries p (r ∷ l) h =
+    ap₂ (λ (q : ℕ) (rest : Scan). item q (recordOf r) rest) (sym (h .0)) (placed-entries (p + length (encode (recordOf r))) l (h .1))
+
+-- a reader that holds the words of entries up to the stop finds these entries
+pub scan-entries : (s : Sizes) (read : ℕ → ℕ) (stop p : ℕ) (l : List Entry) → All (Fit s) l → Laid p l
+    → Holds read p (wordsOf l) → stop ≡ p + length (wordsOf l) → scan s read stop p ≡ entriesScan l
+unfolding wordsOf
+scan-entries s read stop p l fit laid h e =
+    scan-placed s read stop p (map recordOf l) (well-formed-entries s l fit) h e ∙ placed-entries p l laid
+
+module _ {s : Sizes} {l : Logs} {w : World} {F B : List Entry} (k : Link s l w F B) (d : ℕ) (below : d < s .disks) where
+  -- below the tail a log reads as the ring
+  pub retained-holds : Holds (readLog s (w .logs) d (tailOn s w d) []) (startOf l d) (wordsOf (on d F))
+  retained-holds =
+      holds-agree _ _ (startOf l d) (wordsOf (on d F))
+      (λ q h m. read-ring s (w .logs) d (tailOn s w d) [] q (omega (arith, k .tail d below, k .stored d below)))
+      (k .held d below)
+
+  -- the words of the retained log are those of the flushed records
+  pub retained : startOn (w .anchor) d ≡ startOf l d → retainedWords s w d ≡ wordsOf (on d F)
+  unfolding retainedWords
+  retained e =
+      let long : tailOn s w d - startOf l d ≡ length (wordsOf (on d F)) = omega (arith, k .tail d below, k .stored d below) in
+      rw (e, long) (span-holds _ (startOf l d) (wordsOf (on d F)) retained-holds)
+
+  -- its scan is these records
+  pub scans : All (Fit s) F → Laid (startOf l d) (on d F)
+      → scan s (readLog s (w .logs) d (tailOn s w d) []) (tailOn s w d) (startOf l d) ≡ entriesScan (on d F)
+  scans fit laid =
+      scan-entries s _ (tailOn s w d) (startOf l d) (on d F) (fit-on s d F fit) laid retained-holds
+      (k .stored d below ∙ k .tail d below)
+
+  -- and so is the log of the image, where the anchor has the sizes and the start
+  pub image-log : sizesOn (w .anchor) ≡ s → startOn (w .anchor) d ≡ startOf l d → All (Fit s) F → Laid (startOf l d) (on d F)
+      → logOf (imageOf w) d ≡ entriesScan (on d F)
+  unfolding logOf imageOf
+  image-log same e fit laid =
+      rw (
+        same,
+        getD-list (startOn (w .anchor)) (s .disks) d 0 below,
+        getD-list (retainedWords s w) (s .disks) d [] below,
+        retained e,
+        e,
+      )
+      (scan-entries s _ _ (startOf l d) (on d F) (fit-on s d F fit) laid (holds-from _ (startOf l d) (wordsOf (on d F)) (λ q h m. refl)) refl)

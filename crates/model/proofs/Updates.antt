@@ -1,0 +1,172 @@
+-- A transaction's updates as an abort finds them: all of them, and the newest first.
+use mathlib.Core.Path.{_≡_, refl, ap}
+use mathlib.Core.Logic.{_⊎_, inl, inr}
+use mathlib.Core.List.{List, [], _∷_, _++_, List·Memᴰ, List·Memᴰ·head, List·Memᴰ·tail, List·Memᴰ·not-nil, List·Memᴰ·cases-cons, append-nil, Memᴰ·append-left, Memᴰ·append-right}
+use mathlib.Core.Bool.{Bool, true, false, and-eq-true-iff, cond, _&&_}
+use Prim.Native.Nat.{ℕ, suc, _≤_, _<_}
+use native.Mathlib.Omega.{arith}
+use lib.Dec.{eqb}
+use borrow.Author.Tests.{eqb-true, eq-eqb}
+use Rattle.model.specs.declared.Core.{Core}
+use Rattle.model.specs.Record.{Record, change, close, updateKind}
+use Rattle.model.specs.Decode.{readLog}
+use Rattle.model.specs.Scan.{Scan, end, bad, item, scan, Update, updatesIn}
+use Rattle.model.specs.World.{World}
+use Rattle.model.specs.Memory.{bufferOf}
+use Rattle.model.specs.State.{tailOf, fillOf, endOf, placeOf, isOpen, firstAt, hasUpdate}
+use Rattle.model.specs.Transaction.{diskOf}
+use Rattle.model.specs.Abort.{abortScan, updatesLeft}
+use Rattle.model.proofs.Members.{Every, every-nil, every-cons, every-append}
+use Rattle.model.proofs.Reading.{Item, items, Rises, scan-rises}
+
+-- the item of a scan that an update was read from
+abbrev pub itemOf : ℕ → Update → ℕ → Item
+itemOf number u epoch = record { position = u .position; content = change updateKind (u .page) (u .slot) number epoch (u .diff) }
+
+module _ (number : ℕ) where
+  -- an update found is an update record of that number in the scan
+  pub record From (sc : Scan) (u : Update) : Type 0 where
+    pub epoch : ℕ
+    pub listed : List·Memᴰ (itemOf number u epoch) (items sc)
+
+  further : (p : ℕ) (r : Record) (rest : Scan) (u : Update) → From rest u → From (item p r rest) u
+  unfolding items
+  further p r rest u f = record { epoch = f .epoch; listed = List·Memᴰ·tail (f .listed) }
+
+  pub updates-from : (sc : Scan) → Every (From sc) (updatesIn number sc)
+  unfolding updatesIn items
+  updates-from end = every-nil (From end)
+  updates-from (bad p) = every-nil (From (bad p))
+  updates-from (item p (close kind n) rest) = λ u m. further p (close kind n) rest u (updates-from rest u m)
+  updates-from (item p (change kind page slot n epoch diff) rest) =
+      every-append (From sc) (updatesIn number rest) _ (λ u m. further p r rest u (updates-from rest u m))
+      (go (eqb kind updateKind && eqb n number) refl)
+    where
+      r : Record
+      r = change kind page slot n epoch diff
+
+      sc : Scan
+      sc = item p r rest
+
+      u : Update
+      u = record { position = p; page = page; slot = slot; diff = diff }
+
+      go : (b : Bool) → eqb kind updateKind && eqb n number ≡ b → Every (From sc) (cond b (u ∷ []) [])
+      go true e =
+          let both = and-eq-true-iff (eqb kind updateKind) (eqb n number) .0 e in
+          let k = eqb-true kind updateKind (both .0) in
+          let m = eqb-true n number (both .1) in
+          let same : itemOf number u epoch ≡ record { position = p; content = r } = rw (k, m) in
+          every-cons (From sc) u [] (record { epoch = epoch; listed = List·Memᴰ·head same }) (every-nil (From sc))
+      go false e = every-nil (From sc)
+
+  -- and every such record is found
+  pub updates-all : (sc : Scan) (u : Update) (epoch : ℕ) → List·Memᴰ (itemOf number u epoch) (items sc)
+      → List·Memᴰ u (updatesIn number sc)
+  unfolding updatesIn items
+  updates-all end u epoch m = absurd (List·Memᴰ·not-nil m)
+  updates-all (bad p) u epoch m = absurd (List·Memᴰ·not-nil m)
+  updates-all (item p (close kind n) rest) u epoch m = go (List·Memᴰ·cases-cons m) (updates-all rest u epoch)
+    where
+      go : (itemOf number u epoch ≡ record { position = p; content = close kind n }) ⊎ List·Memᴰ (itemOf number u epoch) (items rest)
+          → (List·Memᴰ (itemOf number u epoch) (items rest) → List·Memᴰ u (updatesIn number rest))
+          → List·Memᴰ u (updatesIn number rest)
+      go (inl e) later =
+          let c = ap (λ (i : Item). i .content) e in
+          let z : _≡_ {A = ℕ} 0 1 = cc in
+          absurd (omega arith)
+      go (inr x) later = later x
+  updates-all (item p (change kind page slot n e diff) rest) u epoch m = go (List·Memᴰ·cases-cons m) (updates-all rest u epoch)
+    where
+      here : Update
+      here = record { position = p; page = page; slot = slot; diff = diff }
+
+      found : Bool → List Update
+      found b = cond b (here ∷ []) []
+
+      go : (itemOf number u epoch ≡ record { position = p; content = change kind page slot n e diff })
+          ⊎ List·Memᴰ (itemOf number u epoch) (items rest)
+          → (List·Memᴰ (itemOf number u epoch) (items rest) → List·Memᴰ u (updatesIn number rest))
+          → List·Memᴰ u (updatesIn number rest ++ found (eqb kind updateKind && eqb n number))
+      go (inl x) later =
+          let at : u .position ≡ p = ap (λ (i : Item). i .position) x in
+          let c : change updateKind (u .page) (u .slot) number epoch (u .diff) ≡ change kind page slot n e diff = ap (λ (i : Item). i .content) x in
+          let k : kind ≡ updateKind = cc in
+          let m : n ≡ number = cc in
+          let pages : u .page ≡ page = cc in
+          let slots : u .slot ≡ slot = cc in
+          let diffs : u .diff ≡ diff = cc in
+          let same : u ≡ here = λ i. record { position = at i; page = pages i; slot = slots i; diff = diffs i } in
+          Memᴰ·append-right (updatesIn number rest) (rw (eq-eqb kind updateKind k, eq-eqb n number m) (List·Memᴰ·head same))
+      go (inr x) later = Memᴰ·append-left (found (eqb kind updateKind && eqb n number)) (later x)
+
+-- "newest first": the positions fall
+abbrev pub Falls : List Update → Type 0
+Falls [] = Unit {0}
+Falls (u ∷ us) = Every (λ v. v .position < u .position) us × Falls us
+
+falls-last : (l : List Update) (x : Update) → Falls l → Every (λ u. x .position < u .position) l → Falls (l ++ x ∷ [])
+falls-last [] x f h = (every-nil _, tt)
+falls-last (u ∷ us) x f h = (
+  every-append P us (x ∷ []) (f .0) (every-cons P x [] (h u (List·Memᴰ·head refl)) (every-nil P)),
+  falls-last us x (f .1) (λ v m. h v (List·Memᴰ·tail m)),
+)
+  where
+    P : Update → Type 0
+    P v = v .position < u .position
+
+module _ (number : ℕ) where
+  updates-above : (m : ℕ) (sc : Scan) → Rises m sc → Every (λ u. m ≤ u .position) (updatesIn number sc)
+  unfolding updatesIn
+  updates-above m end h = every-nil _
+  updates-above m (bad p) h = every-nil _
+  updates-above m (item p (close kind n) rest) h = λ u x. omega (arith, h .0, updates-above (suc p) rest (h .1) u x)
+  updates-above m (item p (change kind page slot n epoch diff) rest) h =
+      every-append P (updatesIn number rest) _ (λ u x. omega (arith, h .0, updates-above (suc p) rest (h .1) u x))
+      (go (eqb kind updateKind && eqb n number))
+    where
+      P : Update → Type 0
+      P u = m ≤ u .position
+
+      go : (b : Bool) → Every P (cond b (record { position = p; page = page; slot = slot; diff = diff } ∷ []) [])
+      go true = every-cons P _ [] (h .0) (every-nil P)
+      go false = every-nil P
+
+  pub updates-fall : (m : ℕ) (sc : Scan) → Rises m sc → Falls (updatesIn number sc)
+  unfolding updatesIn
+  updates-fall m end h = tt
+  updates-fall m (bad p) h = tt
+  updates-fall m (item p (close kind n) rest) h = updates-fall (suc p) rest (h .1)
+  updates-fall m (item p (change kind page slot n epoch diff) rest) h =
+      go (eqb kind updateKind && eqb n number) (updates-fall (suc p) rest (h .1))
+    where
+      u : Update
+      u = record { position = p; page = page; slot = slot; diff = diff }
+
+      go : (b : Bool) → Falls (updatesIn number rest) → Falls (updatesIn number rest ++ cond b (u ∷ []) [])
+      go true f = falls-last (updatesIn number rest) u f (updates-above (suc p) rest (h .1))
+      go false f = rw append-nil f
+
+-- so an abort takes back the newest update first
+pub abort-falls : (c : Core) (w : World) (number : ℕ) → Falls (updatesLeft c w number)
+unfolding updatesLeft abortScan
+abort-falls c w number = go (isOpen (c .table) number && hasUpdate (c .table) place)
+  where
+    place : ℕ
+    place = placeOf (c .table) number
+
+    disk : ℕ
+    disk = diskOf c number
+
+    log : Scan
+    log =
+        scan (c .sizes)
+        (readLog (c .sizes) (w .logs) disk (tailOf (c .logs) disk) (bufferOf (c .sizes) (w .work) disk (fillOf (c .logs) disk)))
+        (endOf (c .logs) disk) (firstAt (c .table) place)
+
+    rises : (b : Bool) → Rises (firstAt (c .table) place) (cond b log end)
+    rises true = scan-rises (c .sizes) _ (endOf (c .logs) disk) (firstAt (c .table) place)
+    rises false = tt
+
+    go : (b : Bool) → Falls (updatesIn number (cond b log end))
+    go b = updates-fall number (firstAt (c .table) place) (cond b log end) (rises b)
