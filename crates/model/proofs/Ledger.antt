@@ -15,3 +15,8 @@ pub mod Update
 pub mod Flush
 pub mod Close
 pub mod Checkpoint
+-- The order of the records on the disks.
+pub mod Lists
+pub mod Positions
+pub mod Ordered
+pub mod Switch

@@ -1,0 +1,98 @@
+-- What a checkpoint's last store may take off the log: a start that is at most the remembered end
+-- and each open transaction's first position leaves out only what nobody needs any more.
+use mathlib.Core.Path.{_≡_, refl, sym, ap, _∙_}
+use mathlib.Core.List.{List, []}
+use mathlib.Core.Bool.{Bool, true, false, not, _&&_}
+use Prim.Native.Nat.{ℕ, _+_, _≤_, _<_}
+use native.Mathlib.Omega.{arith}
+use lib.Dec.{leb, eqb}
+use borrow.Author.Tests.{leb-true, leb-false, lt-leb, le-leb, ne-eqb, not-true}
+use Rattle.model.proofs.Ledger.Entry.{Entry, mask, All, adds, isClose, closedIn, pick}
+use Rattle.model.proofs.Ledger.Order.{Ordered}
+use Rattle.model.proofs.Ledger.Sums.{true-false, all-map, all-zip, mask-zero}
+use Rattle.model.proofs.Ledger.Picks.{all-pick, pick-all}
+use Rattle.model.proofs.Ledger.Lists.{all-left, some-pick}
+use Rattle.model.proofs.Ledger.Ordered.{Before, closes-number, keptFrom}
+
+-- What the entries' positions say at a checkpoint's end: an open transaction's lie from its first position on, every other
+-- transaction is closed, and the changes before the remembered ends (`marks`) are in the backup that now counts.
+pub record Placed (O : ℕ → Bool) (first marks : ℕ → ℕ) (c : ℕ) (F : List Entry) : Type 0 where
+  pub opened : All (λ r. O (r .number) ≡ true → first (r .number) ≤ r .position) F
+  pub settled : All (λ r. O (r .number) ≡ false → closedIn F (r .number) ≡ true) F
+  pub early : All (λ r. r .position < marks (r .disk) → isClose r ≡ false → r .epoch ≤ c) F
+
+close-adds : (w : ℕ) (r : Entry) → isClose r ≡ true → adds w r ≡ 0
+unfolding adds
+close-adds w r e = rw e
+
+-- Any later starts: a transaction's closing record is its last one, so it is kept with any other.
+module _ {disks : ℕ} {start home : ℕ → ℕ} {F : List Entry} (o : Ordered disks start home F []) (start' : ℕ → ℕ) where
+  pub kept-closed : All (λ r. closedIn (pick (keptFrom start') F) (r .number) ≡ closedIn F (r .number)) (pick (keptFrom start') F)
+  unfolding closedIn
+  kept-closed = all-zip one (pick (keptFrom start') F) (pick-all (keptFrom start') F)
+      (all-pick _ (keptFrom start') F (all-zip (λ r a b. (a, all-left (Before r) F [] b)) F homed (all-left _ F [] (o .last))))
+    where
+      homed : All (λ r. r .disk ≡ home (r .number)) F
+      homed = all-left _ F [] (o .homed)
+
+      one : (r : Entry) → keptFrom start' r ≡ true → (r .disk ≡ home (r .number)) × All (Before r) F
+          → closedIn (pick (keptFrom start') F) (r .number) ≡ closedIn F (r .number)
+      one r k h = some-pick _ (keptFrom start') F (all-zip too F homed (h .1))
+        where
+          too : (q : Entry) → q .disk ≡ home (q .number) → Before r q → isClose q && eqb (q .number) (r .number) ≡ true → keptFrom start' q ≡ true
+          too q e b c =
+              let same : start' (q .disk) ≡ start' (r .disk) = ap start' (e ∙ ap home (closes-number q (r .number) c) ∙ sym (h .0)) in
+              le-leb (start' (q .disk)) (q .position) (omega (arith, leb-true (start' (r .disk)) (r .position) k, b c))
+
+  -- so a transaction whose closing record goes has no entry left
+  pub switch-last : (t : ℕ) → closedIn F t ≡ true → closedIn (pick (keptFrom start') F) t ≡ false
+      → All (λ r. eqb (r .number) t ≡ false) (pick (keptFrom start') F)
+  switch-last t x y = all-map one (pick (keptFrom start') F) kept-closed
+    where
+      one : (r : Entry) → closedIn (pick (keptFrom start') F) (r .number) ≡ closedIn F (r .number) → eqb (r .number) t ≡ false
+      one r h = ne-eqb (r .number) t (λ e. true-false x (sym (rw e at h) ∙ y))
+
+  -- The starts that a checkpoint takes.
+  module _ {O : ℕ → Bool} {first marks : ℕ → ℕ} {c : ℕ} (p : Placed O first marks c F) where
+    -- what is kept is placed as before
+    pub placed-kept : Placed O first marks c (pick (keptFrom start') F)
+    placed-kept = record {
+      opened = all-pick _ (keptFrom start') F (p .opened);
+      settled = all-zip (λ r same h no. same ∙ h no) (pick (keptFrom start') F) kept-closed (all-pick _ (keptFrom start') F (p .settled));
+      early = all-pick _ (keptFrom start') F (p .early);
+    }
+
+    before : (r : Entry) → not (keptFrom start' r) ≡ true → r .position < start' (r .disk)
+    before r x = leb-false (start' (r .disk)) (r .position) (not-true (keptFrom start' r) x)
+
+    -- what goes is in the backup that now counts
+    pub switch-old : ((d : ℕ) → d < disks → start' d ≤ marks d) → (w : ℕ)
+        → All (λ r. mask (leb (c + 1) (r .epoch)) (adds w r) ≡ 0) (pick (λ r. not (keptFrom start' r)) F)
+    switch-old low w = all-zip one (pick (λ r. not (keptFrom start' r)) F) (pick-all _ F)
+        (all-pick _ (λ r. not (keptFrom start' r)) F (all-zip (λ r a b. (a, b)) F (all-left _ F [] (o .inside)) (p .early)))
+      where
+        one : (r : Entry) → not (keptFrom start' r) ≡ true → (r .disk < disks) × (r .position < marks (r .disk) → isClose r ≡ false → r .epoch ≤ c)
+            → mask (leb (c + 1) (r .epoch)) (adds w r) ≡ 0
+        one r x h = go (isClose r) refl
+          where
+            go : (b : Bool) → isClose r ≡ b → mask (leb (c + 1) (r .epoch)) (adds w r) ≡ 0
+            go true e = rw (close-adds w r e) (mask-zero (leb (c + 1) (r .epoch)))
+            go false e =
+                let old : r .epoch ≤ c = h .1 (omega (arith, before r x, low (r .disk) (h .0))) e in
+                rw (lt-leb (c + 1) (r .epoch) (omega arith))
+
+    -- and of closed transactions
+    pub switch-closed : All (λ r. O (r .number) ≡ true → start' (r .disk) ≤ first (r .number)) F
+        → All (λ r. closedIn F (r .number) ≡ true) (pick (λ r. not (keptFrom start' r)) F)
+    switch-closed reach = all-zip one (pick (λ r. not (keptFrom start' r)) F) (pick-all _ F)
+        (all-pick _ (λ r. not (keptFrom start' r)) F (all-zip (λ r a b. (a, b)) F (all-zip (λ r a b. (a, b)) F reach (p .opened)) (p .settled)))
+      where
+        one : (r : Entry) → not (keptFrom start' r) ≡ true
+            → ((O (r .number) ≡ true → start' (r .disk) ≤ first (r .number)) × (O (r .number) ≡ true → first (r .number) ≤ r .position))
+            × (O (r .number) ≡ false → closedIn F (r .number) ≡ true)
+            → closedIn F (r .number) ≡ true
+        one r x h = go (O (r .number)) refl
+          where
+            go : (b : Bool) → O (r .number) ≡ b → closedIn F (r .number) ≡ true
+            go true e = absurd (omega (arith, before r x, h .0 .0 e, h .0 .1 e))
+            go false e = h .1 e

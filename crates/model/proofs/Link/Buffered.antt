@@ -1,0 +1,196 @@
+-- Words put into the buffer of a disk: one more entry is buffered, and nothing else in the memories changes.
+use mathlib.Core.Path.{_≡_, refl, sym, ap, _∙_}
+use mathlib.Core.List.{List, [], _∷_, _++_, append-nil}
+use mathlib.Core.Bool.{Bool, true, false, not}
+use Prim.Native.Nat.{ℕ, zero, suc, _+_, _*_, _-_, _≤_, _<_}
+use native.Mathlib.Omega.{arith}
+use native.Mathlib.Decide.{ℕ-discrete, decLt}
+use native.Mathlib.Nat.{zero-add}
+use lib.ListN.{length, getD, set, length-set, length-append}
+use lib.Seq.{sets, getD-set-same, getD-set-other, set-set}
+use borrow.Author.Tests.{le-leb, lt-leb}
+use Rattle.model.specs.declared.Sizes.{Sizes}
+use Rattle.model.specs.declared.Logs.{Logs}
+use Rattle.model.specs.Word.{part}
+use Rattle.model.specs.Sizes.{total, ringOf, tailWord, ringWord}
+use Rattle.model.specs.Record.{encode}
+use Rattle.model.specs.World.{World, Action, work, perform, stores, run, each}
+use Rattle.model.specs.Memory.{bufferWords, bufferAt, bufferOf, epochAt, workWords}
+use Rattle.model.specs.State.{startOf, tailOf, fillOf, endOf, withFill, flushed}
+use Rattle.model.specs.Causes.{tailOn}
+use Rattle.model.specs.Append.{Appended, flush, buffered, append}
+use Rattle.model.proofs.Run.{perform-append, perform-work, run-cut}
+use Rattle.model.proofs.Lengths.{Lengths}
+use Rattle.model.proofs.Counts.{append-fits, append-flushes}
+use Rattle.model.proofs.Reader.{Holds}
+use Rattle.model.proofs.Flush.{OnlyLogs}
+use Rattle.model.proofs.Ledger.Entry.{Entry, recordOf, pick, onDisk}
+use Rattle.model.proofs.Ledger.Order.{sizeOf, wordsOf, on}
+use Rattle.model.proofs.Ledger.Lists.{on-more, on-less, words-append, words-first, words-none, length-words-append, length-words}
+use Rattle.model.proofs.Link.Words.{Arrays, Link, lengths-perform}
+use Rattle.model.proofs.Link.Flush.{tail-flushed, fill-flushed, end-flushed, arrays-flushed, start-flushed, tail-flushed-other, fill-flushed-other, flush-only, flush-link}
+use Rattle.model.proofs.Link.Parts.{getD-sets-before, getD-sets-behind, part-sets-before, part-sets-behind, part-sets-end}
+
+-- every buffer has at most its 64 words
+abbrev pub Small : Sizes → Logs → Type 0
+Small s l = (e : ℕ) → e < s .disks → fillOf l e ≤ 64
+
+-- The state's part after n words are appended on disk d.
+pub record Longer (s : Sizes) (d n : ℕ) (before after : Logs) : Type 0 where
+  pub start-same : (e : ℕ) → startOf after e ≡ startOf before e
+  pub tail-same : (e : ℕ) → (e ≡ d → ⊥) → tailOf after e ≡ tailOf before e
+  pub fill-same : (e : ℕ) → (e ≡ d → ⊥) → fillOf after e ≡ fillOf before e
+  pub end-longer : endOf after d ≡ endOf before d + n
+  pub small : Small s after
+  pub arrays : Arrays s after
+
+-- Of the memories only the buffer of disk d is written; the anchor and the backups stay.
+pub record InBuffer (s : Sizes) (d : ℕ) (before after : World) : Type 0 where
+  pub anchor-same : after .anchor ≡ before .anchor
+  pub pages-same : after .pages ≡ before .pages
+  pub backups-same : after .backups ≡ before .backups
+  pub work-before : (i : ℕ) → i < bufferAt s d → getD (after .work) i 0 ≡ getD (before .work) i 0
+  pub work-behind : (i : ℕ) → bufferAt s d + 64 ≤ i → getD (after .work) i 0 ≡ getD (before .work) i 0
+
+-- so the owners and the copy epochs stay
+module _ {s : Sizes} {d : ℕ} {before after : World} (k : InBuffer s d before after) (i : ℕ) where
+  pub owners-same : i < total s → getD (after .work) i 0 ≡ getD (before .work) i 0
+  unfolding bufferAt
+  owners-same h = k .work-before i (omega arith)
+
+  pub epochs-same : d < s .disks → bufferAt s (s .disks) ≤ i → getD (after .work) i 0 ≡ getD (before .work) i 0
+  unfolding bufferAt
+  epochs-same below h = k .work-behind i (omega arith)
+
+-- stores on the logs before it change nothing of that
+pub after-flush : {s : Sizes} {d : ℕ} {first between after : World} → OnlyLogs first between → InBuffer s d between after
+    → InBuffer s d first after
+after-flush only k =
+    record {
+      anchor-same = k .anchor-same ∙ only .anchor-same;
+      pages-same = k .pages-same ∙ only .pages-same;
+      backups-same = k .backups-same ∙ only .backups-same;
+      work-before = λ i h. k .work-before i h ∙ ap (λ (x : List ℕ). getD x i 0) (only .work-same);
+      work-behind = λ i h. k .work-behind i h ∙ ap (λ (x : List ℕ). getD x i 0) (only .work-same);
+    }
+
+-- the fill set
+pub fill-set : (l : Logs) (d n : ℕ) → d < length (l .fills) → fillOf (withFill l d n) d ≡ n
+unfolding fillOf withFill
+fill-set l d n h = getD-set-same (l .fills) d n 0 h
+
+pub fill-set-other : (l : Logs) (d n e : ℕ) → (e ≡ d → ⊥) → fillOf (withFill l d n) e ≡ fillOf l e
+unfolding fillOf withFill
+fill-set-other l d n e ne = getD-set-other (l .fills) d e n 0 ne
+
+-- Words put into the buffer behind the n words that it has; m is how many it has then.
+module _ (s : Sizes) (l : Logs) (w : World) (a : Arrays s l) (small : Small s l) (d : ℕ) (below : d < s .disks)
+  (n m : ℕ) (words : List ℕ) (now : n ≡ fillOf l d) (next : m ≡ n + length words) (fits : m ≤ 64) where
+  fill-now : fillOf (withFill l d m) d ≡ m
+  fill-now = fill-set l d m (omega (arith, a .fills, a .disks))
+
+  put-small : Small s (withFill l d m)
+  put-small e h = go (ℕ-discrete e d)
+    where
+      go : Dec (e ≡ d) → fillOf (withFill l d m) e ≤ 64
+      go (yes same) = rw (same, fill-now) fits
+      go (no ne) = rw (fill-set-other l d m e ne) (small e h)
+
+  put-arrays : Arrays s (withFill l d m)
+  unfolding withFill
+  put-arrays =
+      record {
+        starts = a .starts;
+        tails = a .tails;
+        fills = length-set (l .fills) d m ∙ a .fills;
+        disks = a .disks;
+        ring = a .ring;
+      }
+
+  put-end : endOf (withFill l d m) d ≡ endOf l d + length words
+  unfolding endOf tailOf withFill
+  put-end = omega (arith, fill-now)
+
+  pub put-longer : Longer s d (length words) l (withFill l d m)
+  unfolding startOf tailOf withFill
+  put-longer =
+      record {
+        start-same = λ e. refl;
+        tail-same = λ e ne. refl;
+        fill-same = λ e ne. fill-set-other l d m e ne;
+        end-longer = put-end;
+        small = put-small;
+        arrays = put-arrays;
+      }
+
+pub put-in-buffer : (s : Sizes) (d : ℕ) (w : World) (n : ℕ) (words : List ℕ) → n + length words ≤ 64
+    → InBuffer s d w (perform (buffered s d n words) w)
+unfolding buffered
+put-in-buffer s d w n words fits =
+    rw (perform-work (bufferAt s d + n) words w)
+    (record {
+      anchor-same = refl;
+      pages-same = refl;
+      backups-same = refl;
+      work-before = λ i h. getD-sets-before (w .work) (bufferAt s d + n) words i (omega arith);
+      work-behind = λ i h. getD-sets-behind (w .work) (bufferAt s d + n) words i (omega arith);
+    })
+
+-- The entry is behind the buffered ones.
+module _ {s : Sizes} {l : Logs} {w : World} {F B : List Entry} (k : Link s l w F B) (right : Lengths s w) (a : Arrays s l)
+  (small : Small s l) (d : ℕ) (below : d < s .disks) (r : Entry) (here : r .disk ≡ d)
+  (n m : ℕ) (now : n ≡ fillOf l d) (next : m ≡ n + sizeOf r) (fits : m ≤ 64) where
+  abbrev words : List ℕ
+  words = encode (recordOf r)
+
+  abbrev filled : List ℕ
+  filled = sets (w .work) (bufferAt s d + n) words
+
+  one-more : wordsOf (r ∷ []) ≡ words
+  one-more = words-first r [] ∙ rw words-none (append-nil words)
+
+  inside : bufferAt s d + n + length words ≤ length (w .work)
+  unfolding workWords epochAt bufferAt sizeOf
+  inside = omega (arith, right .work)
+
+  buffer-here : bufferOf s filled d m ≡ wordsOf (on d B) ++ words
+  unfolding bufferOf sizeOf
+  buffer-here =
+      let before : part (bufferAt s d) n (w .work) ≡ wordsOf (on d B) = rw now (k .buffer d below) in
+      rw next (part-sets-end (bufferAt s d) n (w .work) words inside ∙ ap (λ (x : List ℕ). x ++ words) before)
+
+  buffer-there : (e : ℕ) → e < s .disks → (e ≡ d → ⊥) → bufferOf s filled e (fillOf l e) ≡ bufferOf s (w .work) e (fillOf l e)
+  unfolding bufferOf bufferAt sizeOf
+  buffer-there e h ne = go (decLt e d)
+    where
+      go : Dec (e < d) → part (bufferAt s e) (fillOf l e) filled ≡ part (bufferAt s e) (fillOf l e) (w .work)
+      go (yes less) = part-sets-before (bufferAt s e) (fillOf l e) (w .work) (bufferAt s d + n) words (omega (arith, small e h))
+      go (no more) = part-sets-behind (bufferAt s e) (fillOf l e) (w .work) (bufferAt s d + n) words (omega (arith, ne))
+
+  fill-here : fillOf (withFill l d m) d ≡ m
+  fill-here = fill-set l d m (omega (arith, a .fills, a .disks))
+
+  buffer-put : (e : ℕ) → e < s .disks → bufferOf s filled e (fillOf (withFill l d m) e) ≡ wordsOf (on e (B ++ r ∷ []))
+  buffer-put e h = go (ℕ-discrete e d)
+    where
+      go : Dec (e ≡ d) → bufferOf s filled e (fillOf (withFill l d m) e) ≡ wordsOf (on e (B ++ r ∷ []))
+      go (yes same) = rw (same, fill-here, on-more d B r here, words-append, one-more) buffer-here
+      go (no ne) =
+          rw (fill-set-other l d m e ne, on-less e B r (λ x. ne (sym x ∙ here))) (buffer-there e h ne ∙ k .buffer e h)
+
+  fill-put : (e : ℕ) → e < s .disks → fillOf (withFill l d m) e ≡ length (wordsOf (on e (B ++ r ∷ [])))
+  unfolding sizeOf
+  fill-put e h = go (ℕ-discrete e d)
+    where
+      go : Dec (e ≡ d) → fillOf (withFill l d m) e ≡ length (wordsOf (on e (B ++ r ∷ [])))
+      go (yes same) =
+          rw (same, fill-here, on-more d B r here, words-append, one-more)
+          (omega (arith, length-append (wordsOf (on d B)) words, k .fill d below))
+      go (no ne) = rw (fill-set-other l d m e ne, on-less e B r (λ x. ne (sym x ∙ here))) (k .fill e h)
+
+  pub put-link : Link s (withFill l d m) (perform (buffered s d n words) w) F (B ++ r ∷ [])
+  unfolding buffered tailOn startOf tailOf withFill
+  put-link =
+      rw (perform-work (bufferAt s d + n) words w)
+      (record { held = k .held; tail = k .tail; stored = k .stored; buffer = buffer-put; fill = fill-put })
+
