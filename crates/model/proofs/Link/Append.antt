@@ -30,7 +30,6 @@ use Rattle.model.proofs.Ledger.Lists.{on-more, on-less, words-append, w
 use Rattle.model.proofs.Link.Words.{Arrays, Link, lengths-perform}
 use Rattle.model.proofs.Link.Flush.{tail-flushed, fill-flushed, end-flushed, arrays-flushed, start-flushed, tail-flushed-other, fill-flushed-other, flush-only, flush-link}
 use Rattle.model.proofs.Link.Parts.{getD-sets-before, getD-sets-behind, part-sets-before, part-sets-behind, part-sets-end}
-
 use Rattle.model.proofs.Link.Buffered.{Small, Longer, InBuffer, after-flush, put-longer, put-in-buffer, put-link}
 
 -- The two cases of an append.
@@ -56,7 +55,7 @@ small-flushed {s} {l} d a below small e h = go (ℕ-discrete e d)
 
 -- In both cases the state and the memories change by the entry's words alone.
 module _ {s : Sizes} {l : Logs} (w : World) (a : Arrays s l) (small : Small s l) (d : ℕ) (below : d < s .disks) (r : Entry)
-  (short : sizeOf r ≤ 64) where
+    (short : sizeOf r ≤ 64) where
   abbrev added : Appended
   added = append s l (w .work) d (encode (recordOf r))
 
@@ -64,8 +63,8 @@ module _ {s : Sizes} {l : Logs} (w : World) (a : Arrays s l) (small : Small s l)
   unfolding sizeOf
   flushed-longer =
       let more =
-          put-longer s (flushed l d) w (arrays-flushed s l d a below) (small-flushed d a below small) d below 0 (sizeOf r)
-          (encode (recordOf r)) (sym (fill-flushed s l d a below)) (sym (zero-add (sizeOf r))) short in
+      put-longer s (flushed l d) w (arrays-flushed s l d a below) (small-flushed d a below small) d below 0 (sizeOf r)
+      (encode (recordOf r)) (sym (fill-flushed s l d a below)) (sym (zero-add (sizeOf r))) short in
       record {
         start-same = λ e. more .start-same e ∙ start-flushed l d e;
         tail-same = λ e ne. more .tail-same e ne ∙ tail-flushed-other l d e ne;
@@ -99,7 +98,7 @@ module _ {s : Sizes} {l : Logs} (w : World) (a : Arrays s l) (small : Small s l)
 
 -- The entries.
 module _ {s : Sizes} {l : Logs} {w : World} {F B : List Entry} (k : Link s l w F B) (right : Lengths s w) (a : Arrays s l)
-  (small : Small s l) (d : ℕ) (below : d < s .disks) (r : Entry) (here : r .disk ≡ d) (short : sizeOf r ≤ 64) where
+    (small : Small s l) (d : ℕ) (below : d < s .disks) (r : Entry) (here : r .disk ≡ d) (short : sizeOf r ≤ 64) where
   abbrev appended : Appended
   appended = append s l (w .work) d (encode (recordOf r))
 
@@ -114,8 +113,10 @@ module _ {s : Sizes} {l : Logs} {w : World} {F B : List Entry} (k : Link s l w F
     pub room-logs : perform (appended .actions) w .logs ≡ w .logs
     unfolding sizeOf buffered
     room-logs =
-        rw (append-is-put s l (w .work) d (encode (recordOf r)) fits,
-        perform-work (bufferAt s d + fillOf l d) (encode (recordOf r)) w)
+        rw (
+          append-is-put s l (w .work) d (encode (recordOf r)) fits,
+          perform-work (bufferAt s d + fillOf l d) (encode (recordOf r)) w,
+        )
 
     pub room-stores : stores (appended .actions) ≡ 0
     unfolding sizeOf

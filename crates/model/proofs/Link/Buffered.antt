@@ -85,7 +85,7 @@ fill-set-other l d n e ne = getD-set-other (l .fills) d e n 0 ne
 
 -- Words put into the buffer behind the n words that it has; m is how many it has then.
 module _ (s : Sizes) (l : Logs) (w : World) (a : Arrays s l) (small : Small s l) (d : ℕ) (below : d < s .disks)
-  (n m : ℕ) (words : List ℕ) (now : n ≡ fillOf l d) (next : m ≡ n + length words) (fits : m ≤ 64) where
+    (n m : ℕ) (words : List ℕ) (now : n ≡ fillOf l d) (next : m ≡ n + length words) (fits : m ≤ 64) where
   fill-now : fillOf (withFill l d m) d ≡ m
   fill-now = fill-set l d m (omega (arith, a .fills, a .disks))
 
@@ -138,8 +138,8 @@ put-in-buffer s d w n words fits =
 
 -- The entry is behind the buffered ones.
 module _ {s : Sizes} {l : Logs} {w : World} {F B : List Entry} (k : Link s l w F B) (right : Lengths s w) (a : Arrays s l)
-  (small : Small s l) (d : ℕ) (below : d < s .disks) (r : Entry) (here : r .disk ≡ d)
-  (n m : ℕ) (now : n ≡ fillOf l d) (next : m ≡ n + sizeOf r) (fits : m ≤ 64) where
+    (small : Small s l) (d : ℕ) (below : d < s .disks) (r : Entry) (here : r .disk ≡ d)
+    (n m : ℕ) (now : n ≡ fillOf l d) (next : m ≡ n + sizeOf r) (fits : m ≤ 64) where
   abbrev words : List ℕ
   words = encode (recordOf r)
 
@@ -193,4 +193,3 @@ module _ {s : Sizes} {l : Logs} {w : World} {F B : List Entry} (k : Link s l w F
   put-link =
       rw (perform-work (bufferAt s d + n) words w)
       (record { held = k .held; tail = k .tail; stored = k .stored; buffer = buffer-put; fill = fill-put })
-

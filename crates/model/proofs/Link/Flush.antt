@@ -84,8 +84,11 @@ run-store-all s d p [] n w h = absurd (omega arith)
 run-store-all s d p (x ∷ xs) n w h =
     ap (λ (l : List Action). perform l w)
     (covered-then (storeLog s d) (store logs (tailWord s d) (p + length (x ∷ xs))) (λ i y. refl) refl n p (x ∷ xs)
-    (omega (arith, stores-append (each (storeLog s d) p (x ∷ xs)) (store logs (tailWord s d) (p + length (x ∷ xs)) ∷ []),
-    stores-each (storeLog s d) (λ i y. refl) p (x ∷ xs))))
+    (omega (
+      arith,
+      stores-append (each (storeLog s d) p (x ∷ xs)) (store logs (tailWord s d) (p + length (x ∷ xs)) ∷ []),
+      stores-each (storeLog s d) (λ i y. refl) p (x ∷ xs),
+    )))
 
 -- words stored on the logs leave the other lists
 pub lay-only : (s : Sizes) (d p : ℕ) (xs : List ℕ) (w : World) → OnlyLogs w (perform (each (storeLog s d) p xs) w)
@@ -108,7 +111,7 @@ module _ (s : Sizes) (l : Logs) (w : World) (d : ℕ) where
       (lay-only s d (tailOf l d) (take n (bufferOf s (w .work) d (fillOf l d))) w)
 
 module _ {s : Sizes} {l : Logs} {w : World} {F B : List Entry} (k : Link s l w F B) (right : Lengths s w) (a : Arrays s l)
-  (d : ℕ) (below : d < s .disks) (room : endOf l d ≤ startOf l d + ringOf s d) where
+    (d : ℕ) (below : d < s .disks) (room : endOf l d ≤ startOf l d + ringOf s d) where
   fits : diskAt s d + ringOf s d + 1 ≤ length (w .logs)
   fits = omega (arith, disk-within s d below, right .logs)
 

@@ -42,7 +42,12 @@ module _ (at n : ℕ) where
       → part at (n + length vs) (sets l (at + n) vs) ≡ part at n l ++ vs
   unfolding part
   part-sets-end l vs h =
-      rw (sets-eq vs l (at + n) h, take-add at n l, append-assoc, append-assoc,
-      drop-at (take at l) (take n (drop at l) ++ (vs ++ drop (at + n + length vs) l)) at (length-take-le at l (omega arith)),
-      ← append-assoc)
+      rw (
+        sets-eq vs l (at + n) h,
+        take-add at n l,
+        append-assoc,
+        append-assoc,
+        drop-at (take at l) (take n (drop at l) ++ (vs ++ drop (at + n + length vs) l)) at (length-take-le at l (omega arith)),
+        ← append-assoc,
+      )
       (take-at (take n (drop at l) ++ vs) _ (n + length vs) (rw (length-append, length-take, length-drop) (omega arith)))

@@ -117,6 +117,11 @@ module _ {s : Sizes} {l : Logs} {w : World} {F B : List Entry} (k : Link s l w F
       → logOf (imageOf w) d ≡ entriesScan (on d F)
   unfolding logOf imageOf
   image-log same e fit laid =
-      rw (same, getD-list (startOn (w .anchor)) (s .disks) d 0 below, getD-list (retainedWords s w) (s .disks) d [] below,
-      retained e, e)
+      rw (
+        same,
+        getD-list (startOn (w .anchor)) (s .disks) d 0 below,
+        getD-list (retainedWords s w) (s .disks) d [] below,
+        retained e,
+        e,
+      )
       (scan-entries s _ _ (startOf l d) (on d F) (fit-on s d F fit) laid (holds-from _ (startOf l d) (wordsOf (on d F)) (λ q h m. refl)) refl)

@@ -1,0 +1,145 @@
+-- The flush of a disk keeps what holds of an open store, also inside an abort.
+use mathlib.Core.Path.{_≡_, refl, sym, ap, _∙_}
+use mathlib.Core.List.{List, [], _∷_, _++_}
+use mathlib.Core.Bool.{Bool, true, false, not}
+use Prim.Native.Nat.{ℕ, _+_, _≤_, _<_}
+use lib.ListN.{length, getD}
+use Rattle.model.specs.declared.Logs.{Logs}
+use Rattle.model.specs.declared.Sizes.{Sizes}
+use Rattle.model.specs.declared.Table.{Table}
+use Rattle.model.specs.declared.Core.{Core}
+use Rattle.model.specs.Sizes.{total, ringOf}
+use Rattle.model.specs.World.{World, perform}
+use Rattle.model.specs.Memory.{epochOf, lengthsRight}
+use Rattle.model.specs.State.{startOf, fillOf, endOf, flushed, withLog, diskAtPlace, placeOf, isOpen}
+use Rattle.model.specs.Anchor.{sizesOn, epochOn, startOn}
+use Rattle.model.specs.Append.{flush}
+use Rattle.model.specs.Transaction.{diskOf}
+use Rattle.model.specs.Reference.{Reference}
+use Rattle.model.proofs.Lengths.{Lengths, lengths-right}
+use Rattle.model.proofs.Run.{SameLengths, perform-lengths}
+use Rattle.model.proofs.Flush.{OnlyLogs}
+use Rattle.model.proofs.Ledger.Entry.{Entry, All, pick, onDisk, closedIn}
+use Rattle.model.proofs.Ledger.State.{Ledger, flushedDisk, Same}
+use Rattle.model.proofs.Ledger.Order.{Ordered, on, boundary}
+use Rattle.model.proofs.Ledger.Sums.{all-map}
+use Rattle.model.proofs.Ledger.Good.{Good, good-same}
+use Rattle.model.proofs.Ledger.Flush.{flush-good}
+use Rattle.model.proofs.Ledger.Lists.{all-flush, closed-flush, on-flush}
+use Rattle.model.proofs.Ledger.Ordered.{ordered-flush}
+use Rattle.model.proofs.Link.Words.{Fit, Arrays, Link}
+use Rattle.model.proofs.Link.Flush.{flush-link, flush-only, arrays-flushed, start-flushed}
+use Rattle.model.proofs.Store.View.{view, Devices, Safe, Own, Accounts, Epochs, Sets, Serving, before}
+
+-- lists of the same lengths are as right
+pub lengths-same : (s : Sizes) {v w : World} → SameLengths v w → lengthsRight s w ≡ true → lengthsRight s v ≡ true
+unfolding lengthsRight
+lengths-same s k h = rw (k .pages, k .backups, k .logs, k .work) h
+
+-- a change of logs and table that leaves starts and anchor
+pub devices-kept : {c : Core} {w : World} → Devices c w → (l : Logs) (t : Table) (v : World)
+    → ((d : ℕ) → startOf l d ≡ startOf (c .logs) d) → Arrays (c .sizes) l → v .anchor ≡ w .anchor → SameLengths v w
+    → Devices (withLog c l t) v
+unfolding withLog
+devices-kept {c} g l t v starts arrays anchor lengths =
+    record {
+      bounds = g .bounds;
+      anchor = lengths .anchor ∙ g .anchor;
+      lengths = lengths-same (c .sizes) lengths (g .lengths);
+      sizes = ap sizesOn anchor ∙ g .sizes;
+      epoch = ap epochOn anchor ∙ g .epoch;
+      starts = λ d h. ap (λ (a : List ℕ). startOn a d) anchor ∙ g .starts d h ∙ sym (starts d);
+      arrays = arrays;
+    }
+
+-- the state after the flush
+abbrev pub flushedCore : Core → ℕ → Core
+flushedCore c d = withLog c (flushed (c .logs) d) (c .table)
+
+abbrev pub left : ℕ → List Entry → List Entry
+left d B = pick (λ r. not (onDisk d r)) B
+
+module _ {x : ℕ} {home : ℕ → ℕ} {c : Core} {w : World} {r : Reference} {F B : List Entry} (g : Safe x home c w r F B)
+    (d : ℕ) (below : d < c .sizes .disks) (room : endOf (c .logs) d ≤ startOf (c .logs) d + ringOf (c .sizes) d) where
+  abbrev pub flushedWorld : World
+  flushedWorld = perform (flush (c .sizes) (c .logs) (w .work) d) w
+
+  right : Lengths (c .sizes) w
+  right = lengths-right (c .sizes) w (g .devices .lengths)
+
+  only : OnlyLogs w flushedWorld
+  only = flush-only (c .sizes) (c .logs) w d
+
+  same : Same (total (c .sizes)) (flushedDisk (view c w r F B) d) (view (flushedCore c d) flushedWorld r (F ++ on d B) (left d B))
+  unfolding view flushedDisk withLog on epochOf
+  same =
+      record {
+        epoch = refl;
+        next = refl;
+        pages = λ i h. rw (only .pages-same);
+        current = λ i h. rw (only .backups-same);
+        other = λ i h. rw (only .backups-same);
+        epochs = λ i h. rw (only .work-same);
+        owners = λ i h. rw (only .work-same);
+        committed = λ i h. refl;
+        writes = λ u h. refl;
+        opened = λ u. refl;
+        flushed = refl;
+        buffered = refl;
+      }
+
+  pub flush-safe : Safe x home (flushedCore c d) flushedWorld r (F ++ on d B) (left d B)
+  unfolding withLog view flushed startOf on
+  flush-safe =
+      record {
+        devices =
+            devices-kept (g .devices) (flushed (c .logs) d) (c .table) flushedWorld (start-flushed (c .logs) d)
+            (arrays-flushed (c .sizes) (c .logs) d (g .devices .arrays) below) (only .anchor-same) (perform-lengths _ w);
+        good = good-same same (flush-good home (g .ordered .homed) (g .good) d);
+        link = flush-link (g .link) right (g .devices .arrays) d below room;
+        ordered = ordered-flush (g .ordered) d;
+        fit = all-flush (Fit (c .sizes)) (onDisk d) F B (g .fit);
+        sizes = g .sizes;
+        shaped = g .shaped;
+      }
+
+-- the table, the copy epochs and the write sets do not see where an entry of the log lies
+module _ {x : ℕ} {home : ℕ → ℕ} {c : Core} {w : World} {r : Reference} {F B : List Entry} (g : Serving x home c w r F B)
+    (d : ℕ) (below : d < c .sizes .disks) (room : endOf (c .logs) d ≤ startOf (c .logs) d + ringOf (c .sizes) d) where
+  moved : (P : Entry → Type 0) → All P (F ++ B) → All P ((F ++ on d B) ++ left d B)
+  unfolding on
+  moved P h = all-flush P (onDisk d) F B h
+
+  accounts : Accounts x home (flushedCore c d) (F ++ on d B) (left d B)
+  unfolding withLog on flushed startOf diskOf
+  accounts =
+      record {
+        tabled = g .accounts .tabled;
+        homes = g .accounts .homes;
+        own = λ t o. moved _ (all-map (λ e h same. let k = h same in record { has = k .has; first = k .first; kind = k .kind }) (F ++ B) (g .accounts .own t o));
+        firsts = λ t o h. rw (on-flush d F B (diskOf c t)) (g .accounts .firsts t o h);
+        settled = moved _ (all-map (λ e h o. closed-flush (onDisk d) F B (e .number) ∙ h o) (F ++ B) (g .accounts .settled));
+        numbered = moved _ (g .accounts .numbered);
+      }
+
+  epochs : Epochs (flushedCore c d) (flushedWorld (g .safe) d below room) (F ++ on d B) (left d B)
+  unfolding withLog on flushed startOf before epochOf
+  epochs =
+      record {
+        copied = g .epochs .copied;
+        pages = λ p h. rw (flush-only (c .sizes) (c .logs) w d .work-same) (g .epochs .pages p h);
+        capped = moved _ (g .epochs .capped);
+        early = moved _ (g .epochs .early);
+        ends = λ o e h. rw (on-flush d F B e) (g .epochs .ends o e h);
+      }
+
+  pub flush-serving : Serving x home (flushedCore c d) (flushedWorld (g .safe) d below room) r (F ++ on d B) (left d B)
+  unfolding withLog
+  flush-serving =
+      record {
+        stage = g .stage;
+        safe = flush-safe (g .safe) d below room;
+        accounts = accounts;
+        epochs = epochs;
+        sets = record { distinct = g .sets .distinct; has = g .sets .has; fits = g .sets .fits };
+      }
