@@ -28,6 +28,8 @@ pub mod Places
 -- The store as records, and the records as words.
 pub mod Ledger
 pub mod Link
+-- Restart as a sum over records.
+pub mod Restart
 -- The calls.
 pub mod Store
 -- Computed tables.

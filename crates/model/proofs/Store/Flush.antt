@@ -9,7 +9,7 @@ use Rattle.model.specs.declared.Sizes.{Sizes}
 use Rattle.model.specs.declared.Table.{Table}
 use Rattle.model.specs.declared.Core.{Core}
 use Rattle.model.specs.Sizes.{total, ringOf}
-use Rattle.model.specs.World.{World, perform}
+use Rattle.model.specs.World.{World, perform, run, stores}
 use Rattle.model.specs.Memory.{epochOf, lengthsRight}
 use Rattle.model.specs.State.{startOf, fillOf, endOf, flushed, withLog, diskAtPlace, placeOf, isOpen}
 use Rattle.model.specs.Anchor.{sizesOn, epochOn, startOn}
@@ -17,7 +17,7 @@ use Rattle.model.specs.Append.{flush}
 use Rattle.model.specs.Transaction.{diskOf}
 use Rattle.model.specs.Reference.{Reference}
 use Rattle.model.proofs.Lengths.{Lengths, lengths-right}
-use Rattle.model.proofs.Run.{SameLengths, perform-lengths}
+use Rattle.model.proofs.Run.{SameLengths, perform-lengths, run-lengths}
 use Rattle.model.proofs.Flush.{OnlyLogs}
 use Rattle.model.proofs.Ledger.Entry.{Entry, All, pick, onDisk, closedIn}
 use Rattle.model.proofs.Ledger.State.{Ledger, flushedDisk, Same}
@@ -28,7 +28,7 @@ use Rattle.model.proofs.Ledger.Flush.{flush-good}
 use Rattle.model.proofs.Ledger.Lists.{all-flush, closed-flush, on-flush}
 use Rattle.model.proofs.Ledger.Ordered.{ordered-flush}
 use Rattle.model.proofs.Link.Words.{Fit, Arrays, Link}
-use Rattle.model.proofs.Link.Flush.{flush-link, flush-only, arrays-flushed, start-flushed}
+use Rattle.model.proofs.Link.Flush.{flush-link, flush-only, flush-cut, cut-only, arrays-flushed, start-flushed}
 use Rattle.model.proofs.Store.View.{view, Devices, Safe, Own, Accounts, Epochs, Sets, Serving, before}
 
 -- lists of the same lengths are as right
@@ -102,6 +102,47 @@ module _ {x : ℕ} {home : ℕ → ℕ} {c : Core} {w : World} {r : Reference} {
         sizes = g .sizes;
         shaped = g .shaped;
       }
+
+  -- cut, it changes nothing that a restart sees
+  module _ (n : ℕ) (cut : n < stores (flush (c .sizes) (c .logs) (w .work) d)) where
+    abbrev pub cutWorld : World
+    cutWorld = run n (flush (c .sizes) (c .logs) (w .work) d) w
+
+    part-way : OnlyLogs w cutWorld
+    part-way = cut-only (c .sizes) (c .logs) w d n cut
+
+    unmoved : Same (total (c .sizes)) (view c w r F B) (view c cutWorld r F B)
+    unfolding view epochOf
+    unmoved =
+        record {
+          epoch = refl;
+          next = refl;
+          pages = λ i h. rw (part-way .pages-same);
+          current = λ i h. rw (part-way .backups-same);
+          other = λ i h. rw (part-way .backups-same);
+          epochs = λ i h. rw (part-way .work-same);
+          owners = λ i h. rw (part-way .work-same);
+          committed = λ i h. refl;
+          writes = λ u h. refl;
+          opened = λ u. refl;
+          flushed = refl;
+          buffered = refl;
+        }
+
+    pub cut-safe : Safe x home c cutWorld r F B
+    unfolding withLog
+    cut-safe =
+        record {
+          devices =
+              devices-kept (g .devices) (c .logs) (c .table) cutWorld (λ e. refl) (g .devices .arrays) (part-way .anchor-same)
+              (run-lengths n _ w);
+          good = good-same unmoved (g .good);
+          link = flush-cut (g .link) right (g .devices .arrays) d below room n cut;
+          ordered = g .ordered;
+          fit = g .fit;
+          sizes = g .sizes;
+          shaped = g .shaped;
+        }
 
 -- the table, the copy epochs and the write sets do not see where an entry of the log lies
 module _ {x : ℕ} {home : ℕ → ℕ} {c : Core} {w : World} {r : Reference} {F B : List Entry} (g : Serving x home c w r F B)

@@ -1,0 +1,188 @@
+-- A restart under way: the pages so far and what the steps to come add make the image's pages. It holds after restart begin.
+use mathlib.Core.Path.{_≡_, refl, sym, ap, subst₂, _∙_}
+use mathlib.Core.List.{List, [], _∷_}
+use mathlib.Core.Bool.{Bool, true, false, cond, _||_}
+use Prim.Native.Nat.{ℕ, zero, suc, _+_, _-_, _*_, _≤_, _<_}
+use native.Mathlib.Omega.{arith}
+use native.Mathlib.Decide.{decLt}
+use lib.Dec.{leb, ltb, eqb, leb·zero}
+use lib.ListN.{length, getD, replicate, length-replicate, getD-replicate}
+use lib.Seq.{sets, length-sets}
+use borrow.Author.Tests.{lt-ltb, ltb-false, not-false}
+use Rattle.model.specs.declared.Stage.the-variants.{Replaying}
+use Rattle.model.specs.declared.Sizes.{Sizes}
+use Rattle.model.specs.declared.Logs.{Logs}
+use Rattle.model.specs.declared.Core.{Core}
+use Rattle.model.specs.Below.{sumBelow}
+use Rattle.model.specs.Word.{_⊕_}
+use Rattle.model.specs.Sizes.{pageBase, total, ringOf, sizesInBounds}
+use Rattle.model.specs.Anchor.{epochOn, sizesOn, startOn}
+use Rattle.model.specs.Decode.{readLog}
+use Rattle.model.specs.Scan.{Scan, scan}
+use Rattle.model.specs.World.{World, perform, pages}
+use Rattle.model.specs.Memory.{lengthsRight}
+use Rattle.model.specs.State.{limit, startOf, tailOf}
+use Rattle.model.specs.Causes.{anchorWrong, sizesWrong, lengthsWrong, tailOn, tailWrong, wrongTail, retained}
+use Rattle.model.specs.Checkpoint.{perDisk}
+use Rattle.model.specs.Restart.{positionOf, readDisk, imageRows, restartBeginRows, restartBeginTask}
+use Rattle.model.specs.Reference.{taken, outcomeOf}
+use Rattle.model.specs.Call.{restartBegin, resultOf}
+use Rattle.model.specs.Image.{retainedWords, imageOf, logOf, restarted}
+use Rattle.model.proofs.Ledger.Entry.{mask}
+use Rattle.model.proofs.Xor.{⊕-zero-l}
+use Rattle.model.proofs.Below.{first-before, getD-list, length-list}
+use Rattle.model.proofs.Decode.{or-false}
+use Rattle.model.proofs.Run.{perform-pages}
+use Rattle.model.proofs.Storeless.{nothing-stored}
+use Rattle.model.proofs.Restart.Words.{sets-in, withPages, xorBelow, xor-below-cong}
+use Rattle.model.proofs.Restart.Gain.{gain, gains, restarted-word}
+use Rattle.model.proofs.Restart.Image.{Lengths, lengths, disks-le, length-backup, image-log, SameDevices, image-devices, memory-devices}
+use Rattle.model.proofs.Restart.Taken.{accepted-row, Taken, taken-call}
+
+-- the rest of a disk's log: from the next position up to the tail
+unfoldable pub logLeft : Core → World → ℕ → Scan
+logLeft c w d = scan (c .sizes) (readDisk c w d) (tailOf (c .logs) d) (positionOf c d)
+
+-- the rest of the backup at word x: its word, if its page is not XORed in yet
+unfoldable pub backupLeft : Core → World → ℕ → ℕ
+backupLeft c w x = mask (leb (pageBase (c .sizes) (c .replay .page)) x) (getD (imageOf w .backup) x 0)
+
+unfoldable pub logsLeft : Core → World → ℕ → ℕ
+logsLeft c w x = xorBelow (λ d. gain (c .sizes) (c .epoch) (logLeft c w d) x) (c .sizes .disks)
+
+pub record Progress (c : Core) (w : World) : Type 0 where
+  pub stage : c .stage ≡ Replaying
+  pub sizes : c .sizes ≡ sizesOn (w .anchor)
+  pub epoch : c .epoch ≡ epochOn (w .anchor)
+  pub bounds : sizesInBounds (c .sizes) ≡ true
+  pub lengths : Lengths (c .sizes) w
+  pub backup : length (imageOf w .backup) ≡ total (c .sizes)
+  pub starts : (d : ℕ) → d < c .sizes .disks → startOf (c .logs) d ≡ startOn (w .anchor) d
+  pub tails : (d : ℕ) → d < c .sizes .disks → tailOf (c .logs) d ≡ tailOn (c .sizes) w d
+  pub room : c .sizes .disks ≤ length (c .replay .positions)
+  pub positions : (d : ℕ) → d < c .sizes .disks → (startOf (c .logs) d ≤ positionOf c d) × (positionOf c d ≤ tailOf (c .logs) d)
+  pub page : c .replay .page ≤ c .sizes .pages
+  pub words : (x : ℕ) → x < total (c .sizes)
+      → getD (w .pages) x 0 ⊕ (backupLeft c w x ⊕ logsLeft c w x) ≡ getD (restarted (imageOf w)) x 0
+
+-- a number kept for each disk
+pub getD-per-disk : (s : Sizes) (f : ℕ → ℕ) (d : ℕ) → s .disks ≤ 8 → d < s .disks → getD (perDisk s f) d 0 ≡ f d
+unfolding perDisk
+getD-per-disk s f d h l =
+    getD-list (λ d. cond (ltb d (s .disks)) (f d) 0) 8 d 0 (omega arith) ∙ rw (lt-ltb d (s .disks) l)
+
+pub length-per-disk : (s : Sizes) (f : ℕ → ℕ) → length (perDisk s f) ≡ 8
+unfolding perDisk
+length-per-disk s f = length-list (λ d. cond (ltb d (s .disks)) (f d) 0) 8
+
+-- What an accepted restart begin found.
+pub record Checked (w : World) : Type 0 where
+  pub bounds : sizesInBounds (sizesOn (w .anchor)) ≡ true
+  pub lengths : lengthsRight (sizesOn (w .anchor)) w ≡ true
+  pub tails : (d : ℕ) → d < sizesOn (w .anchor) .disks → startOn (w .anchor) d ≤ tailOn (sizesOn (w .anchor)) w d
+
+tail-right : (s : Sizes) (w : World) → ltb (wrongTail s w) (s .disks) ≡ false → (d : ℕ) → d < s .disks
+    → startOn (w .anchor) d ≤ tailOn s w d
+unfolding wrongTail tailWrong
+tail-right s w e d h =
+    let a = first-before (tailWrong s w) (s .disks) d (omega (arith, ltb-false (wrongTail s w) (s .disks) e)) in
+    let b = or-false _ _ a in
+    ltb-false _ _ (or-false _ _ (b .0) .0)
+
+pub begin-checked : (c : Core) (w : World) → Taken restartBegin c w → Checked w
+unfolding restartBeginRows imageRows sizesWrong lengthsWrong
+begin-checked c w t =
+    let a = accepted-row _ _ (t .accepted) .1 in
+    let b = accepted-row _ _ a .1 in
+    let d = accepted-row _ _ b .1 in
+    let f = accepted-row _ _ d in
+    let g = accepted-row _ _ (f .1) in
+    let h = accepted-row _ _ (g .1) in
+    record {
+      bounds = not-false _ (f .0);
+      lengths = not-false _ (g .0);
+      tails = tail-right (sizesOn (w .anchor)) w (h .0);
+    }
+
+-- at the start of its log, a disk's rest is the whole retained log
+left-retained : (c : Core) (w : World) (d : ℕ) → tailOf (c .logs) d ≡ tailOn (c .sizes) w d
+    → positionOf c d ≡ startOn (w .anchor) d → logLeft c w d ≡ retained (c .sizes) w d
+unfolding logLeft readDisk retained
+left-retained c w d e f =
+    ap (λ (t : ℕ). scan (c .sizes) (readLog (c .sizes) (w .logs) d t []) t (positionOf c d)) e
+    ∙ ap (λ (p : ℕ). scan (c .sizes) (readLog (c .sizes) (w .logs) d (tailOn (c .sizes) w d) []) (tailOn (c .sizes) w d) p) f
+
+perform-begin : (w : World)
+    → perform (restartBeginTask w .actions) w ≡ withPages w (sets (w .pages) 0 (replicate (total (sizesOn (w .anchor))) 0))
+unfolding restartBeginTask
+perform-begin w = perform-pages 0 (replicate (total (sizesOn (w .anchor))) 0) w
+
+-- the state and the pages that restart begin makes
+module _ (w : World) (k : Checked w) where
+  eight : sizesOn (w .anchor) .disks ≤ 8
+  eight = disks-le (sizesOn (w .anchor)) (k .bounds)
+
+  begun-log : (d : ℕ) → d < sizesOn (w .anchor) .disks → (l : List ℕ)
+      → logLeft (restartBeginTask w .core) (withPages w l) d ≡ logOf (imageOf w) d
+  unfolding restartBeginTask tailOf positionOf tailOn retained
+  begun-log d h l =
+      left-retained (restartBeginTask w .core) (withPages w l) d (getD-per-disk (sizesOn (w .anchor)) (tailOn (sizesOn (w .anchor)) w) d eight h)
+      (getD-per-disk (sizesOn (w .anchor)) (startOn (w .anchor)) d eight h)
+      ∙ sym (image-log w d h (k .tails d h))
+
+  begun-logs : (x : ℕ) (l : List ℕ) → logsLeft (restartBeginTask w .core) (withPages w l) x ≡ gains (imageOf w) (sizesOn (w .anchor) .disks) x
+  unfolding restartBeginTask logsLeft gains imageOf
+  begun-logs x l =
+      xor-below-cong _ _ (sizesOn (w .anchor) .disks)
+      (λ d h. ap (λ (log : Scan). gain (sizesOn (w .anchor)) (epochOn (w .anchor)) log x) (begun-log d h l))
+
+  begun-backup : (x : ℕ) (l : List ℕ) → backupLeft (restartBeginTask w .core) (withPages w l) x ≡ getD (imageOf w .backup) x 0
+  unfolding restartBeginTask backupLeft pageBase sumBelow imageOf
+  begun-backup x l = rw (leb·zero x)
+
+  zeroed : (x : ℕ) → x < total (sizesOn (w .anchor)) → getD (sets (w .pages) 0 (replicate (total (sizesOn (w .anchor))) 0)) x 0 ≡ 0
+  zeroed x h =
+      let n : ℕ = total (sizesOn (w .anchor)) in
+      let long = length-replicate {A = ℕ} n 0 in
+      let fits = lengths (sizesOn (w .anchor)) w (k .lengths) .pages in
+      sets-in (w .pages) 0 (replicate n 0) x (omega arith) (omega arith) (omega arith)
+      ∙ getD-replicate n (x - 0) 0 0 (omega arith)
+
+  begun-progress : Progress (restartBeginTask w .core) (withPages w (sets (w .pages) 0 (replicate (total (sizesOn (w .anchor))) 0)))
+  unfolding restartBeginTask tailOf startOf positionOf tailOn imageOf retainedWords
+  begun-progress =
+      let s : Sizes = sizesOn (w .anchor) in
+      let zeros : List ℕ = replicate (total s) 0 in
+      let long = lengths s w (k .lengths) in
+      let back = length-backup w (k .lengths) in
+      record {
+        stage = refl;
+        sizes = refl;
+        epoch = refl;
+        bounds = k .bounds;
+        lengths = record { pages = length-sets (w .pages) 0 zeros ∙ long .pages; backups = long .backups; logs = long .logs; work = long .work };
+        backup = back;
+        starts = λ d h. getD-per-disk s (startOn (w .anchor)) d eight h;
+        tails = λ d h. getD-per-disk s (tailOn s w) d eight h;
+        room = omega (arith, eight, length-per-disk s (startOn (w .anchor)));
+        positions = λ d h.
+            let e = getD-per-disk s (startOn (w .anchor)) d eight h in
+            let f = getD-per-disk s (tailOn s w) d eight h in
+            let g = k .tails d h in
+            (omega arith, omega arith);
+        page = omega arith;
+        words = λ x h.
+            rw (zeroed x h, begun-backup x (sets (w .pages) 0 zeros), begun-logs x (sets (w .pages) 0 zeros))
+            (⊕-zero-l _ ∙ sym (restarted-word (imageOf w) x back));
+      }
+
+-- after a restart begin that was taken, with the devices as they were
+pub begin-progress : (c : Core) (w : World) → outcomeOf (resultOf restartBegin c w .answer) ≡ taken
+    → Progress (resultOf restartBegin c w .core) (resultOf restartBegin c w .world)
+    × SameDevices (resultOf restartBegin c w .world) w
+begin-progress c w e =
+    let t = taken-call restartBegin c w e in
+    rw (t .core, t .world) (
+      rw (perform-begin w) (begun-progress w (begin-checked c w t)),
+      memory-devices (restartBeginTask w .actions) w (nothing-stored restartBegin c w refl),
+    )

@@ -1,0 +1,138 @@
+-- The power may go at any moment: what holds of an open store makes its image restart to the committed contents.
+use mathlib.Core.Path.{_≡_, refl, sym, ap, ap₂, subst, _∙_}
+use mathlib.Core.List.{List, [], _∷_, _++_}
+use mathlib.Core.Bool.{Bool, true, false, cond, not, _&&_}
+use Prim.Native.Nat.{ℕ, zero, suc, _+_, _≤_, _<_}
+use native.Mathlib.Omega.{arith}
+use lib.Dec.{ltb, eqb, leb·suc-zero}
+use lib.ListN.{length, getD}
+use lib.Seq.{ext-getD}
+use borrow.Author.Tests.{ltb-true, ltb-false, eqb-true, eqb-false, lt-ltb, le-ltb, eq-eqb, ne-eqb}
+use Rattle.model.specs.declared.Sizes.{Sizes}
+use Rattle.model.specs.declared.Core.{Core}
+use Rattle.model.specs.Word.{_⊕_}
+use Rattle.model.specs.Sizes.{total}
+use Rattle.model.specs.Anchor.{sizesOn, epochOn, backupAt}
+use Rattle.model.specs.World.{World}
+use Rattle.model.specs.Memory.{lengthsRight}
+use Rattle.model.specs.State.{startOf}
+use Rattle.model.specs.Image.{Image, imageOf, logOf, restarted}
+use Rattle.model.specs.Reference.{Reference, wordsIn}
+use Rattle.model.proofs.Xor.{⊕-zero-l, ⊕-zero-r, ⊕-assoc, ⊕-comm}
+use Rattle.model.proofs.Slots.{words-length}
+use Rattle.model.proofs.Ledger.Entry.{Entry, isClose, adds, All, closedIn, chosen, mask, sum, pick, onDisk}
+use Rattle.model.proofs.Ledger.Order.{Ordered, on, Laid, entriesScan}
+use Rattle.model.proofs.Ledger.Sums.{sum-append, sum-zero, sum-ext, sum-xor, all-map, all-of, mask-zero}
+use Rattle.model.proofs.Ledger.Picks.{all-pick}
+use Rattle.model.proofs.Ledger.Lists.{all-left}
+use Rattle.model.proofs.Ledger.Positions.{laid-append}
+use Rattle.model.proofs.Ledger.Ordered.{closed-same, closes-last, closesLast}
+use Rattle.model.proofs.Ledger.Good.{Good, recovers}
+use Rattle.model.proofs.Link.Words.{Fit, Link, image-log}
+use Rattle.model.proofs.Restart.Words.{xorBelow, xor-below-cong, getD-part}
+use Rattle.model.proofs.Restart.Gain.{gain, gains, restarted-word, length-restarted}
+use Rattle.model.proofs.Restart.Image.{length-backup}
+use Rattle.model.proofs.Restart.Entries.{gain-entries, ClosesLast}
+use Rattle.model.proofs.Store.View.{Kept, view, Devices, Safe}
+
+-- A sum over all records is the sum over the disks of those on each.
+on-sum : (f : Entry → ℕ) (d : ℕ) (l : List Entry) → sum f (on d l) ≡ sum (λ r. mask (eqb (r .disk) d) (f r)) l
+unfolding on pick sum onDisk
+on-sum f d [] = refl
+on-sum f d (r ∷ l) = go (eqb (r .disk) d) (on-sum f d l)
+  where
+    go : (b : Bool) → sum f (on d l) ≡ sum (λ r. mask (eqb (r .disk) d) (f r)) l
+        → sum f (cond b (r ∷ on d l) (on d l)) ≡ mask b (f r) ⊕ sum (λ r. mask (eqb (r .disk) d) (f r)) l
+    go true e = ap (λ (v : ℕ). f r ⊕ v) e
+    go false e = e ∙ sym (⊕-zero-l _)
+
+one-more : (k n x : ℕ) → mask (ltb k (suc n)) x ≡ mask (eqb k n) x ⊕ mask (ltb k n) x
+one-more k n x = go (ltb k n) (eqb k n) refl refl
+  where
+    go : (p q : Bool) → ltb k n ≡ p → eqb k n ≡ q → mask (ltb k (suc n)) x ≡ mask q x ⊕ mask p x
+    go true true e d = absurd (omega (arith, ltb-true k n e, eqb-true k n d))
+    go true false e d = rw (lt-ltb k (suc n) (omega (arith, ltb-true k n e))) (sym (⊕-zero-l x))
+    go false true e d = rw (lt-ltb k (suc n) (omega (arith, eqb-true k n d))) (sym (⊕-zero-r x))
+    go false false e d = rw (le-ltb k (suc n) (omega (arith, ltb-false k n e, eqb-false k n d))) (sym (⊕-zero-l 0))
+
+below-sum : (f : Entry → ℕ) (l : List Entry) (n : ℕ) → xorBelow (λ d. sum f (on d l)) n ≡ sum (λ r. mask (ltb (r .disk) n) (f r)) l
+unfolding xorBelow
+below-sum f l zero = sym (sum-zero _ l (all-of (λ r. rw (leb·suc-zero (r .disk))) l))
+below-sum f l (suc n) =
+    ap₂ (λ (a b : ℕ). a ⊕ b) (on-sum f n l) (below-sum f l n)
+    ∙ sym (sum-ext _ _ l (all-of (λ r. one-more (r .disk) n (f r)) l) ∙ sum-xor _ _ l)
+
+pub disks-sum : (f : Entry → ℕ) (l : List Entry) (n : ℕ) → All (λ r. r .disk < n) l → xorBelow (λ d. sum f (on d l)) n ≡ sum f l
+disks-sum f l n h = below-sum f l n ∙ sum-ext _ _ l (all-map there l h)
+  where
+    there : (r : Entry) → r .disk < n → mask (ltb (r .disk) n) (f r) ≡ f r
+    there r k = rw (lt-ltb (r .disk) n k)
+
+-- no entry behind a closing record has its number
+last-entries : (l : List Entry) → closesLast l → ClosesLast l
+last-entries [] h = tt
+last-entries (r ∷ l) h = ((λ e. all-map (λ q k. eqb-false (q .number) (r .number) k) l (h .0 e)), last-entries l (h .1))
+
+module _ {x : ℕ} {home : ℕ → ℕ} {c : Core} {w : World} {r : Reference} {F B : List Entry} (g : Safe x home c w r F B) where
+  abbrev s : Sizes
+  s = c .sizes
+
+  fit : All (Fit s) F
+  fit = all-left (Fit s) F B (g .fit)
+
+  -- what a restart chooses of an entry, at word i
+  part-of : ℕ → Entry → ℕ
+  part-of i e = mask (chosen (closedIn F) (c .epoch) e) (adds i e)
+
+  log : (d : ℕ) → d < s .disks → logOf (imageOf w) d ≡ entriesScan (on d F)
+  log d h =
+      image-log (g .link) d h (g .devices .sizes) (g .devices .starts d h) fit
+      (laid-append (startOf (c .logs) d) (on d F) (on d B) (g .ordered .laid d h) .0)
+
+  log-gain : (i d : ℕ) → d < s .disks → gain s (c .epoch) (logOf (imageOf w) d) i ≡ sum (part-of i) (on d F)
+  unfolding part-of on
+  log-gain i d h =
+      rw (log d h)
+      (gain-entries s (c .epoch) (closedIn F) i (on d F) (all-map (λ e k. k .slotted) (on d F) (all-pick (Fit s) _ F fit))
+      (last-entries (on d F) (closes-last (g .ordered) d h))
+      (all-map (λ e k. sym k) (on d F) (closed-same (g .ordered) d)))
+
+  image-sizes : imageOf w .sizes ≡ s
+  unfolding imageOf
+  image-sizes = g .devices .sizes
+
+  image-epoch : imageOf w .epoch ≡ c .epoch
+  unfolding imageOf
+  image-epoch = g .devices .epoch
+
+  all-gains : (i : ℕ) → gains (imageOf w) (s .disks) i ≡ sum (part-of i) F
+  unfolding gains
+  all-gains i =
+      xor-below-cong _ _ (s .disks) (λ d h. ap₂ (λ (z : Sizes) (e : ℕ). gain z e (logOf (imageOf w) d) i) image-sizes image-epoch ∙ log-gain i d h)
+      ∙ disks-sum (part-of i) F (s .disks) (all-left _ F B (g .ordered .inside))
+
+  backup-long : length (imageOf w .backup) ≡ total (imageOf w .sizes)
+  unfolding imageOf
+  backup-long = length-backup w (rw (g .devices .sizes) (g .devices .lengths))
+
+  backup-word : (i : ℕ) → i < total s → getD (imageOf w .backup) i 0 ≡ getD (w .backups) (backupAt s (c .epoch) + i) 0
+  unfolding imageOf
+  backup-word i h = rw (g .devices .sizes, g .devices .epoch) (getD-part (backupAt s (c .epoch)) (total s) (w .backups) i h)
+
+  word : (i : ℕ) → i < total s → getD (restarted (imageOf w)) i 0 ≡ getD (wordsIn (r .committed)) i 0
+  unfolding view part-of
+  word i h =
+      restarted-word (imageOf w) i backup-long
+      ∙ ap₂ (λ (a b : ℕ). a ⊕ b) (backup-word i h) (ap (λ (z : Sizes). gains (imageOf w) (z .disks) i) image-sizes ∙ all-gains i)
+      ∙ recovers (g .good) i h
+
+  -- a restart from this moment on gives what is committed
+  pub kept : Kept w r
+  kept =
+      record {
+        sizes = g .devices .sizes ∙ sym (g .sizes);
+        shaped = rw (g .sizes) (g .shaped);
+        image =
+            ext-getD 0 _ _ (length-restarted (imageOf w) backup-long ∙ ap total image-sizes ∙ sym (words-length s (r .committed) (g .shaped)))
+            (λ i h. word i (subst (λ (n : ℕ). i < n) (length-restarted (imageOf w) backup-long ∙ ap total image-sizes) h));
+      }
