@@ -3,3 +3,4 @@ pub mod Cases
 pub mod View
 pub mod Crash
 pub mod Flush
+pub mod Ready

@@ -1,0 +1,125 @@
+-- Before a record is appended the buffer has room for it, after a flush if need be; cut inside that flush, nothing is lost.
+use mathlib.Core.Path.{_≡_, refl, sym, ap, _∙_}
+use mathlib.Core.List.{List, [], _∷_, _++_}
+use mathlib.Core.Bool.{Bool, true, false, not}
+use Prim.Native.Nat.{ℕ, _+_, _≤_, _<_}
+use native.Mathlib.Omega.{arith}
+use native.Mathlib.Nat.{zero-add}
+use lib.Dec.{leb}
+use lib.ListN.{length}
+use borrow.Author.Tests.{leb-true, leb-false, le-leb, lt-leb}
+use Rattle.model.specs.declared.Logs.{Logs}
+use Rattle.model.specs.declared.Core.{Core}
+use Rattle.model.specs.Sizes.{ringOf}
+use Rattle.model.specs.World.{World, Action, perform, run, stores}
+use Rattle.model.specs.State.{startOf, fillOf, endOf, flushed, withLog}
+use Rattle.model.specs.Append.{Appended, append, appendIf, flush}
+use Rattle.model.specs.Reference.{Reference}
+use Rattle.model.proofs.Flush.{OnlyLogs}
+use Rattle.model.proofs.Ledger.Entry.{Entry}
+use Rattle.model.proofs.Ledger.Order.{on}
+use Rattle.model.proofs.Link.Words.{Arrays}
+use Rattle.model.proofs.Link.Flush.{flush-only, fill-flushed, end-flushed, start-flushed}
+use Rattle.model.proofs.Link.Buffered.{Small}
+use Rattle.model.proofs.Link.Append.{small-flushed}
+use Rattle.model.proofs.Store.View.{Kept, Safe, Serving}
+use Rattle.model.proofs.Store.Crash.{kept}
+use Rattle.model.proofs.Store.Flush.{flushedCore, left, flush-serving, cut-safe}
+
+-- The store with room for n words in the buffer of disk d: `flushing` is the flush, or nothing.
+pub record Ready (x : ℕ) (home : ℕ → ℕ) (c : Core) (w : World) (r : Reference) (d n : ℕ) : Type 0 where
+  pub flushing : List Action
+  pub logs : Logs
+  pub flushed : List Entry
+  pub buffered : List Entry
+  pub serving : Serving x home (withLog c logs (c .table)) (perform flushing w) r flushed buffered
+  pub room : fillOf logs d + n ≤ 64
+  pub small : Small (c .sizes) logs
+  pub starts : (e : ℕ) → startOf logs e ≡ startOf (c .logs) e
+  pub ends : endOf logs d ≡ endOf (c .logs) d
+  pub only : OnlyLogs w (perform flushing w)
+  -- an append is the flush and an append to the room
+  pub split : (words : List ℕ) → length words ≡ n
+      → append (c .sizes) (c .logs) (w .work) d words
+      ≡ record {
+        actions = flushing ++ append (c .sizes) logs (perform flushing w .work) d words .actions;
+        logs = append (c .sizes) logs (perform flushing w .work) d words .logs;
+      }
+  pub cut : (k : ℕ) → k < stores flushing → Kept (run k flushing w) r
+
+-- a core is itself with its own logs and table
+pub same-core : (c : Core) → withLog c (c .logs) (c .table) ≡ c
+unfolding withLog
+same-core c = refl
+
+module _ {x : ℕ} {home : ℕ → ℕ} {c : Core} {w : World} {r : Reference} {F B : List Entry} (g : Serving x home c w r F B)
+  (d n : ℕ) (below : d < c .sizes .disks) (small : Small (c .sizes) (c .logs))
+  (room : endOf (c .logs) d ≤ startOf (c .logs) d + ringOf (c .sizes) d) (short : n ≤ 64) where
+  fits : fillOf (c .logs) d + n ≤ 64 → Ready x home c w r d n
+  unfolding perform withLog stores
+  fits h =
+      record {
+        flushing = [];
+        logs = c .logs;
+        flushed = F;
+        buffered = B;
+        serving = g;
+        room = h;
+        small = small;
+        starts = λ e. refl;
+        ends = refl;
+        only = record { anchor-same = refl; pages-same = refl; backups-same = refl; work-same = refl };
+        split = λ words e. refl;
+        cut = λ k l. absurd (omega arith);
+      }
+
+  abbrev flushing : List Action
+  flushing = flush (c .sizes) (c .logs) (w .work) d
+
+  only : OnlyLogs w (perform flushing w)
+  only = flush-only (c .sizes) (c .logs) w d
+
+  emptied : fillOf (flushed (c .logs) d) d ≡ 0
+  emptied = fill-flushed (c .sizes) (c .logs) d (g .safe .devices .arrays) below
+
+  split : 64 < fillOf (c .logs) d + n → (words : List ℕ) → length words ≡ n
+      → append (c .sizes) (c .logs) (w .work) d words
+      ≡ record {
+        actions = flushing ++ append (c .sizes) (flushed (c .logs) d) (perform flushing w .work) d words .actions;
+        logs = append (c .sizes) (flushed (c .logs) d) (perform flushing w .work) d words .logs;
+      }
+  unfolding append
+  split over words e =
+      rw (
+        only .work-same,
+        lt-leb (fillOf (c .logs) d + length words) 64 (omega arith),
+        emptied,
+        zero-add (length words),
+        le-leb (length words) 64 (omega arith),
+        emptied,
+        zero-add (length words),
+      )
+
+  full : 64 < fillOf (c .logs) d + n → Ready x home c w r d n
+  full over =
+      record {
+        flushing = flushing;
+        logs = flushed (c .logs) d;
+        flushed = F ++ on d B;
+        buffered = left d B;
+        serving = flush-serving g d below room;
+        room = omega (arith, emptied);
+        small = small-flushed d (g .safe .devices .arrays) below small;
+        starts = start-flushed (c .logs) d;
+        ends = end-flushed (c .sizes) (c .logs) d (g .safe .devices .arrays) below;
+        only = only;
+        split = split over;
+        cut = λ k l. kept (cut-safe (g .safe) d below room k l);
+      }
+
+  pub ready : Ready x home c w r d n
+  ready = go (leb (fillOf (c .logs) d + n) 64) refl
+    where
+      go : (b : Bool) → leb (fillOf (c .logs) d + n) 64 ≡ b → Ready x home c w r d n
+      go true e = fits (leb-true _ _ e)
+      go false e = full (leb-false _ _ e)
