@@ -4,3 +4,4 @@ pub mod Flush
 pub mod Parts
 pub mod Buffered
 pub mod Append
+pub mod Abort

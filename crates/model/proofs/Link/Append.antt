@@ -1,35 +1,28 @@
 -- An append puts an entry behind the buffered ones of its disk, after a flush of that disk where its words do not fit.
-use mathlib.Core.Path.{_≡_, refl, sym, ap, _∙_}
-use mathlib.Core.List.{List, [], _∷_, _++_, append-nil}
-use mathlib.Core.Bool.{Bool, true, false, not}
-use Prim.Native.Nat.{ℕ, zero, suc, _+_, _*_, _-_, _≤_, _<_}
+use mathlib.Core.Path.{_≡_, refl, sym, _∙_}
+use mathlib.Core.List.{List, [], _∷_, _++_}
+use mathlib.Core.Bool.{not}
+use Prim.Native.Nat.{ℕ, _+_, _≤_, _<_}
 use native.Mathlib.Omega.{arith}
 use native.Mathlib.Decide.{ℕ-discrete, decLt}
 use native.Mathlib.Nat.{zero-add}
-use lib.ListN.{length, getD, set, length-set, length-append}
-use lib.Seq.{sets, getD-set-same, getD-set-other, set-set}
+use lib.ListN.{length}
 use borrow.Author.Tests.{le-leb, lt-leb}
 use Rattle.model.specs.declared.Sizes.{Sizes}
 use Rattle.model.specs.declared.Logs.{Logs}
-use Rattle.model.specs.Word.{part}
-use Rattle.model.specs.Sizes.{total, ringOf, tailWord, ringWord}
+use Rattle.model.specs.Sizes.{ringOf}
 use Rattle.model.specs.Record.{encode}
-use Rattle.model.specs.World.{World, Action, work, perform, stores, run, each}
-use Rattle.model.specs.Memory.{bufferWords, bufferAt, bufferOf, epochAt, workWords}
-use Rattle.model.specs.State.{startOf, tailOf, fillOf, endOf, withFill, flushed}
-use Rattle.model.specs.Causes.{tailOn}
+use Rattle.model.specs.World.{World, work, perform, stores, run}
+use Rattle.model.specs.Memory.{bufferAt}
+use Rattle.model.specs.State.{startOf, fillOf, endOf, withFill, flushed}
 use Rattle.model.specs.Append.{Appended, flush, buffered, append}
 use Rattle.model.proofs.Run.{perform-append, perform-work, run-cut}
 use Rattle.model.proofs.Lengths.{Lengths}
 use Rattle.model.proofs.Counts.{append-fits, append-flushes}
-use Rattle.model.proofs.Reader.{Holds}
-use Rattle.model.proofs.Flush.{OnlyLogs}
 use Rattle.model.proofs.Ledger.Entry.{Entry, recordOf, pick, onDisk}
-use Rattle.model.proofs.Ledger.Order.{sizeOf, wordsOf, on}
-use Rattle.model.proofs.Ledger.Lists.{on-more, on-less, words-append, words-first, words-none, length-words-append, length-words}
+use Rattle.model.proofs.Ledger.Order.{sizeOf, on}
 use Rattle.model.proofs.Link.Words.{Arrays, Link, lengths-perform}
-use Rattle.model.proofs.Link.Flush.{tail-flushed, fill-flushed, end-flushed, arrays-flushed, start-flushed, tail-flushed-other, fill-flushed-other, flush-only, flush-link}
-use Rattle.model.proofs.Link.Parts.{getD-sets-before, getD-sets-behind, part-sets-before, part-sets-behind, part-sets-end}
+use Rattle.model.proofs.Link.Flush.{fill-flushed, end-flushed, arrays-flushed, start-flushed, tail-flushed-other, fill-flushed-other, flush-only, flush-link}
 use Rattle.model.proofs.Link.Buffered.{Small, Longer, InBuffer, after-flush, put-longer, put-in-buffer, put-link}
 
 -- The two cases of an append.
@@ -63,7 +56,7 @@ module _ {s : Sizes} {l : Logs} (w : World) (a : Arrays s l) (small : Small s l)
   unfolding sizeOf
   flushed-longer =
       let more =
-      put-longer s (flushed l d) w (arrays-flushed s l d a below) (small-flushed d a below small) d below 0 (sizeOf r)
+      put-longer s (flushed l d) (arrays-flushed s l d a below) (small-flushed d a below small) d below 0 (sizeOf r)
       (encode (recordOf r)) (sym (fill-flushed s l d a below)) (sym (zero-add (sizeOf r))) short in
       record {
         start-same = λ e. more .start-same e ∙ start-flushed l d e;
@@ -82,7 +75,7 @@ module _ {s : Sizes} {l : Logs} (w : World) (a : Arrays s l) (small : Small s l)
       go (yes over) = rw (append-is-flush s l (w .work) d (encode (recordOf r)) over) flushed-longer
       go (no fits) =
           rw (append-is-put s l (w .work) d (encode (recordOf r)) (omega arith))
-          (put-longer s l w a small d below (fillOf l d) (fillOf l d + sizeOf r) (encode (recordOf r)) refl refl (omega arith))
+          (put-longer s l a small d below (fillOf l d) (fillOf l d + sizeOf r) (encode (recordOf r)) refl refl (omega arith))
 
   pub append-in-buffer : InBuffer s d w (perform (added .actions) w)
   unfolding sizeOf
@@ -123,10 +116,11 @@ module _ {s : Sizes} {l : Logs} {w : World} {F B : List Entry} (k : Link s l w F
     room-stores = append-fits s l (w .work) d (encode (recordOf r)) fits
 
   -- Where they do not fit, the disk is flushed first.
-  module _ (over : 64 < fillOf l d + sizeOf r) (room : endOf l d ≤ startOf l d + ringOf s d) where
-    pub append-full : Link s (appended .logs) (perform (appended .actions) w) (F ++ on d B) (pick (λ q. not (onDisk d q)) B ++ r ∷ [])
+  module _ (over : 64 < fillOf l d + sizeOf r) where
+    pub append-full : endOf l d ≤ startOf l d + ringOf s d
+        → Link s (appended .logs) (perform (appended .actions) w) (F ++ on d B) (pick (λ q. not (onDisk d q)) B ++ r ∷ [])
     unfolding sizeOf
-    append-full =
+    append-full room =
         rw (append-is-flush s l (w .work) d (encode (recordOf r)) over, perform-append)
         (put-link (flush-link k right a d below room) (lengths-perform (flush s l (w .work) d) right) (arrays-flushed s l d a below)
         (small-flushed d a below small) d below r here 0 (sizeOf r) (sym (fill-flushed s l d a below)) (sym (zero-add (sizeOf r))) short)

@@ -1,35 +1,29 @@
 -- Words put into the buffer of a disk: one more entry is buffered, and nothing else in the memories changes.
 use mathlib.Core.Path.{_≡_, refl, sym, ap, _∙_}
 use mathlib.Core.List.{List, [], _∷_, _++_, append-nil}
-use mathlib.Core.Bool.{Bool, true, false, not}
-use Prim.Native.Nat.{ℕ, zero, suc, _+_, _*_, _-_, _≤_, _<_}
+use Prim.Native.Nat.{ℕ, _+_, _≤_, _<_}
 use native.Mathlib.Omega.{arith}
 use native.Mathlib.Decide.{ℕ-discrete, decLt}
-use native.Mathlib.Nat.{zero-add}
-use lib.ListN.{length, getD, set, length-set, length-append}
-use lib.Seq.{sets, getD-set-same, getD-set-other, set-set}
-use borrow.Author.Tests.{le-leb, lt-leb}
+use lib.ListN.{length, getD, length-set, length-append}
+use lib.Seq.{sets, getD-set-same, getD-set-other}
 use Rattle.model.specs.declared.Sizes.{Sizes}
 use Rattle.model.specs.declared.Logs.{Logs}
 use Rattle.model.specs.Word.{part}
-use Rattle.model.specs.Sizes.{total, ringOf, tailWord, ringWord}
+use Rattle.model.specs.Sizes.{total}
 use Rattle.model.specs.Record.{encode}
-use Rattle.model.specs.World.{World, Action, work, perform, stores, run, each}
-use Rattle.model.specs.Memory.{bufferWords, bufferAt, bufferOf, epochAt, workWords}
-use Rattle.model.specs.State.{startOf, tailOf, fillOf, endOf, withFill, flushed}
+use Rattle.model.specs.World.{World, work, perform}
+use Rattle.model.specs.Memory.{bufferAt, bufferOf, epochAt, workWords}
+use Rattle.model.specs.State.{startOf, tailOf, fillOf, endOf, withFill}
 use Rattle.model.specs.Causes.{tailOn}
-use Rattle.model.specs.Append.{Appended, flush, buffered, append}
-use Rattle.model.proofs.Run.{perform-append, perform-work, run-cut}
+use Rattle.model.specs.Append.{buffered}
+use Rattle.model.proofs.Run.{perform-work}
 use Rattle.model.proofs.Lengths.{Lengths}
-use Rattle.model.proofs.Counts.{append-fits, append-flushes}
-use Rattle.model.proofs.Reader.{Holds}
 use Rattle.model.proofs.Flush.{OnlyLogs}
-use Rattle.model.proofs.Ledger.Entry.{Entry, recordOf, pick, onDisk}
+use Rattle.model.proofs.Ledger.Entry.{Entry, recordOf}
 use Rattle.model.proofs.Ledger.Order.{sizeOf, wordsOf, on}
-use Rattle.model.proofs.Ledger.Lists.{on-more, on-less, words-append, words-first, words-none, length-words-append, length-words}
-use Rattle.model.proofs.Link.Words.{Arrays, Link, lengths-perform}
-use Rattle.model.proofs.Link.Flush.{tail-flushed, fill-flushed, end-flushed, arrays-flushed, start-flushed, tail-flushed-other, fill-flushed-other, flush-only, flush-link}
-use Rattle.model.proofs.Link.Parts.{getD-sets-before, getD-sets-behind, part-sets-before, part-sets-behind, part-sets-end}
+use Rattle.model.proofs.Ledger.Lists.{on-more, on-less, words-append, words-first, words-none}
+use Rattle.model.proofs.Link.Words.{Arrays, Link}
+use Rattle.model.proofs.Link.Parts.{part-cong, getD-sets-before, getD-sets-behind, part-sets-before, part-sets-behind, part-sets-end}
 
 -- every buffer has at most its 64 words
 abbrev pub Small : Sizes → Logs → Type 0
@@ -84,7 +78,7 @@ unfolding fillOf withFill
 fill-set-other l d n e ne = getD-set-other (l .fills) d e n 0 ne
 
 -- Words put into the buffer behind the n words that it has; m is how many it has then.
-module _ (s : Sizes) (l : Logs) (w : World) (a : Arrays s l) (small : Small s l) (d : ℕ) (below : d < s .disks)
+module _ (s : Sizes) (l : Logs) (a : Arrays s l) (small : Small s l) (d : ℕ) (below : d < s .disks)
     (n m : ℕ) (words : List ℕ) (now : n ≡ fillOf l d) (next : m ≡ n + length words) (fits : m ≤ 64) where
   fill-now : fillOf (withFill l d m) d ≡ m
   fill-now = fill-set l d m (omega (arith, a .fills, a .disks))
@@ -193,3 +187,24 @@ module _ {s : Sizes} {l : Logs} {w : World} {F B : List Entry} (k : Link s l w F
   put-link =
       rw (perform-work (bufferAt s d + n) words w)
       (record { held = k .held; tail = k .tail; stored = k .stored; buffer = buffer-put; fill = fill-put })
+
+-- A world with the same logs and the same words in the buffers has the same entries.
+module _ {s : Sizes} (l : Logs) {w v : World} (right : Lengths s w) (also : Lengths s v) (small : Small s l)
+    (work-same : (i : ℕ) → total s ≤ i → i < bufferAt s (s .disks) → getD (v .work) i 0 ≡ getD (w .work) i 0) where
+  buffer-same : (e : ℕ) → e < s .disks → bufferOf s (v .work) e (fillOf l e) ≡ bufferOf s (w .work) e (fillOf l e)
+  unfolding bufferOf bufferAt workWords epochAt
+  buffer-same e h =
+      let few = small e h in
+      part-cong (bufferAt s e) (fillOf l e) (v .work) (w .work) (omega (arith, also .work)) (omega (arith, right .work))
+      (λ i x y. work-same i (omega arith) (omega arith))
+
+  pub link-frame : {F B : List Entry} → v .logs ≡ w .logs → Link s l w F B → Link s l v F B
+  unfolding tailOn
+  link-frame logs-same k =
+      record {
+        held = rw logs-same (k .held);
+        tail = k .tail;
+        stored = rw logs-same (k .stored);
+        buffer = λ e h. buffer-same e h ∙ k .buffer e h;
+        fill = k .fill;
+      }

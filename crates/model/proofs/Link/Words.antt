@@ -1,27 +1,27 @@
 -- The link of words and records: the ring of each disk holds the words of its flushed records, and its buffer those of the
 -- buffered ones. So the retained log of a disk reads as its flushed records, and as no others.
 use mathlib.Core.Path.{_≡_, refl, sym, ap₂, _∙_}
-use mathlib.Core.List.{List, [], _∷_, _++_, map, append-nil}
-use mathlib.Core.Bool.{Bool, true, false, cond}
+use mathlib.Core.List.{List, [], _∷_, map}
+use mathlib.Core.Bool.{false}
 use Prim.Native.Nat.{ℕ, _+_, _-_, _≤_, _<_}
 use native.Mathlib.Omega.{arith}
 use lib.ListN.{length, getD}
 use Rattle.model.specs.declared.Sizes.{Sizes}
 use Rattle.model.specs.declared.Logs.{Logs}
-use Rattle.model.specs.Sizes.{slotBase, ringOf, tailWord, ringWord}
+use Rattle.model.specs.Sizes.{slotBase, ringOf, ringWord}
 use Rattle.model.specs.Anchor.{sizesOn, startOn}
-use Rattle.model.specs.Record.{Record, encode, encodeAll}
-use Rattle.model.specs.Decode.{readLog, span}
+use Rattle.model.specs.Record.{encode}
+use Rattle.model.specs.Decode.{readLog}
 use Rattle.model.specs.Scan.{Scan, item, scan}
 use Rattle.model.specs.World.{World, Action, perform, covered, run}
 use Rattle.model.specs.Memory.{bufferOf}
 use Rattle.model.specs.State.{startOf, tailOf, fillOf}
-use Rattle.model.specs.Causes.{tailOn}
+use Rattle.model.specs.Causes.{tailOn, retained as retainedScan}
 use Rattle.model.specs.Image.{retainedWords, imageOf, logOf}
 use Rattle.model.proofs.Below.{getD-list}
 use Rattle.model.proofs.Run.{perform-lengths}
 use Rattle.model.proofs.Lengths.{Lengths}
-use Rattle.model.proofs.Reader.{Holds, holds-from, holds-agree, read-ring, read-holds, span-holds}
+use Rattle.model.proofs.Reader.{Holds, holds-from, holds-agree, read-ring, span-holds}
 use Rattle.model.proofs.RoundTrip.{WellFormed, AllWellFormed, placed, scan-placed}
 use Rattle.model.proofs.Ledger.Entry.{Entry, isClose, recordOf, All}
 use Rattle.model.proofs.Ledger.Order.{sizeOf, wordsOf, on, Laid, entriesScan}
@@ -111,6 +111,11 @@ module _ {s : Sizes} {l : Logs} {w : World} {F B : List Entry} (k : Link s l w F
   scans fit laid =
       scan-entries s _ (tailOn s w d) (startOf l d) (on d F) (fit-on s d F fit) laid retained-holds
       (k .stored d below ∙ k .tail d below)
+
+  pub retained-scan : startOn (w .anchor) d ≡ startOf l d → All (Fit s) F → Laid (startOf l d) (on d F)
+      → retainedScan s w d ≡ entriesScan (on d F)
+  unfolding retainedScan
+  retained-scan e fit laid = rw e (scans fit laid)
 
   -- and so is the log of the image, where the anchor has the sizes and the start
   pub image-log : sizesOn (w .anchor) ≡ s → startOn (w .anchor) d ≡ startOf l d → All (Fit s) F → Laid (startOf l d) (on d F)
