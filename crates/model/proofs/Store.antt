@@ -5,3 +5,4 @@ pub mod View
 pub mod Crash
 pub mod Flush
 pub mod Ready
+pub mod Logged

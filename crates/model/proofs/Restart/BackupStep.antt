@@ -1,7 +1,6 @@
 -- A restart step from the backup keeps the progress: the page that it takes adds to the pages what the rest of the backup has less.
-use mathlib.Core.Path.{_≡_, refl, sym, ap, _∙_}
+use mathlib.Core.Path.{_≡_, sym, ap, _∙_}
 use mathlib.Core.List.{List}
-use mathlib.Core.Bool.{true, false}
 use Prim.Native.Nat.{ℕ, _+_, _-_, _≤_, _<_}
 use native.Mathlib.Omega.{arith}
 use native.Mathlib.Decide.{decLt}
@@ -12,7 +11,7 @@ use Rattle.model.specs.declared.Sizes.{Sizes}
 use Rattle.model.specs.declared.Core.{Core}
 use Rattle.model.specs.Word.{_⊕_, part}
 use Rattle.model.specs.Sizes.{pageBase, pageWords, total}
-use Rattle.model.specs.Anchor.{epochOn, sizesOn, backupAt}
+use Rattle.model.specs.Anchor.{backupAt}
 use Rattle.model.specs.World.{World, perform}
 use Rattle.model.specs.Causes.{tailOn}
 use Rattle.model.specs.Restart.{positionOf, withReplay, readDisk, backupStep}

@@ -1,20 +1,18 @@
 -- The records of a ledger as a log: their gain is the sum that the ledger's invariant speaks of.
-use mathlib.Core.Path.{_≡_, refl, sym, ap, ap₂, _∙_}
+use mathlib.Core.Path.{_≡_, refl, sym, ap, _∙_}
 use mathlib.Core.List.{List, [], _∷_}
-use mathlib.Core.Bool.{Bool, true, false, cond, not, _&&_, _||_, true≢false}
-use Prim.Native.Nat.{ℕ, _+_, _≤_, _<_}
-use native.Mathlib.Omega.{arith}
+use mathlib.Core.Bool.{Bool, true, false, cond, not, _&&_, _||_}
+use Prim.Native.Nat.{ℕ}
 use lib.Dec.{leb, ltb, eqb}
 use borrow.Author.Tests.{leb-true, leb-false, lt-ltb, le-ltb, ne-eqb}
 use Rattle.model.specs.declared.Sizes.{Sizes}
-use Rattle.model.specs.declared.Fate.{Fate}
 use Rattle.model.specs.declared.Fate.the-variants.{Closed, Unclosed}
 use Rattle.model.specs.Word.{_⊕_}
 use Rattle.model.specs.Sizes.{slotBase}
-use Rattle.model.specs.Record.{Record, change, close, inBackup}
+use Rattle.model.specs.Record.{change, close, inBackup}
 use Rattle.model.specs.Scan.{Scan, end, item, fateIn}
 use Rattle.model.specs.Restart.{replays}
-use Rattle.model.proofs.Ledger.Entry.{Entry, isClose, recordOf, mask, sum, some, All, share, adds, closedIn, chosen}
+use Rattle.model.proofs.Ledger.Entry.{Entry, isClose, recordOf, mask, sum, some, All, adds, closedIn, chosen}
 use Rattle.model.proofs.Ledger.Order.{entriesScan}
 use Rattle.model.proofs.Ledger.Sums.{mask-zero}
 use Rattle.model.proofs.Xor.{⊕-zero-l}
@@ -42,14 +40,14 @@ record-change : (r : Entry) → isClose r ≡ false
 unfolding recordOf
 record-change r e = rw e
 
-closed-cons : (r : Entry) (l : List Entry) (t : ℕ) → closedIn (r ∷ l) t ≡ (isClose r && eqb (r .number) t || closedIn l t)
+pub closed-cons : (r : Entry) (l : List Entry) (t : ℕ) → closedIn (r ∷ l) t ≡ (isClose r && eqb (r .number) t || closedIn l t)
 unfolding closedIn some
 closed-cons r l t = refl
 
 closed-change : (r : Entry) (l : List Entry) (t : ℕ) → isClose r ≡ false → closedIn (r ∷ l) t ≡ closedIn l t
 closed-change r l t e = rw (closed-cons r l t, e)
 
-closed-other : (r : Entry) (l : List Entry) (t : ℕ) → (t ≡ r .number → ⊥) → closedIn (r ∷ l) t ≡ closedIn l t
+pub closed-other : (r : Entry) (l : List Entry) (t : ℕ) → (t ≡ r .number → ⊥) → closedIn (r ∷ l) t ≡ closedIn l t
 closed-other r l t ne = rw (closed-cons r l t, ne-eqb (r .number) t (λ e. ne (sym e))) (go (isClose r))
   where
     go : (b : Bool) → (b && false || closedIn l t) ≡ closedIn l t

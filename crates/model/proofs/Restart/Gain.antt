@@ -1,6 +1,6 @@
 -- What the replay of a log adds to each word of the pages, and so what a restart makes of an image, word by word.
-use mathlib.Core.Path.{_≡_, refl, sym, ap, subst, _∙_}
-use mathlib.Core.List.{List, [], _∷_}
+use mathlib.Core.Path.{_≡_, refl, sym, ap, _∙_}
+use mathlib.Core.List.{List}
 use mathlib.Core.Bool.{Bool, true, false, cond}
 use Prim.Native.Nat.{ℕ, zero, suc, _+_, _-_, _*_, _≤_, _<_}
 use native.Mathlib.Omega.{arith}
@@ -12,13 +12,13 @@ use Rattle.model.specs.declared.Decoded.{Decoded}
 use Rattle.model.specs.declared.Decoded.the-variants.{Change, Close, Malformed}
 use Rattle.model.specs.Word.{_⊕_}
 use Rattle.model.specs.Sizes.{slotsIn, widthIn, pageWords, pageBase, slotBase, total}
-use Rattle.model.specs.Record.{Record, change, close}
+use Rattle.model.specs.Record.{change, close}
 use Rattle.model.specs.Decode.{span, decodeAt}
 use Rattle.model.specs.Scan.{Scan, end, bad, item, scanned, scan, fateIn}
 use Rattle.model.specs.Restart.{replays}
 use Rattle.model.specs.Image.{Image, xorAt, replayed, logOf, replayedBelow, restarted}
 use Rattle.model.proofs.Ledger.Entry.{mask, share}
-use Rattle.model.proofs.Xor.{⊕-assoc, ⊕-comm, ⊕-zero-l, ⊕-zero-r}
+use Rattle.model.proofs.Xor.{⊕-assoc, ⊕-comm, ⊕-zero-r}
 use Rattle.model.proofs.Below.{sum-term}
 use Rattle.model.proofs.Decode.{Found, found}
 use Rattle.model.proofs.Scan.{scan-end, scan-step}

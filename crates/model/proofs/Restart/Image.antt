@@ -1,46 +1,29 @@
 -- The image that a restart sees: the scans of its logs are the device's, and what may be stored and leave it as it is.
-use mathlib.Core.Path.{_≡_, refl, sym, ap, ap₂, _∙_}
+use mathlib.Core.Path.{_≡_, refl, sym, ap, _∙_}
 use mathlib.Core.List.{List, [], _∷_}
-use mathlib.Core.Bool.{Bool, true, false, cond, _&&_, and-eq-true-iff}
+use mathlib.Core.Bool.{true, and-eq-true-iff}
 use Prim.Native.Nat.{ℕ, zero, suc, _+_, _-_, _*_, _%_, _≤_, _<_}
 use native.Mathlib.Omega.{arith}
-use native.Mathlib.Decide.{decLt}
-use native.Mathlib.Nat.{mul-le-mul-right, zero-mul, one-mul, add-zero}
+use native.Mathlib.Nat.{mul-le-mul-right, one-mul, add-zero}
 use lib.Dec.{leb, eqb}
-use lib.ListN.{length, getD, take, drop, set}
-use lib.Seq.{getD-set-other, drop-set-lt, drop-set-add, take-set-le}
+use lib.ListN.{length, getD}
 use borrow.Author.Tests.{eqb-true, leb-true}
 use Rattle.model.specs.declared.Sizes.{Sizes}
-use Rattle.model.specs.Below.{within, allBelow, listBelow}
-use Rattle.model.specs.Word.{part}
+use Rattle.model.specs.Below.{within, allBelow}
+use Rattle.model.specs.Word.{_⊕_, part}
 use Rattle.model.specs.Sizes.{total, logWords, entryInBounds, sizesInBounds}
-use Rattle.model.specs.Anchor.{epochOn, sizesOn, startOn, startWord, backupAt}
+use Rattle.model.specs.Anchor.{epochOn, sizesOn, startOn, backupAt}
 use Rattle.model.specs.Decode.{readLog, span}
 use Rattle.model.specs.Scan.{Scan, scan}
 use Rattle.model.specs.World.{World, anchor, backups, logs, pages, work, Action, store, write, cost, act, perform, stores}
 use Rattle.model.specs.Memory.{workWords, lengthsRight}
 use Rattle.model.specs.Causes.{tailOn, retained}
-use Rattle.model.specs.Image.{Image, retainedWords, imageOf, logOf}
-use Rattle.model.proofs.Ledger.Entry.{All}
+use Rattle.model.specs.Image.{retainedWords, imageOf, logOf, restarted}
 use Rattle.model.proofs.Below.{list-cong, getD-list}
+use Rattle.model.proofs.Lengths.{lengths-right}
 use Rattle.model.proofs.Scan.{scan-cong}
-use Rattle.model.proofs.Restart.Words.{length-part}
-use Rattle.model.proofs.Restart.Gain.{length-span}
-
--- the lengths of the lent lists
-pub record Lengths (s : Sizes) (w : World) : Type 0 where
-  pub pages : length (w .pages) ≡ total s
-  pub backups : length (w .backups) ≡ 2 * total s
-  pub logs : length (w .logs) ≡ logWords s
-  pub work : length (w .work) ≡ workWords s
-
-pub lengths : (s : Sizes) (w : World) → lengthsRight s w ≡ true → Lengths s w
-unfolding lengthsRight
-lengths s w e =
-    let a = and-eq-true-iff _ _ .0 e in
-    let b = and-eq-true-iff _ _ .0 (a .0) in
-    let c = and-eq-true-iff _ _ .0 (b .0) in
-    record { pages = eqb-true _ _ (c .0); backups = eqb-true _ _ (c .1); logs = eqb-true _ _ (b .1); work = eqb-true _ _ (a .1) }
+use Rattle.model.proofs.Restart.Words.{length-part, xorBelow, xor-below-cong}
+use Rattle.model.proofs.Restart.Gain.{gain, gains, length-span, restarted-word}
 
 pub disks-le : (s : Sizes) → sizesInBounds s ≡ true → s .disks ≤ 8
 unfolding sizesInBounds within
@@ -64,7 +47,7 @@ pub length-backup : (w : World) → lengthsRight (sizesOn (w .anchor)) w ≡ tru
 unfolding imageOf
 length-backup w e =
     let s : Sizes = sizesOn (w .anchor) in
-    let long = lengths s w e .backups in
+    let long = lengths-right s w e .backups in
     length-part (backupAt s (epochOn (w .anchor))) (total s) (w .backups) (omega (arith, backup-within s (epochOn (w .anchor))))
 
 -- The scan of a log of the image is the scan of the device's log from the current start to the tail.
@@ -91,6 +74,19 @@ image-log w d h l =
     span-scan s (readLog s (w .logs) d (tailOn s w d) []) (startOn (w .anchor) d) (tailOn s w d) _ _ l
     (getD-list (startOn (w .anchor)) (s .disks) d 0 h)
     (getD-list (retainedWords s w) (s .disks) d [] h)
+
+-- the pages that a restart makes, by the device's words
+pub image-word : (w : World) (x : ℕ) → lengthsRight (sizesOn (w .anchor)) w ≡ true
+    → ((d : ℕ) → d < sizesOn (w .anchor) .disks → startOn (w .anchor) d ≤ tailOn (sizesOn (w .anchor)) w d)
+    → getD (restarted (imageOf w)) x 0
+    ≡ getD (imageOf w .backup) x 0
+    ⊕ xorBelow (λ d. gain (sizesOn (w .anchor)) (epochOn (w .anchor)) (retained (sizesOn (w .anchor)) w d) x) (sizesOn (w .anchor) .disks)
+unfolding gains imageOf
+image-word w x long tails =
+    restarted-word (imageOf w) x (length-backup w long)
+    ∙ ap (λ (g : ℕ). getD (imageOf w .backup) x 0 ⊕ g)
+    (xor-below-cong _ _ (sizesOn (w .anchor) .disks)
+    (λ d h. ap (λ (log : Scan). gain (sizesOn (w .anchor)) (epochOn (w .anchor)) log x) (image-log w d h (tails d h))))
 
 -- Worlds with the same sizes, epoch, current backup, starts and retained words have the same image.
 pub image-same : (v w : World) → sizesOn (v .anchor) ≡ sizesOn (w .anchor) → epochOn (v .anchor) ≡ epochOn (w .anchor)

@@ -1,41 +1,32 @@
 -- A restart step from a log keeps the progress: the record that it takes adds to the pages what the rest of the log has less.
 use mathlib.Core.Path.{_≡_, refl, sym, ap, _∙_}
-use mathlib.Core.List.{List, [], _∷_, _++_}
+use mathlib.Core.List.{List, []}
 use mathlib.Core.Bool.{Bool, true, false, cond, not}
-use Prim.Native.Nat.{ℕ, zero, suc, _+_, _-_, _≤_, _<_}
+use Prim.Native.Nat.{ℕ, _+_, _≤_, _<_}
 use native.Mathlib.Omega.{arith}
-use native.Mathlib.Decide.{decLt, ℕ-discrete}
-use lib.Dec.{leb, ltb, eqb}
-use lib.ListN.{length, getD, set, length-set}
-use lib.Seq.{getD-set-same, getD-set-other, ext-getD}
-use borrow.Author.Tests.{le-leb, lt-leb, ltb-true, ltb-false, eqb-true, eqb-false, not-false, lt-ltb, le-ltb, eq-eqb}
+use native.Mathlib.Decide.{ℕ-discrete}
+use lib.ListN.{length, getD, length-set}
+use lib.Seq.{getD-set-same, getD-set-other}
 use Rattle.model.specs.declared.Sizes.{Sizes}
 use Rattle.model.specs.declared.Core.{Core}
 use Rattle.model.specs.declared.Decoded.{Decoded}
 use Rattle.model.specs.declared.Decoded.the-variants.{Change, Close, Malformed}
-use Rattle.model.specs.Word.{_⊕_, part}
-use Rattle.model.specs.Sizes.{pageBase, pageWords, slotBase, total}
-use Rattle.model.specs.Anchor.{epochOn, sizesOn, backupAt}
+use Rattle.model.specs.Word.{_⊕_}
+use Rattle.model.specs.Sizes.{slotBase, total}
 use Rattle.model.specs.Decode.{span, decodeAt}
 use Rattle.model.specs.Scan.{Scan, scan, fateIn}
 use Rattle.model.specs.World.{World, perform}
 use Rattle.model.specs.State.{startOf, tailOf}
-use Rattle.model.specs.Causes.{sourceMissing, tailOn}
+use Rattle.model.specs.Causes.{tailOn}
 use Rattle.model.specs.Abort.{xorIn}
-use Rattle.model.specs.Restart.{replays, positionOf, remaining, withReplay, readDisk, fateFrom, nextRecord, movedTo, backupStep, recordStep, restartStepRows, restartStepTask}
-use Rattle.model.specs.Reference.{taken, outcomeOf}
-use Rattle.model.specs.Call.{restartStep, resultOf}
+use Rattle.model.specs.Restart.{replays, positionOf, withReplay, readDisk, fateFrom, nextRecord, movedTo, recordStep}
 use Rattle.model.specs.Image.{retainedWords, imageOf, xorAt, restarted}
 use Rattle.model.proofs.Ledger.Entry.{mask, share}
 use Rattle.model.proofs.Xor.{xor, ⊕-zero-l, ⊕-zero-r}
-use Rattle.model.proofs.Below.{sum-step, sum-mono}
-use Rattle.model.proofs.Decode.{ChangeAt, CloseAt, found-change, found-close}
-use Rattle.model.proofs.Scan.{scan-end, scan-change, scan-close}
-use Rattle.model.proofs.Storeless.{nothing-stored}
-use Rattle.model.proofs.Restart.Words.{spanning-in, spanning-before, spanning-after, length-part, getD-part, length-xor-at, xor-at-word, withPages, perform-xor, xorBelow, xor-below-less}
-use Rattle.model.proofs.Restart.Gain.{gain, page-within, slot-within, length-span, choice-length, choice-word}
-use Rattle.model.proofs.Restart.Image.{Lengths, backup-within, SameDevices, memory-devices}
-use Rattle.model.proofs.Restart.Taken.{accepted-row, Taken, taken-call}
+use Rattle.model.proofs.Decode.{found-change, found-close}
+use Rattle.model.proofs.Scan.{scan-change, scan-close}
+use Rattle.model.proofs.Restart.Words.{withPages, perform-xor, xor-below-less}
+use Rattle.model.proofs.Restart.Gain.{gain, slot-within, length-span, choice-length, choice-word}
 use Rattle.model.proofs.Restart.Progress.{logLeft, backupLeft, logsLeft, Progress}
 
 -- the words stay right where a step adds `v` to a word and what is to come has `v` less

@@ -1,28 +1,26 @@
 -- A restart under way: the pages so far and what the steps to come add make the image's pages. It holds after restart begin.
-use mathlib.Core.Path.{_≡_, refl, sym, ap, subst₂, _∙_}
-use mathlib.Core.List.{List, [], _∷_}
-use mathlib.Core.Bool.{Bool, true, false, cond, _||_}
-use Prim.Native.Nat.{ℕ, zero, suc, _+_, _-_, _*_, _≤_, _<_}
+use mathlib.Core.Path.{_≡_, refl, sym, ap, _∙_}
+use mathlib.Core.List.{List, []}
+use mathlib.Core.Bool.{true, false, cond}
+use Prim.Native.Nat.{ℕ, _-_, _≤_, _<_}
 use native.Mathlib.Omega.{arith}
-use native.Mathlib.Decide.{decLt}
-use lib.Dec.{leb, ltb, eqb, leb·zero}
+use lib.Dec.{leb, ltb, leb·zero}
 use lib.ListN.{length, getD, replicate, length-replicate, getD-replicate}
 use lib.Seq.{sets, length-sets}
 use borrow.Author.Tests.{lt-ltb, ltb-false, not-false}
 use Rattle.model.specs.declared.Stage.the-variants.{Replaying}
 use Rattle.model.specs.declared.Sizes.{Sizes}
-use Rattle.model.specs.declared.Logs.{Logs}
 use Rattle.model.specs.declared.Core.{Core}
 use Rattle.model.specs.Below.{sumBelow}
 use Rattle.model.specs.Word.{_⊕_}
-use Rattle.model.specs.Sizes.{pageBase, total, ringOf, sizesInBounds}
+use Rattle.model.specs.Sizes.{pageBase, total, sizesInBounds}
 use Rattle.model.specs.Anchor.{epochOn, sizesOn, startOn}
 use Rattle.model.specs.Decode.{readLog}
 use Rattle.model.specs.Scan.{Scan, scan}
 use Rattle.model.specs.World.{World, perform, pages}
 use Rattle.model.specs.Memory.{lengthsRight}
-use Rattle.model.specs.State.{limit, startOf, tailOf}
-use Rattle.model.specs.Causes.{anchorWrong, sizesWrong, lengthsWrong, tailOn, tailWrong, wrongTail, retained}
+use Rattle.model.specs.State.{startOf, tailOf}
+use Rattle.model.specs.Causes.{sizesWrong, lengthsWrong, tailOn, tailWrong, wrongTail, retained}
 use Rattle.model.specs.Checkpoint.{perDisk}
 use Rattle.model.specs.Restart.{positionOf, readDisk, imageRows, restartBeginRows, restartBeginTask}
 use Rattle.model.specs.Reference.{taken, outcomeOf}
@@ -36,7 +34,8 @@ use Rattle.model.proofs.Run.{perform-pages}
 use Rattle.model.proofs.Storeless.{nothing-stored}
 use Rattle.model.proofs.Restart.Words.{sets-in, withPages, xorBelow, xor-below-cong}
 use Rattle.model.proofs.Restart.Gain.{gain, gains, restarted-word}
-use Rattle.model.proofs.Restart.Image.{Lengths, lengths, disks-le, length-backup, image-log, SameDevices, image-devices, memory-devices}
+use Rattle.model.proofs.Lengths.{Lengths, lengths-right as lengths}
+use Rattle.model.proofs.Restart.Image.{disks-le, length-backup, image-log, SameDevices, memory-devices}
 use Rattle.model.proofs.Restart.Taken.{accepted-row, Taken, taken-call}
 
 -- the rest of a disk's log: from the next position up to the tail
@@ -47,9 +46,11 @@ logLeft c w d = scan (c .sizes) (readDisk c w d) (tailOf (c .logs) d) (positionO
 unfoldable pub backupLeft : Core → World → ℕ → ℕ
 backupLeft c w x = mask (leb (pageBase (c .sizes) (c .replay .page)) x) (getD (imageOf w .backup) x 0)
 
+-- the rest of all logs at word x
 unfoldable pub logsLeft : Core → World → ℕ → ℕ
 logsLeft c w x = xorBelow (λ d. gain (c .sizes) (c .epoch) (logLeft c w d) x) (c .sizes .disks)
 
+-- The state is that of the devices, and a word of the pages with what is left of the backup and of the logs is the image's word.
 pub record Progress (c : Core) (w : World) : Type 0 where
   pub stage : c .stage ≡ Replaying
   pub sizes : c .sizes ≡ sizesOn (w .anchor)

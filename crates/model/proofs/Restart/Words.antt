@@ -1,13 +1,13 @@
 -- A run of words set in a list, a difference XORed in, and sums below a bound, each word by word.
-use mathlib.Core.Path.{_≡_, refl, sym, ap, ap₂, _∙_}
+use mathlib.Core.Path.{_≡_, refl, sym, ap, _∙_}
 use mathlib.Core.List.{List, [], _∷_}
-use mathlib.Core.Bool.{Bool, true, false, cond, _&&_, and-eq-true-iff}
+use mathlib.Core.Bool.{true, false, and-eq-true-iff}
 use Prim.Native.Nat.{ℕ, zero, suc, _+_, _-_, _≤_, _<_}
 use native.Mathlib.Omega.{arith}
 use native.Mathlib.Decide.{decLt, ℕ-discrete}
 use native.Mathlib.Nat.{not-suc-le-zero}
 use lib.Dec.{leb, ltb}
-use lib.ListN.{length, getD, take, drop, set, length-set, length-take, length-drop}
+use lib.ListN.{length, getD, set, length-set, length-take, length-drop}
 use lib.Seq.{sets, length-sets, getD-set-same, getD-set-other, getD-take, getD-drop}
 use borrow.Author.Tests.{leb-true, ltb-true, le-leb, lt-leb, lt-ltb, le-ltb}
 use Rattle.model.specs.Word.{_⊕_, xors, part}
@@ -15,8 +15,7 @@ use Rattle.model.specs.World.{World, pages, perform, each}
 use Rattle.model.specs.Abort.{xorIn}
 use Rattle.model.specs.Image.{xorAt}
 use Rattle.model.proofs.Ledger.Entry.{mask, spanning, share}
-use Rattle.model.proofs.Xor.{xor, ⊕-assoc, ⊕-comm, ⊕-zero-l, ⊕-zero-r, length-xors, getD-xors-same}
-use Rattle.model.proofs.Below.{below-suc}
+use Rattle.model.proofs.Xor.{xor, ⊕-assoc, ⊕-zero-r, length-xors, getD-xors-same}
 use Rattle.model.proofs.Run.{perform-pages}
 
 -- what the test of a span says

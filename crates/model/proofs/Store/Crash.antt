@@ -33,40 +33,8 @@ use Rattle.model.proofs.Restart.Words.{xorBelow, xor-below-cong, getD-p
 use Rattle.model.proofs.Restart.Gain.{gain, gains, restarted-word, length-restarted}
 use Rattle.model.proofs.Restart.Image.{length-backup}
 use Rattle.model.proofs.Restart.Entries.{gain-entries, ClosesLast}
+use Rattle.model.proofs.Restart.Disks.{sum-by-disk}
 use Rattle.model.proofs.Store.View.{Kept, view, Devices, Safe}
-
--- A sum over all records is the sum over the disks of those on each.
-on-sum : (f : Entry → ℕ) (d : ℕ) (l : List Entry) → sum f (on d l) ≡ sum (λ r. mask (eqb (r .disk) d) (f r)) l
-unfolding on pick sum onDisk
-on-sum f d [] = refl
-on-sum f d (r ∷ l) = go (eqb (r .disk) d) (on-sum f d l)
-  where
-    go : (b : Bool) → sum f (on d l) ≡ sum (λ r. mask (eqb (r .disk) d) (f r)) l
-        → sum f (cond b (r ∷ on d l) (on d l)) ≡ mask b (f r) ⊕ sum (λ r. mask (eqb (r .disk) d) (f r)) l
-    go true e = ap (λ (v : ℕ). f r ⊕ v) e
-    go false e = e ∙ sym (⊕-zero-l _)
-
-one-more : (k n x : ℕ) → mask (ltb k (suc n)) x ≡ mask (eqb k n) x ⊕ mask (ltb k n) x
-one-more k n x = go (ltb k n) (eqb k n) refl refl
-  where
-    go : (p q : Bool) → ltb k n ≡ p → eqb k n ≡ q → mask (ltb k (suc n)) x ≡ mask q x ⊕ mask p x
-    go true true e d = absurd (omega (arith, ltb-true k n e, eqb-true k n d))
-    go true false e d = rw (lt-ltb k (suc n) (omega (arith, ltb-true k n e))) (sym (⊕-zero-l x))
-    go false true e d = rw (lt-ltb k (suc n) (omega (arith, eqb-true k n d))) (sym (⊕-zero-r x))
-    go false false e d = rw (le-ltb k (suc n) (omega (arith, ltb-false k n e, eqb-false k n d))) (sym (⊕-zero-l 0))
-
-below-sum : (f : Entry → ℕ) (l : List Entry) (n : ℕ) → xorBelow (λ d. sum f (on d l)) n ≡ sum (λ r. mask (ltb (r .disk) n) (f r)) l
-unfolding xorBelow
-below-sum f l zero = sym (sum-zero _ l (all-of (λ r. rw (leb·suc-zero (r .disk))) l))
-below-sum f l (suc n) =
-    ap₂ (λ (a b : ℕ). a ⊕ b) (on-sum f n l) (below-sum f l n)
-    ∙ sym (sum-ext _ _ l (all-of (λ r. one-more (r .disk) n (f r)) l) ∙ sum-xor _ _ l)
-
-pub disks-sum : (f : Entry → ℕ) (l : List Entry) (n : ℕ) → All (λ r. r .disk < n) l → xorBelow (λ d. sum f (on d l)) n ≡ sum f l
-disks-sum f l n h = below-sum f l n ∙ sum-ext _ _ l (all-map there l h)
-  where
-    there : (r : Entry) → r .disk < n → mask (ltb (r .disk) n) (f r) ≡ f r
-    there r k = rw (lt-ltb (r .disk) n k)
 
 -- no entry behind a closing record has its number
 last-entries : (l : List Entry) → closesLast l → ClosesLast l
@@ -106,10 +74,10 @@ module _ {x : ℕ} {home : ℕ → ℕ} {c : Core} {w : World} {r : Reference} {
   image-epoch = g .devices .epoch
 
   all-gains : (i : ℕ) → gains (imageOf w) (s .disks) i ≡ sum (part-of i) F
-  unfolding gains
+  unfolding gains on
   all-gains i =
       xor-below-cong _ _ (s .disks) (λ d h. ap₂ (λ (z : Sizes) (e : ℕ). gain z e (logOf (imageOf w) d) i) image-sizes image-epoch ∙ log-gain i d h)
-      ∙ disks-sum (part-of i) F (s .disks) (all-left _ F B (g .ordered .inside))
+      ∙ sum-by-disk (part-of i) (s .disks) F (all-left _ F B (g .ordered .inside))
 
   backup-long : length (imageOf w .backup) ≡ total (imageOf w .sizes)
   unfolding imageOf

@@ -53,8 +53,8 @@ unfolding withLog
 same-core c = refl
 
 module _ {x : ℕ} {home : ℕ → ℕ} {c : Core} {w : World} {r : Reference} {F B : List Entry} (g : Serving x home c w r F B)
-  (d n : ℕ) (below : d < c .sizes .disks) (small : Small (c .sizes) (c .logs))
-  (room : endOf (c .logs) d ≤ startOf (c .logs) d + ringOf (c .sizes) d) (short : n ≤ 64) where
+    (d n : ℕ) (below : d < c .sizes .disks) (small : Small (c .sizes) (c .logs))
+    (room : endOf (c .logs) d ≤ startOf (c .logs) d + ringOf (c .sizes) d) (short : n ≤ 64) where
   fits : fillOf (c .logs) d + n ≤ 64 → Ready x home c w r d n
   unfolding perform withLog stores
   fits h =
