@@ -2,7 +2,15 @@
 pub mod Cases
 pub mod Rows
 pub mod View
+pub mod Same
 pub mod Crash
+-- The steps that calls share: a flush, room in a buffer, a record appended.
 pub mod Flush
 pub mod Ready
 pub mod Logged
+-- Each call.
+pub mod Begin
+pub mod Page
+pub mod Copy
+-- All of them.
+pub mod Holding

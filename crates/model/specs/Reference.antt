@@ -45,25 +45,28 @@ pub record Heard : Type 0 where
   pub outcome : Outcome
   pub number : ℕ
 
-abbrev pub begunNumber : Call → Answer → ℕ
-begunNumber begin (Finished count value) = value
-begunNumber begin (Refused number first second) = 0
-begunNumber begin (Interrupted count) = 0
-begunNumber (format s budget) a = 0
-begunNumber (update number page slot value budget) a = 0
-begunNumber (read reader page slot) a = 0
-begunNumber (commit number budget) a = 0
-begunNumber (abort number budget) a = 0
-begunNumber checkpointBegin a = 0
-begunNumber (checkpointStep budget) a = 0
-begunNumber (checkpointEnd budget) a = 0
-begunNumber restartBegin a = 0
-begunNumber (restartStep source) a = 0
-begunNumber (restartEnd budget) a = 0
-begunNumber newState a = 0
+abbrev pub isBegin : Call → Bool
+isBegin begin = true
+isBegin (format s budget) = false
+isBegin (update number page slot value budget) = false
+isBegin (read reader page slot) = false
+isBegin (commit number budget) = false
+isBegin (abort number budget) = false
+isBegin checkpointBegin = false
+isBegin (checkpointStep budget) = false
+isBegin (checkpointEnd budget) = false
+isBegin restartBegin = false
+isBegin (restartStep source) = false
+isBegin (restartEnd budget) = false
+isBegin newState = false
+
+abbrev pub answered : Answer → ℕ
+answered (Finished count value) = value
+answered (Refused number first second) = 0
+answered (Interrupted count) = 0
 
 abbrev pub heard : Call → Answer → Heard
-heard call a = record { call = call; outcome = outcomeOf a; number = begunNumber call a }
+heard call a = record { call = call; outcome = outcomeOf a; number = cond (isBegin call) (answered a) 0 }
 
 -- "all zero after format"
 unfoldable pub blank : Sizes → Reference

@@ -1,10 +1,10 @@
 -- What an accepted call may rely on: none of its rows applies, so its stage is right and the state is within its bounds.
-use mathlib.Core.Path.{_≡_, refl, sym, _∙_}
-use mathlib.Core.List.{List, [], _∷_}
+use mathlib.Core.Path.{_≡_, refl, sym}
+use mathlib.Core.List.{List, _∷_}
 use mathlib.Core.Bool.{Bool, true, false, cond, not, _&&_, _||_, and-eq-true-iff}
 use Prim.Native.Nat.{ℕ, _+_, _-_, _≤_, _<_}
 use native.Mathlib.Omega.{arith}
-use lib.Dec.{leb, ltb, eqb}
+use lib.Dec.{leb, ltb}
 use lib.ListN.{getD}
 use borrow.Author.Tests.{leb-true, ltb-true, ne-eqb, not-false}
 use Rattle.model.specs.declared.Stage.{Stage}
@@ -13,7 +13,7 @@ use Rattle.model.specs.declared.Core.{Core}
 use Rattle.model.specs.Below.{within, allBelow}
 use Rattle.model.specs.Sizes.{ringOf, sizesInBounds}
 use Rattle.model.specs.State.{places, limit, startOf, tailOf, fillOf, endOf, numberAt, diskAtPlace, firstAt, reservedAt, hasUpdate, reservedOn, diskSound, placeSound, servingSound, checkpointSound, soundIn, sound}
-use Rattle.model.specs.Refusal.{Row, Verdict, accepted, refused, verdict}
+use Rattle.model.specs.Refusal.{Row, accepted, refused, verdict}
 use Rattle.model.specs.Causes.{whenOpen, whenCopying, whenServing, stageForbids}
 use Rattle.model.proofs.Below.{all-each}
 use Rattle.model.proofs.Ledger.Sums.{true-false}

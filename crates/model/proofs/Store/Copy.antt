@@ -1,0 +1,249 @@
+-- Checkpoint begin and step: each disk's end is remembered, then the pages go one by one to the other backup.
+use mathlib.Core.Path.{_≡_, refl, sym, ap, _∙_}
+use mathlib.Core.List.{List, [], _∷_, _++_}
+use mathlib.Core.Bool.{Bool, true, false, cond}
+use Prim.Native.Nat.{ℕ, _+_, _≤_, _<_}
+use native.Mathlib.Omega.{arith}
+use native.Mathlib.Decide.{ℕ-discrete}
+use lib.Dec.{ltb}
+use lib.ListN.{length, getD, length-set}
+use lib.Seq.{sets, length-sets}
+use borrow.Author.Tests.{ltb-true, ltb-false, lt-ltb, le-ltb}
+use Rattle.model.specs.declared.Sizes.{Sizes}
+use Rattle.model.specs.declared.Logs.{Logs}
+use Rattle.model.specs.declared.Core.{Core}
+use Rattle.model.specs.Sizes.{pageBase, pageWords, total}
+use Rattle.model.specs.Anchor.{sizesOn}
+use Rattle.model.specs.World.{World, backups, work, store, write, perform, run, finishes, each}
+use Rattle.model.specs.Memory.{epochAt, epochOf, lengthsRight}
+use Rattle.model.specs.State.{startOf, fillOf, endOf}
+use Rattle.model.specs.Refusal.{accepted, verdict}
+use Rattle.model.specs.Causes.{whenOpen, tailOn}
+use Rattle.model.specs.Checkpoint.{perDisk, checkpointBeginRows, checkpointBeginTask, lowestToCopy, checkpointStepRows, copyPage, checkpointStepTask}
+use Rattle.model.specs.Image.{Image, imageOf, restarted}
+use Rattle.model.specs.Reference.{Reference}
+use Rattle.model.proofs.Below.{getD-list}
+use Rattle.model.proofs.Geometry.{pageOf, page-of, page-in, slotStart, slot-in}
+use Rattle.model.proofs.Ledger.Entry.{Entry, All, spanning}
+use Rattle.model.proofs.Ledger.State.{Same, copied}
+use Rattle.model.proofs.Ledger.Order.{wordsOf, on}
+use Rattle.model.proofs.Ledger.Lists.{length-words-append}
+use Rattle.model.proofs.Ledger.Positions.{boundary-end}
+use Rattle.model.proofs.Ledger.Sums.{true-false, all-map}
+use Rattle.model.proofs.Ledger.Good.{Good, good-same}
+use Rattle.model.proofs.Ledger.Checkpoint.{copy-good}
+use Rattle.model.proofs.Link.Words.{Link}
+use Rattle.model.proofs.Restart.Aside.{Aside, image-kept-run, aside-append, aside-backup}
+use Rattle.model.proofs.Store.View.{Kept, view, before, Devices, Epochs, Serving, Served}
+use Rattle.model.proofs.Store.Rows.{row-passed, stage-row, copying-not-open, copying-serving, serving-sound, sizes-sound, disk-sound}
+use Rattle.model.proofs.Store.Page.{at, words, after, covers, spans, copying, page-lt, page-first, stepped, fits, size-words, other-word, current-word, epoch-page, epoch-other, owner-word, buffer-words}
+use Rattle.model.proofs.Store.Same.{devices-same, accounts-same, sets-same}
+
+-- ---- checkpoint begin
+-- a number for each disk
+pub per-disk : (s : Sizes) (f : ℕ → ℕ) (d : ℕ) → s .disks ≤ 8 → d < s .disks → getD (perDisk s f) d 0 ≡ f d
+unfolding perDisk
+per-disk s f d eight h = getD-list (λ i. cond (ltb i (s .disks)) (f i) 0) 8 d 0 (omega arith) ∙ rw (lt-ltb d (s .disks) h)
+
+-- a disk's log ends where its entries do
+pub log-end : {s : Sizes} {l : Logs} {w : World} {F B : List Entry} → Link s l w F B → (d : ℕ) → d < s .disks
+    → endOf l d ≡ startOf l d + length (wordsOf (on d F ++ on d B))
+unfolding endOf
+log-end {F = F} {B = B} k d h = omega (arith, k .tail d h, k .fill d h, length-words-append (on d F) (on d B))
+
+module _ {home : ℕ → ℕ} {c : Core} {w : World} {r : Reference} {F B : List Entry}
+    (ok : verdict (checkpointBeginRows c w) ≡ accepted) (v : Serving 0 home c w r F B) where
+  opened : whenOpen (c .stage) ≡ true
+  unfolding checkpointBeginRows
+  opened = stage-row whenOpen c (row-passed _ _ ok .0) .0
+
+  remembering : Epochs (checkpointBeginTask c w .core) w F B
+  unfolding checkpointBeginTask before
+  remembering =
+      record {
+        copied = λ e. refl;
+        pages = λ p h. rw (v .epochs .copied opened) at (v .epochs .pages p h);
+        capped = v .epochs .capped;
+        early = all-map (λ e h b. h (rw opened refl)) (F ++ B) (v .epochs .early);
+        ends = λ e d h.
+            rw (per-disk (c .sizes) (endOf (c .logs)) d (v .safe .devices .bounds .disks-max) h, log-end (v .safe .link) d h)
+            (boundary-end (startOf (c .logs) d) (on d F ++ on d B));
+      }
+
+  begin-serving : Serving 0 home (checkpointBeginTask c w .core) w r F B
+  unfolding checkpointBeginTask view
+  begin-serving =
+      record {
+        stage = refl;
+        safe = record {
+          devices = devices-same refl refl refl refl (v .safe .devices .lengths) (v .safe .devices);
+          good = v .safe .good;
+          link = v .safe .link;
+          ordered = v .safe .ordered;
+          fit = v .safe .fit;
+          sizes = v .safe .sizes;
+          shaped = v .safe .shaped;
+        };
+        accounts = accounts-same refl refl refl (v .accounts);
+        epochs = remembering;
+        sets = sets-same refl refl (v .sets);
+      }
+
+pub checkpoint-begin-serves : {c : Core} {w : World} {r : Reference} → Served c w r → verdict (checkpointBeginRows c w) ≡ accepted
+    → Served (checkpointBeginTask c w .core) w r
+checkpoint-begin-serves s ok =
+    record { home = s .home; flushed = s .flushed; buffered = s .buffered; serving = begin-serving ok (s .serving) }
+
+-- ---- checkpoint step
+-- a number other than k lies below k + 1 as it lies below k
+ltb-other : (q k : ℕ) → (q ≡ k → ⊥) → ltb q k ≡ ltb q (k + 1)
+ltb-other q k ne = go (ltb q k) refl
+  where
+    go : (b : Bool) → ltb q k ≡ b → b ≡ ltb q (k + 1)
+    go true e = sym (lt-ltb q (k + 1) (omega (arith, ltb-true q k e)))
+    go false e = sym (le-ltb q (k + 1) (omega (arith, ltb-false q k e)))
+
+module _ {home : ℕ → ℕ} {c : Core} {w : World} {r : Reference} {F B : List Entry}
+    (ok : verdict (checkpointStepRows c w) ≡ accepted) (v : Serving 0 home c w r F B) where
+  abbrev u : World
+  u = after ok (v .safe .devices)
+
+  abbrev p : ℕ
+  p = lowestToCopy c
+
+  below : p < c .sizes .pages
+  below = page-lt ok (v .safe .devices)
+
+  inPage : ℕ → Bool
+  inPage i = spanning (pageBase (c .sizes) p) (pageWords (c .sizes) p) i
+
+  page-word : (i : ℕ) → inPage i ≡ true → pageOf (c .sizes) i ≡ p
+  unfolding inPage
+  page-word i e =
+      let near = spans (pageBase (c .sizes) p) (pageWords (c .sizes) p) i e in
+      page-of (c .sizes) p i below (near .0) (near .1)
+
+  other-page : (i : ℕ) → i < total (c .sizes) → inPage i ≡ false → pageOf (c .sizes) i ≡ p → ⊥
+  unfolding inPage
+  other-page i h e same =
+      let near = rw same at (page-in (c .sizes) i h) in
+      true-false (covers (pageBase (c .sizes) p) (pageWords (c .sizes) p) i (near .1) (near .2)) e
+
+  -- the page was not copied before, and is now
+  old-epoch : epochOf (c .sizes) (w .work) p ≡ c .epoch
+  old-epoch = v .epochs .pages p below ∙ rw (le-ltb p (c .checkpoint .copied) (omega (arith, page-first ok (v .safe .devices))))
+
+  new-epoch : (i : ℕ) → i < total (c .sizes) → (b : Bool) → inPage i ≡ b
+      → cond b (c .epoch + 1) (epochOf (c .sizes) (w .work) (pageOf (c .sizes) i)) ≡ epochOf (c .sizes) (u .work) (pageOf (c .sizes) i)
+  new-epoch i h true e = rw (page-word i e) (sym (epoch-page ok (v .safe .devices)))
+  new-epoch i h false e = sym (epoch-other ok (v .safe .devices) (pageOf (c .sizes) i) (other-page i h e))
+
+  good : Good 0 (total (c .sizes)) (view (checkpointStepTask c w .core) u r F B)
+  unfolding checkpointStepTask view copied inPage
+  good = good-same same (copy-good inPage (λ i h e. rw (page-word i e, old-epoch) (omega arith)) (v .safe .good))
+    where
+      same : Same (total (c .sizes)) (copied (view c w r F B) inPage) (view (checkpointStepTask c w .core) u r F B)
+      same =
+          record {
+            epoch = refl;
+            next = refl;
+            pages = λ i h. refl;
+            current = current-word ok (v .safe .devices);
+            other = λ i h. other-word ok (v .safe .devices) i h (inPage i) refl;
+            epochs = λ i h. new-epoch i h (inPage i) refl;
+            owners = λ i h. sym (owner-word ok (v .safe .devices) (slotStart (c .sizes) i) (slot-in (c .sizes) i h .start-lt));
+            committed = λ i h. refl;
+            writes = λ t o. refl;
+            opened = λ t. refl;
+            flushed = refl;
+            buffered = refl;
+          }
+
+  stepped-lengths : lengthsRight (c .sizes) u ≡ true
+  unfolding lengthsRight
+  stepped-lengths = simp (length-sets, length-set) (v .safe .devices .lengths)
+
+  stepped-link : Link (c .sizes) (c .logs) u F B
+  unfolding tailOn
+  stepped-link =
+      let state = copying ok (v .safe .devices) in
+      let right = serving-sound c (copying-serving c (state .0)) (state .1) in
+      record {
+        held = v .safe .link .held;
+        tail = v .safe .link .tail;
+        stored = v .safe .link .stored;
+        buffer = λ d h. buffer-words ok (v .safe .devices) d (fillOf (c .logs) d) h (disk-sound c d right h .fill) ∙ v .safe .link .buffer d h;
+        fill = v .safe .link .fill;
+      }
+
+  copy-epochs : Epochs (checkpointStepTask c w .core) u F B
+  unfolding checkpointStepTask before
+  copy-epochs =
+      record {
+        copied = λ e. true-false e (copying-not-open c (copying ok (v .safe .devices) .0));
+        pages = λ q h. go q h (ℕ-discrete q p);
+        capped = v .epochs .capped;
+        early = v .epochs .early;
+        ends = v .epochs .ends;
+      }
+    where
+      first : p ≡ c .checkpoint .copied
+      first = page-first ok (v .safe .devices)
+
+      go : (q : ℕ) → q < c .sizes .pages → Dec (q ≡ p)
+          → epochOf (c .sizes) (u .work) q ≡ cond (ltb q (c .checkpoint .copied + 1)) (c .epoch + 1) (c .epoch)
+      go q h (yes e) = rw (e, lt-ltb p (c .checkpoint .copied + 1) (omega (arith, first))) (epoch-page ok (v .safe .devices))
+      go q h (no ne) =
+          epoch-other ok (v .safe .devices) q ne ∙ v .epochs .pages q h
+          ∙ ap (λ (b : Bool). cond b (c .epoch + 1) (c .epoch)) (ltb-other q (c .checkpoint .copied) (λ e. ne (e ∙ sym first)))
+
+  step-serving : Serving 0 home (checkpointStepTask c w .core) u r F B
+  unfolding checkpointStepTask
+  step-serving =
+      record {
+        stage = v .stage;
+        safe = record {
+          devices = devices-same refl refl refl refl stepped-lengths (v .safe .devices);
+          good = good;
+          link = stepped-link;
+          ordered = v .safe .ordered;
+          fit = v .safe .fit;
+          sizes = v .safe .sizes;
+          shaped = v .safe .shaped;
+        };
+        accounts = accounts-same refl refl refl (v .accounts);
+        epochs = copy-epochs;
+        sets = sets-same refl refl (v .sets);
+      }
+
+pub checkpoint-step-serves : {c : Core} {w : World} {r : Reference} → Served c w r → verdict (checkpointStepRows c w) ≡ accepted
+    → Served (checkpointStepTask c w .core) (perform (checkpointStepTask c w .actions) w) r
+checkpoint-step-serves s ok =
+    rw (stepped ok (s .serving .safe .devices))
+    (record { home = s .home; flushed = s .flushed; buffered = s .buffered; serving = step-serving ok (s .serving) })
+
+-- Cut short, it has stored in the other backup only, so a restart finds what it found before.
+step-aside : {c : Core} {w : World} → Devices c w → verdict (checkpointStepRows c w) ≡ accepted → All (Aside (c .sizes) (c .epoch)) (checkpointStepTask c w .actions)
+unfolding checkpointStepTask copyPage
+step-aside {c} {w} v ok =
+    aside-append (c .sizes) (c .epoch) (each (store backups) (at ok v) (words ok v))
+    (write work (epochAt (c .sizes) (lowestToCopy c)) (c .epoch + 1) ∷ [])
+    (aside-backup (c .sizes) (c .epoch) (at ok v) (words ok v) (omega arith) (omega (arith, size-words ok v, fits ok v))) (tt, tt)
+
+step-image : {c : Core} {w : World} (budget : ℕ) → Devices c w → verdict (checkpointStepRows c w) ≡ accepted
+    → imageOf (run budget (checkpointStepTask c w .actions) w) ≡ imageOf w
+step-image {c} {w} budget v ok =
+    let state = copying ok v in
+    image-kept-run budget (checkpointStepTask c w .actions) w
+    (rw (v .sizes) (sizes-sound c (serving-sound c (copying-serving c (state .0)) (state .1))))
+    (rw (v .sizes, v .epoch) (step-aside v ok))
+
+image-anchor : (x y : World) → imageOf x ≡ imageOf y → sizesOn (x .anchor) ≡ sizesOn (y .anchor)
+unfolding imageOf
+image-anchor x y e = ap (λ (i : Image). i .sizes) e
+
+pub checkpoint-step-cut : {c : Core} {w : World} {r : Reference} (budget : ℕ) → Served c w r → verdict (checkpointStepRows c w) ≡ accepted → Kept w r
+    → finishes budget (checkpointStepTask c w .actions) ≡ false → Kept (run budget (checkpointStepTask c w .actions) w) r
+checkpoint-step-cut budget s ok k cut =
+    let same = step-image budget (s .serving .safe .devices) ok in
+    record { sizes = image-anchor _ _ same ∙ k .sizes; shaped = k .shaped; image = ap restarted same ∙ k .image }

@@ -1,0 +1,55 @@
+-- What holds between any two events, and how a call that is refused, taken or cut keeps it.
+use mathlib.Core.Path.{_≡_, refl, sym, ap, subst, _∙_}
+use mathlib.Core.List.{List, [], _∷_}
+use mathlib.Core.Bool.{Bool, true, false, cond}
+use Prim.Native.Nat.{ℕ}
+use Rattle.model.specs.declared.Stage.{Stage}
+use Rattle.model.specs.declared.Stage.the-variants.{Shut, Replaying, Open, Copying}
+use Rattle.model.specs.declared.Core.{Core}
+use Rattle.model.specs.declared.Answer.{Answer}
+use Rattle.model.specs.declared.Answer.the-variants.{Finished, Refused, Interrupted}
+use Rattle.model.specs.World.{World, perform, run, made, finishes}
+use Rattle.model.specs.State.{newCore}
+use Rattle.model.specs.Refusal.{Row, Result, Task, verdict, accepted, row}
+use Rattle.model.specs.Causes.{whenShut, whenReplaying, whenOpen, whenCopying, whenServing, stageForbids}
+use Rattle.model.specs.Call.{Call, rowsOf, taskOf, budgetOf, resultOf}
+use Rattle.model.specs.Reference.{Reference, WriteSet, withSets, isBegin, afterTaken, heard, hear}
+use Rattle.model.specs.Machine.{Machine, Event, call, result, after, referred}
+use Rattle.model.proofs.Run.{finished-run}
+use Rattle.model.proofs.Ledger.Sums.{true-false}
+use Rattle.model.proofs.Restart.Progress.{Progress}
+use Rattle.model.proofs.Store.View.{Kept, Served}
+use Rattle.model.proofs.Store.Cases.{call-cases, finishedBy, cutBy, refusedBy}
+use Rattle.model.proofs.Store.Rows.{row-passed, stage-row}
+
+-- A shut store has devices that restart to the committed contents, a replaying one too, and how far it got; an open one serves.
+pub data Holding (m : Machine) (r : Reference) : Type 0 where
+  shut : m .core .stage ≡ Shut → Kept (m .world) r → r .writeSets ≡ [] → Holding m r
+  replaying : Progress (m .core) (m .world) → Kept (m .world) r → r .writeSets ≡ [] → Holding m r
+  serving : Served (m .core) (m .world) r → Holding m r
+
+-- the committed contents do not hang on the write sets
+pub kept-sets : {w : World} {r : Reference} → Kept w r → (sets : List WriteSet) → Kept w (withSets r sets)
+kept-sets k sets = record { sizes = k .sizes; shaped = k .shaped; image = k .image }
+
+module _ (k : Call) (m : Machine) (r : Reference) where
+  abbrev task : Task
+  task = taskOf k (m .core) (m .world)
+
+  -- the number that the reference hears of when the call is taken
+  abbrev pub heardNumber : ℕ
+  heardNumber = cond (isBegin k) (task .value) 0
+
+  abbrev pub takenMachine : Machine
+  takenMachine = record { core = task .core; world = perform (task .actions) (m .world) }
+
+  pub call-keeps : Holding m r
+      → (verdict (rowsOf k (m .core) (m .world)) ≡ accepted → finishes (budgetOf k) (task .actions) ≡ true → Holding takenMachine (afterTaken k heardNumber r))
+      → (verdict (rowsOf k (m .core) (m .world)) ≡ accepted → finishes (budgetOf k) (task .actions) ≡ false → Kept (run (budgetOf k) (task .actions) (m .world)) r)
+      → Holding (after m (call k)) (referred m (call k) r)
+  unfolding result hear newCore
+  call-keeps h taken cut =
+      call-cases (λ (x : Result). Holding (record { core = x .core; world = x .world }) (hear (heard k (x .answer)) r)) k (m .core) (m .world)
+      (λ number first second v. h)
+      (λ v f. rw (finished-run (budgetOf k) (task .actions) (m .world) f) (taken v f))
+      (λ v f. shut refl (kept-sets (cut v f) []) refl)
