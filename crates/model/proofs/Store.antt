@@ -9,8 +9,13 @@ pub mod Flush
 pub mod Ready
 pub mod Logged
 -- Each call.
+pub mod Puts
+pub mod Anchor
+pub mod Fresh
+pub mod Format
 pub mod Begin
 pub mod Page
 pub mod Copy
+pub mod End
 -- All of them.
 pub mod Holding

@@ -112,6 +112,7 @@ module _ (c : Core) (w : World) (m : Progress c w) (h : c .replay .page < c .siz
         backup = m .backup;
         starts = m .starts;
         tails = m .tails;
+        eight = m .eight;
         room = m .room;
         positions = m .positions;
         page = omega arith;

@@ -92,6 +92,7 @@ module _ (c : Core) (w : World) (m : Progress c w) (d next : ℕ) (h : d < c .si
         backup = m .backup;
         starts = m .starts;
         tails = m .tails;
+        eight = m .eight;
         room = simp length-set (m .room);
         positions = moved-positions;
         page = m .page;

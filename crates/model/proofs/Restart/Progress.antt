@@ -60,6 +60,7 @@ pub record Progress (c : Core) (w : World) : Type 0 where
   pub backup : length (imageOf w .backup) ≡ total (c .sizes)
   pub starts : (d : ℕ) → d < c .sizes .disks → startOf (c .logs) d ≡ startOn (w .anchor) d
   pub tails : (d : ℕ) → d < c .sizes .disks → tailOf (c .logs) d ≡ tailOn (c .sizes) w d
+  pub eight : length (c .logs .tails) ≡ 8
   pub room : c .sizes .disks ≤ length (c .replay .positions)
   pub positions : (d : ℕ) → d < c .sizes .disks → (startOf (c .logs) d ≤ positionOf c d) × (positionOf c d ≤ tailOf (c .logs) d)
   pub page : c .replay .page ≤ c .sizes .pages
@@ -165,6 +166,7 @@ module _ (w : World) (k : Checked w) where
         backup = back;
         starts = λ d h. getD-per-disk s (startOn (w .anchor)) d eight h;
         tails = λ d h. getD-per-disk s (tailOn s w) d eight h;
+        eight = length-per-disk s (tailOn s w);
         room = omega (arith, eight, length-per-disk s (startOn (w .anchor)));
         positions = λ d h.
             let e = getD-per-disk s (startOn (w .anchor)) d eight h in

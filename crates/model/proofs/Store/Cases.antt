@@ -1,16 +1,12 @@
 -- A call is refused, finished or interrupted, and what each leaves.
-use mathlib.Core.Path.{_≡_, refl, sym, ap, _∙_}
-use mathlib.Core.List.{List, [], _∷_}
-use mathlib.Core.Bool.{Bool, true, false, true≢false}
-use Prim.Native.Nat.{ℕ, _+_, _-_}
+use mathlib.Core.Path.{_≡_, refl}
+use mathlib.Core.Bool.{Bool, true, false}
+use Prim.Native.Nat.{ℕ}
 use Rattle.model.specs.declared.Core.{Core}
-use Rattle.model.specs.declared.Answer.{Answer}
-use Rattle.model.specs.declared.Answer.the-variants.{Finished, Refused, Interrupted}
-use Rattle.model.specs.World.{World, run, made, finishes}
-use Rattle.model.specs.State.{newCore}
-use Rattle.model.specs.Refusal.{Row, Verdict, accepted, refused, verdict, Task, Result, spend, conclude}
+use Rattle.model.specs.declared.Answer.the-variants.{Refused}
+use Rattle.model.specs.World.{World, finishes}
+use Rattle.model.specs.Refusal.{Verdict, accepted, refused, verdict, Task, Result, spend, conclude}
 use Rattle.model.specs.Call.{Call, rowsOf, taskOf, budgetOf, resultOf}
-use Rattle.model.specs.Reference.{Outcome, taken, interrupted, outcomeOf}
 
 -- the result of a call whose rows do not apply, as its budget lasts or not
 abbrev pub finishedBy : ℕ → Task → World → Result
@@ -42,28 +38,3 @@ pub call-cases : (X : Result → Type 0) (k : Call) (c : Core) (w : World)
     → X (resultOf k c w)
 unfolding resultOf
 call-cases X k c w r f i = conclude-cases X (verdict (rowsOf k c w)) (budgetOf k) (taskOf k c w) c w r f i
-
--- a call that is taken had no row that applies, and its budget lasted
-pub record Taken (k : Call) (c : Core) (w : World) : Type 0 where
-  pub accepted : verdict (rowsOf k c w) ≡ Verdict.accepted
-  pub lasted : finishes (budgetOf k) (taskOf k c w .actions) ≡ true
-  pub result : resultOf k c w ≡ finishedBy (budgetOf k) (taskOf k c w) w
-
--- outcomes told apart
-abbrev pub refused? : Outcome → Bool
-refused? taken = false
-refused? Outcome.refused = true
-refused? interrupted = false
-
-abbrev pub interrupted? : Outcome → Bool
-interrupted? taken = false
-interrupted? Outcome.refused = false
-interrupted? interrupted = true
-
-pub taken-call : (k : Call) (c : Core) (w : World) → outcomeOf (resultOf k c w .answer) ≡ taken → Taken k c w
-taken-call k c w =
-    call-cases (λ (x : Result). x ≡ resultOf k c w → outcomeOf (x .answer) ≡ taken → Taken k c w) k c w
-    (λ number first second v e o. absurd (true≢false (ap refused? o)))
-    (λ v f e o. record { accepted = v; lasted = f; result = sym e })
-    (λ v f e o. absurd (true≢false (ap interrupted? o)))
-    refl

@@ -1,0 +1,233 @@
+-- The end of a restart: taken, it leaves a fresh open store with the committed contents; cut, it leaves the image as it was.
+use mathlib.Core.Path.{_≡_, refl, sym, ap, _∙_}
+use mathlib.Core.List.{List, [], _∷_, _++_, append-assoc}
+use mathlib.Core.Bool.{true, false, _&&_}
+use Prim.Native.Nat.{ℕ, _+_, _<_}
+use native.Mathlib.Omega.{arith}
+use lib.Dec.{leb, ltb}
+use lib.ListN.{length, getD, set, replicate, length-set}
+use lib.Seq.{sets, getD-set-same, getD-set-other}
+use borrow.Author.Tests.{eqb-true, not-false, leb-false}
+use Rattle.model.specs.declared.Stage.{Stage}
+use Rattle.model.specs.declared.Stage.the-variants.{Shut, Replaying, Open, Copying}
+use Rattle.model.specs.declared.Sizes.{Sizes}
+use Rattle.model.specs.declared.Core.{Core}
+use Rattle.model.specs.Below.{allBelow, listBelow}
+use Rattle.model.specs.Sizes.{total, sizesInBounds}
+use Rattle.model.specs.Anchor.{anchorWords, epochWord, epochOn, sizesOn, startWord, startOn, backupAt}
+use Rattle.model.specs.World.{World, Action, store, write, anchor, backups, work, cost, act, perform, stores, run, finishes, each}
+use Rattle.model.specs.Memory.{epochAt}
+use Rattle.model.specs.State.{limit, tailOf, replaySound, soundIn, sound}
+use Rattle.model.specs.Refusal.{accepted, verdict}
+use Rattle.model.specs.Causes.{whenReplaying, anchorWrong, lengthsWrong, tailOn}
+use Rattle.model.specs.Format.{freshMemory}
+use Rattle.model.specs.Restart.{restartEndRows, restartEndTask}
+use Rattle.model.specs.Image.{Image, imageOf, restarted}
+use Rattle.model.specs.Reference.{Reference, wordsIn}
+use Rattle.model.proofs.Run.{perform-append, perform-backups, perform-work, stores-append, stores-stored}
+use Rattle.model.proofs.Counts.{stores-list, restart-end-stores}
+use Rattle.model.proofs.Bounds.{Bounded, bounded}
+use Rattle.model.proofs.Lengths.{Lengths, lengths-right, all-four}
+use Rattle.model.proofs.Slots.{Shaped}
+use Rattle.model.proofs.Ledger.Entry.{All}
+use Rattle.model.proofs.Ledger.Sums.{true-false}
+use Rattle.model.proofs.Link.Words.{lengths-perform}
+use Rattle.model.proofs.Restart.Image.{backup-within}
+use Rattle.model.proofs.Restart.Aside.{Aside, image-kept-run, aside-append, aside-backup, aside-starts}
+use Rattle.model.proofs.Store.Rows.{row-passed, stage-row}
+use Rattle.model.proofs.Store.View.{Kept, Served}
+use Rattle.model.proofs.Store.Puts.{setEach, length-set-each, set-each-other, set-each-in, perform-each-start, run-before, lengths-made, freshWork, run-word, fresh-epoch}
+use Rattle.model.proofs.Store.Anchor.{sizes-same}
+use Rattle.model.proofs.Store.Fresh.{Freshly, fresh-serving}
+
+-- What the steps of a restart lead to: the state says what the anchor and the tails say, and the pages have the committed words.
+pub record AtEnd (c : Core) (w : World) (r : Reference) : Type 0 where
+  pub sizes : c .sizes ≡ sizesOn (w .anchor)
+  pub epoch : c .epoch ≡ epochOn (w .anchor)
+  pub tails : (d : ℕ) → d < c .sizes .disks → tailOf (c .logs) d ≡ tailOn (c .sizes) w d
+  pub eight : length (c .logs .tails) ≡ 8
+  pub reference : r .sizes ≡ c .sizes
+  pub shaped : Shaped (c .sizes) (r .committed)
+  pub pages : w .pages ≡ wordsIn (r .committed)
+  pub none : r .writeSets ≡ []
+
+-- What a restart end that is accepted found.
+pub record EndFound (c : Core) (w : World) : Type 0 where
+  pub bounds : sizesInBounds (c .sizes) ≡ true
+  pub anchor : length (w .anchor) ≡ anchorWords
+  pub lengths : Lengths (c .sizes) w
+
+-- a sound state in stage replaying has its sizes in bounds
+replaying-sizes : (c : Core) → whenReplaying (c .stage) ≡ true → sound c ≡ true → sizesInBounds (c .sizes) ≡ true
+unfolding sound replaySound
+replaying-sizes c = go (c .stage)
+  where
+    go : (g : Stage) → whenReplaying g ≡ true → soundIn g c ≡ true → sizesInBounds (c .sizes) ≡ true
+    go Shut e h = true-false refl (sym e)
+    go Replaying e h =
+        all-four (sizesInBounds (c .sizes)) (ltb (c .epoch) limit) (leb (c .replay .page) (c .sizes .pages))
+        (allBelow (λ d. leb (tailOf (c .logs) d) limit && leb (getD (c .replay .positions) d 0) (tailOf (c .logs) d)) (c .sizes .disks)) h
+        .0
+    go Open e h = true-false refl (sym e)
+    go Copying e h = true-false refl (sym e)
+
+pub end-found : (c : Core) (w : World) → verdict (restartEndRows c w) ≡ accepted → EndFound c w
+unfolding restartEndRows anchorWrong lengthsWrong
+end-found c w e =
+    let first = row-passed _ _ e in
+    let second = row-passed _ _ (first .1) in
+    let third = row-passed _ _ (second .1) in
+    let stage = stage-row whenReplaying c (first .0) in
+    record {
+      bounds = replaying-sizes c (stage .0) (stage .1);
+      anchor = eqb-true _ _ (not-false _ (second .0));
+      lengths = lengths-right (c .sizes) w (not-false _ (third .0));
+    }
+
+-- what its actions do, for any words of memory that they put
+end-puts : (s : Sizes) (w : World) (n disks : ℕ) (tail : ℕ → ℕ) (copy owners copies : List ℕ)
+    → perform
+    (each (store backups) (backupAt s n) copy ++ listBelow (λ d. store anchor (startWord n d) (tail d)) disks
+    ++ (store anchor epochWord n ∷ []) ++ (each (write work) 0 owners ++ each (write work) (epochAt s 0) copies)) w
+    ≡ record {
+      anchor = set (setEach (startWord n) tail disks (w .anchor)) epochWord n;
+      pages = w .pages;
+      backups = sets (w .backups) (backupAt s n) copy;
+      logs = w .logs;
+      work = sets (sets (w .work) 0 owners) (epochAt s 0) copies;
+    }
+unfolding perform act
+end-puts s w n disks tail copy owners copies =
+    simp (perform-append, perform-backups, perform-work, perform-each-start (startWord n) tail)
+
+-- ---- taken
+module _ (c : Core) (w : World) (r : Reference) (m : AtEnd c w r) (found : EndFound c w) where
+  abbrev s : Sizes
+  s = c .sizes
+
+  abbrev n : ℕ
+  n = c .epoch + 1
+
+  abbrev starts : List ℕ
+  starts = setEach (startWord n) (tailOf (c .logs)) (s .disks) (w .anchor)
+
+  abbrev ended : World
+  ended =
+      record {
+        anchor = set starts epochWord n;
+        pages = w .pages;
+        backups = sets (w .backups) (backupAt s n) (w .pages);
+        logs = w .logs;
+        work = freshWork s n (w .work);
+      }
+
+  end-world : perform (restartEndTask c w .actions) w ≡ ended
+  unfolding restartEndTask freshMemory freshWork
+  end-world = end-puts s w n (s .disks) (tailOf (c .logs)) (w .pages) (replicate (total s) 0) (replicate 64 n)
+
+  b : Bounded s
+  b = bounded s (found .bounds)
+
+  long : length starts ≡ 148
+  long = length-set-each (startWord n) (tailOf (c .logs)) (s .disks) (w .anchor) ∙ found .anchor
+
+  end-epoch : epochOn (ended .anchor) ≡ n
+  unfolding epochOn
+  end-epoch = getD-set-same starts 3 n 0 (omega (arith, long))
+
+  end-start : (d : ℕ) → d < s .disks → startOn (ended .anchor) d ≡ tailOf (c .logs) d
+  unfolding startOn startWord
+  end-start d h =
+      ap (λ (k : ℕ). getD (ended .anchor) (startWord k d) 0) end-epoch
+      ∙ getD-set-other starts 3 (startWord n d) n 0 (λ e. omega arith)
+      ∙ set-each-in (startWord n) (tailOf (c .logs)) (s .disks) (w .anchor) (λ d o ne e. ne (omega arith)) d h
+      (omega (arith, b .disks-max))
+
+  end-sizes : sizesOn (ended .anchor) ≡ s
+  unfolding startWord
+  end-sizes =
+      sizes-same (ended .anchor) (w .anchor) (length-set starts 3 n ∙ long) (found .anchor)
+      (λ i h ne. getD-set-other starts 3 i n 0 ne
+      ∙ set-each-other (startWord n) (tailOf (c .logs)) (s .disks) (w .anchor) i (λ d l e. omega arith))
+      ∙ sym (m .sizes)
+
+  end-fresh : Freshly s n (c .logs .tails) ended r
+  unfolding tailOn tailOf
+  end-fresh =
+      record {
+        bounds = b;
+        anchor = length-set starts 3 n ∙ long;
+        lengths = lengths-made s ended (rw end-world at (lengths-perform (restartEndTask c w .actions) (found .lengths)));
+        eight = m .eight;
+        sizes = end-sizes;
+        epoch = end-epoch;
+        starts = end-start;
+        stored = λ d h. sym (m .tails d h);
+        backup =
+            λ i h.
+            run-word (w .backups) (backupAt s n) (w .pages) i (omega (arith, backup-within s n, found .lengths .pages, found .lengths .backups))
+            (omega (arith, found .lengths .pages));
+        pages = λ i h. ap (λ (l : List ℕ). getD l i 0) (m .pages);
+        epochs = λ p h. fresh-epoch s n (w .work) (found .lengths .work) p (omega (arith, b .pages-max));
+        reference = m .reference;
+        shaped = m .shaped;
+        none = m .none;
+      }
+
+-- A restart end that is taken leaves an open store with the committed contents.
+pub restart-end-serves : {c : Core} {w : World} {r : Reference} → AtEnd c w r → verdict (restartEndRows c w) ≡ accepted
+    → Served (restartEndTask c w .core) (perform (restartEndTask c w .actions) w) r
+unfolding restartEndTask
+restart-end-serves {c} {w} {r} m e =
+    let found = end-found c w e in
+    rw (end-world c w r m found) (fresh-serving (end-fresh c w r m found))
+
+-- ---- cut: before the last store, c := c + 1, only the other backup and the other row change
+module _ (c : Core) (w : World) (found : EndFound c w) where
+  abbrev copies : List Action
+  copies = each (store backups) (backupAt (c .sizes) (c .epoch + 1)) (w .pages)
+
+  abbrev tails : List Action
+  tails = listBelow (λ d. store anchor (startWord (c .epoch + 1) d) (tailOf (c .logs) d)) (c .sizes .disks)
+
+  -- these are all the stores but the last, so a cut run makes no other
+  early-stores : stores (copies ++ tails) ≡ length (w .pages) + c .sizes .disks
+  unfolding cost
+  early-stores =
+      simp (stores-append, stores-stored)
+      (omega (arith, stores-list (λ d. store anchor (startWord (c .epoch + 1) d) (tailOf (c .logs) d)) (λ d. refl) (c .sizes .disks)))
+
+  early-only : (budget : ℕ) → finishes budget (restartEndTask c w .actions) ≡ false
+      → run budget (restartEndTask c w .actions) w ≡ run budget (copies ++ tails) w
+  unfolding restartEndTask finishes
+  early-only budget f =
+      let last : Action = store anchor epochWord (c .epoch + 1) in
+      let memory : List Action = freshMemory (c .sizes) (c .epoch + 1) in
+      ap (λ (l : List Action). run budget l w) (append-assoc (copies ++ tails) (last ∷ []) memory)
+      ∙ run-before budget (copies ++ tails) memory anchor epochWord (c .epoch + 1) w
+      (omega (arith, early-stores, leb-false (stores (restartEndTask c w .actions)) budget f, restart-end-stores c w))
+
+  early-aside : All (Aside (c .sizes) (c .epoch)) (copies ++ tails)
+  early-aside =
+      aside-append (c .sizes) (c .epoch) copies tails
+      (aside-backup (c .sizes) (c .epoch) (backupAt (c .sizes) (c .epoch + 1)) (w .pages) (omega arith) (omega (arith, found .lengths .pages)))
+      (aside-starts (c .sizes) (c .epoch) (tailOf (c .logs)) (c .sizes .disks) (bounded (c .sizes) (found .bounds) .disks-max))
+
+  early-image : (budget : ℕ) → c .sizes ≡ sizesOn (w .anchor) → c .epoch ≡ epochOn (w .anchor)
+      → imageOf (run budget (copies ++ tails) w) ≡ imageOf w
+  early-image budget sizes epoch =
+      image-kept-run budget (copies ++ tails) w (rw sizes at (found .bounds)) (rw (← sizes, ← epoch) early-aside)
+
+image-sizes : (v w : World) → imageOf v ≡ imageOf w → sizesOn (v .anchor) ≡ sizesOn (w .anchor)
+unfolding imageOf
+image-sizes v w e = ap (λ (i : Image). i .sizes) e
+
+-- A restart end that is cut leaves what a restart needs: the next restart makes the same pages.
+pub restart-end-cut : (c : Core) (w : World) {r : Reference} (budget : ℕ) → Kept w r → c .sizes ≡ sizesOn (w .anchor)
+    → c .epoch ≡ epochOn (w .anchor) → verdict (restartEndRows c w) ≡ accepted
+    → finishes budget (restartEndTask c w .actions) ≡ false → Kept (run budget (restartEndTask c w .actions) w) r
+restart-end-cut c w budget k sizes epoch e f =
+    let found = end-found c w e in
+    let same : imageOf (run budget (restartEndTask c w .actions) w) ≡ imageOf w =
+    ap imageOf (early-only c w found budget f) ∙ early-image c w found budget sizes epoch in
+    record { sizes = image-sizes _ w same ∙ k .sizes; shaped = k .shaped; image = ap restarted same ∙ k .image }
