@@ -32,9 +32,11 @@ pub mod Link
 pub mod Restart
 -- The calls.
 pub mod Store
+pub mod PowerLoss
 -- Computed tables.
 pub mod Everything
 pub mod Play
 pub mod Positions
 pub mod Blunders
 pub mod Idle
+pub mod Example

@@ -8,14 +8,36 @@ pub mod Crash
 pub mod Flush
 pub mod Ready
 pub mod Logged
--- Each call.
+pub mod LogEnd
+pub mod Linked
+-- Format and restart end.
 pub mod Puts
 pub mod Anchor
 pub mod Fresh
 pub mod Format
+pub mod End
+-- Transactions.
 pub mod Begin
+pub mod UpdateRoom
+pub mod UpdateTable
+pub mod Update
+pub mod Closed
+pub mod Closing
+pub mod Commit
+pub mod Put
+pub mod Compensate
+pub mod Undo
+pub mod Left
+pub mod CloseAbort
+pub mod Abort
+-- Checkpoints.
 pub mod Page
 pub mod Copy
-pub mod End
+pub mod FlushAll
+pub mod Starts
+pub mod NewStarts
+pub mod Switch
+pub mod CheckpointEnd
 -- All of them.
 pub mod Holding
+pub mod Step

@@ -27,4 +27,5 @@ pub mod Call
 pub mod Image
 pub mod Reference
 pub mod Machine
+pub mod History
 pub mod Promise

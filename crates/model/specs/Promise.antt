@@ -1,24 +1,68 @@
--- The power-loss theorem as a statement. Its proof is the theory's last step.
+-- The promises over lists of calls, as statements, each with its English.
 use mathlib.Core.Path.{_≡_}
-use Prim.Native.Nat.{ℕ}
-use mathlib.Core.List.{List}
-use mathlib.Core.Bool.{Bool, true}
+use Prim.Native.Nat.{ℕ, _+_, _-_, _≤_, _<_}
+use mathlib.Core.List.{List, [], _++_}
+use mathlib.Core.Bool.{Bool, true, false, cond, _||_}
+use lib.ListN.{getD}
+use lib.Dec.{ltb, eqb}
+use Rattle.model.specs.declared.Stage.the-variants.{Shut}
 use Rattle.model.specs.declared.Sizes.{Sizes}
-use Rattle.model.specs.Call.{format, restartEnd}
-use Rattle.model.specs.Reference.{taken, wordsIn}
+use Rattle.model.specs.declared.Core.{Core}
+use Rattle.model.specs.Sizes.{slotsIn, ringOf}
+use Rattle.model.specs.Anchor.{epochOn, startOn}
+use Rattle.model.specs.Record.{Record, encodeAll}
+use Rattle.model.specs.Decode.{readLog}
+use Rattle.model.specs.Scan.{Scan, scan}
+use Rattle.model.specs.World.{World}
+use Rattle.model.specs.Memory.{bufferOf, epochOf}
+use Rattle.model.specs.State.{limit, startOf, tailOf, fillOf, endOf, isOpen, placeOf, reservedAt}
+use Rattle.model.specs.Refusal.{numberOf}
+use Rattle.model.specs.Causes.{whenServing, tailOn, locked}
+use Rattle.model.specs.Transaction.{diskOf, readWords}
+use Rattle.model.specs.Call.{Call, format, read, restartBegin, restartEnd}
+use Rattle.model.specs.Image.{retainedWords}
+use Rattle.model.specs.Reference.{Reference, taken, slotIndex, wordsIn, plainTable, writtenByOther}
 use Rattle.model.specs.Machine.{Machine, Event, call, outcome, result, Run, follow, allowedAll, formatted}
+use Rattle.model.specs.History.{Put, history, recordsOn}
 
--- In English: format any machine, and let the format finish. Then let any events happen: calls taken, refused or cut at any
--- store, also inside a restart, whichever sources its steps name in whichever order; refused calls on other slices; new states;
--- refused formats; and whatever lost power leaves in the memories while the store is shut. If a restart end is then taken, the
--- page memory equals, word for word, the values that the committed transactions alone made, in commit order.
--- The list may go on after that: every taken restart end is the last call of such a list.
-unfoldable pub PowerLoss : Type 0
-PowerLoss =
+-- P holds of every machine and reference that is reached so: format any machine, and let the format finish. Then let any events
+-- happen: calls taken, refused or cut at any store, also inside a restart, whichever sources its steps name in whichever order;
+-- refused calls on other slices; new states; refused formats; and whatever lost power leaves in the memories while the store is
+-- shut.
+unfoldable pub Always : (Machine → Reference → Type 0) → Type 0
+Always P =
     (m : Machine) (s : Sizes) (budget : ℕ)
     → outcome m (format s budget) ≡ taken
-    → (events : List Event) (last : ℕ)
+    → (events : List Event)
     → allowedAll events (formatted m s budget .machine) ≡ true
-    → outcome (follow events (formatted m s budget) .machine) (restartEnd last) ≡ taken
-    → result (follow events (formatted m s budget) .machine) (restartEnd last) .world .pages
-    ≡ wordsIn (follow events (formatted m s budget) .reference .committed)
+    → P (follow events (formatted m s budget) .machine) (follow events (formatted m s budget) .reference)
+
+-- Power loss. If a restart end is taken, the page memory then equals, word for word, the values that the committed transactions
+-- alone made, in commit order. (Every taken restart end is the last call of a list: the list may go on after it.)
+unfoldable pub PowerLoss : Type 0
+PowerLoss =
+    Always λ m r. (budget : ℕ) → outcome m (restartEnd budget) ≡ taken
+    → result m (restartEnd budget) .world .pages ≡ wordsIn (r .committed)
+
+-- "Under demand 3's premises, with slices of the right lengths, restart begin in stage shut can give only 13.": it answers 0 or 13.
+unfoldable pub RestartAccepted : Type 0
+RestartAccepted =
+    Always λ m r. m .core .stage ≡ Shut
+    → (eqb (numberOf (result m restartBegin .answer)) 0 || eqb (numberOf (result m restartBegin .answer)) 13) ≡ true
+
+-- A plain table of slots. While the store is open or copying, the page memory is the committed contents with the open write sets
+-- laid over them; a taken read gives the slot's value in that table; 11 applies exactly when another open write set has a write
+-- to the slot.
+pub record PlainTable (m : Machine) (r : Reference) : Type 0 where
+  pub pages : m .world .pages ≡ wordsIn (plainTable r)
+  pub reads : (reader page slot : ℕ) → outcome m (read reader page slot) ≡ taken
+      → readWords (m .core) (m .world) reader page slot ≡ getD (plainTable r) (slotIndex (r .sizes) page slot) []
+  pub locks : (number page slot : ℕ) → page < m .core .sizes .pages → slot < slotsIn (m .core .sizes) page
+      → locked (m .core) (m .world) number page slot ≡ writtenByOther number page slot (r .writeSets)
+
+unfoldable pub Table : Type 0
+Table = Always λ m r. whenServing (m .core .stage) ≡ true → PlainTable m r
+
+-- No call ever finds a malformed record.
+unfoldable pub NeverMalformed : Type 0
+NeverMalformed = Always λ m r. (k : Call) → numberOf (result m k .answer) ≡ 7 → ⊥

@@ -1,7 +1,7 @@
 -- 01, "The book": the reference that the store is held to.
 use Prim.Native.Nat.{ℕ, _+_}
 use mathlib.Core.List.{List, [], _∷_, _++_}
-use mathlib.Core.Bool.{Bool, true, false, cond}
+use mathlib.Core.Bool.{Bool, true, false, cond, not, _&&_, _||_}
 use lib.ListN.{set, replicate}
 use lib.Dec.{eqb}
 use Rattle.model.specs.declared.Sizes.{Sizes}
@@ -136,3 +136,21 @@ hear h r = afterOutcome (h .outcome) (h .call) (h .number) r
 unfoldable pub wordsIn : List (List ℕ) → List ℕ
 wordsIn [] = []
 wordsIn (value ∷ rest) = value ++ wordsIn rest
+
+-- The plain table of slots: the committed contents with the open write sets laid over them.
+unfoldable pub laidOver : Sizes → List WriteSet → List (List ℕ) → List (List ℕ)
+laidOver s [] table = table
+laidOver s (x ∷ xs) table = laidOver s xs (applied s (x .writes) table)
+
+unfoldable pub plainTable : Reference → List (List ℕ)
+plainTable r = laidOver (r .sizes) (r .writeSets) (r .committed)
+
+-- a write set has a write to the slot; another transaction's has
+unfoldable pub writesSlot : ℕ → ℕ → List Write → Bool
+writesSlot page slot [] = false
+writesSlot page slot (e ∷ es) = (eqb (e .page) page && eqb (e .slot) slot) || writesSlot page slot es
+
+unfoldable pub writtenByOther : ℕ → ℕ → ℕ → List WriteSet → Bool
+writtenByOther number page slot [] = false
+writtenByOther number page slot (x ∷ xs) =
+    (not (eqb (x .number) number) && writesSlot page slot (x .writes)) || writtenByOther number page slot xs

@@ -11,13 +11,17 @@ use borrow.Author.Tests.{leb-true, leb-false, le-leb, lt-leb}
 use Rattle.model.specs.declared.Logs.{Logs}
 use Rattle.model.specs.declared.Core.{Core}
 use Rattle.model.specs.Sizes.{ringOf}
+use Rattle.model.specs.Word.{_⊕_}
 use Rattle.model.specs.World.{World, Action, perform, run, stores}
 use Rattle.model.specs.State.{startOf, fillOf, endOf, flushed, withLog}
 use Rattle.model.specs.Append.{Appended, append, appendIf, flush}
 use Rattle.model.specs.Reference.{Reference}
+use Rattle.model.proofs.Xor.{⊕-assoc}
 use Rattle.model.proofs.Flush.{OnlyLogs}
-use Rattle.model.proofs.Ledger.Entry.{Entry}
+use Rattle.model.proofs.Ledger.Entry.{Entry, sum, pick, onDisk}
 use Rattle.model.proofs.Ledger.Order.{on}
+use Rattle.model.proofs.Ledger.Sums.{sum-append}
+use Rattle.model.proofs.Ledger.Picks.{sum-pick}
 use Rattle.model.proofs.Link.Words.{Arrays}
 use Rattle.model.proofs.Link.Flush.{flush-only, fill-flushed, end-flushed, start-flushed}
 use Rattle.model.proofs.Link.Buffered.{Small}
@@ -46,6 +50,13 @@ pub record Ready (x : ℕ) (home : ℕ → ℕ) (c : Core) (w : World) (r : Refe
         logs = append (c .sizes) logs (perform flushing w .work) d words .logs;
       }
   pub cut : (k : ℕ) → k < stores flushing → Kept (run k flushing w) r
+
+-- entries moved from the second list to the end of the first have the same sums
+sum-flush : (p : Entry → Bool) (f : Entry → ℕ) (F B : List Entry) → sum f ((F ++ pick p B) ++ pick (λ q. not (p q)) B) ≡ sum f (F ++ B)
+sum-flush p f F B =
+    let rest : List Entry = pick (λ q. not (p q)) B in
+    sum-append f (F ++ pick p B) rest ∙ ap (λ (y : ℕ). y ⊕ sum f rest) (sum-append f F (pick p B))
+    ∙ ⊕-assoc (sum f F) (sum f (pick p B)) (sum f rest) ∙ ap (λ (y : ℕ). sum f F ⊕ y) (sum-pick p f B) ∙ sym (sum-append f F B)
 
 -- a core is itself with its own logs and table
 pub same-core : (c : Core) → withLog c (c .logs) (c .table) ≡ c
@@ -117,9 +128,20 @@ module _ {x : ℕ} {home : ℕ → ℕ} {c : Core} {w : World} {r : Reference} {
         cut = λ k l. kept (cut-safe (g .safe) d below room k l);
       }
 
+  choose : (b : Bool) → leb (fillOf (c .logs) d + n) 64 ≡ b → Ready x home c w r d n
+  choose true e = fits (leb-true _ _ e)
+  choose false e = full (leb-false _ _ e)
+
   pub ready : Ready x home c w r d n
-  ready = go (leb (fillOf (c .logs) d + n) 64) refl
-    where
-      go : (b : Bool) → leb (fillOf (c .logs) d + n) 64 ≡ b → Ready x home c w r d n
-      go true e = fits (leb-true _ _ e)
-      go false e = full (leb-false _ _ e)
+  ready = choose (leb (fillOf (c .logs) d + n) 64) refl
+
+  -- its entries are those that there were: they have the same sums
+  choose-sums : (f : Entry → ℕ) (b : Bool) (e : leb (fillOf (c .logs) d + n) 64 ≡ b)
+      → sum f (choose b e .flushed ++ choose b e .buffered) ≡ sum f (F ++ B)
+  unfolding choose fits full on
+  choose-sums f true e = refl
+  choose-sums f false e = sum-flush (onDisk d) f F B
+
+  pub ready-sums : (f : Entry → ℕ) → sum f (ready .flushed ++ ready .buffered) ≡ sum f (F ++ B)
+  unfolding ready
+  ready-sums f = choose-sums f (leb (fillOf (c .logs) d + n) 64) refl

@@ -1,0 +1,48 @@
+-- A run that meets the premises of the power-loss theorem: a commit, an abort and a checkpoint are cut, each followed by a restart.
+use mathlib.Core.Path.{_≡_, refl}
+use Prim.Native.Nat.{ℕ}
+use mathlib.Core.List.{List, [], _∷_, _++_, map}
+use mathlib.Core.Bool.{Bool, true}
+use lib.ListN.{replicate}
+use Rattle.model.specs.declared.Sizes.{Sizes}
+use Rattle.model.specs.Call.{Call, format, begin, update, commit, abort, checkpointBegin, checkpointStep, checkpointEnd, restartBegin, restartStep, restartEnd}
+use Rattle.model.specs.Reference.{Outcome, taken, wordsIn}
+use Rattle.model.specs.Machine.{Machine, Event, call, scramble, outcome, result, follow, allowedAll, formatted}
+use Rattle.model.proofs.Everything.{everything}
+use Rattle.model.proofs.Play.{unformatted}
+use Rattle.model.proofs.Positions.{plenty, small}
+
+-- lost power leaves anything in the memories; the backup is replayed before the log, and a step too many is refused
+restart : ℕ → List Event
+restart steps = scramble (9 ∷ 9 ∷ []) (replicate 130 9) ∷ map call (restartBegin ∷ restartStep 1 ∷ replicate steps (restartStep 0))
+
+-- a transaction of n updates of slot 0
+writing : ℕ → ℕ → List Event
+writing number n = call begin ∷ replicate n (call (update number 0 0 (12 ∷ []) plenty))
+
+-- slot 0 is committed as 2; a commit of 12 is cut before its tail word, an abort inside its flush, a checkpoint before its
+-- last store
+pub events : List Event
+events =
+    map call (begin ∷ update 1 0 0 (2 ∷ []) plenty ∷ commit 1 plenty ∷ [])
+    ++ writing 2 1 ++ call (commit 2 6) ∷ [] ++ restart 4 ++ call (restartEnd plenty) ∷ []
+    ++ writing 1 15 ++ call (abort 1 40) ∷ [] ++ restart 1 ++ call (restartEnd plenty) ∷ []
+    ++ writing 1 1 ++ map call (checkpointBegin ∷ checkpointStep plenty ∷ checkpointEnd 6 ∷ []) ++ restart 2
+
+pub start : Machine
+start = unformatted (small 1)
+
+opens : ℕ
+unfolding everything unformatted small restart writing events start
+opens = 0
+
+-- the format finishes, the events are allowed, and the last restart end is taken
+pub record Reaches (m : Machine) (s : Sizes) (budget : ℕ) (es : List Event) (last : ℕ) (slot : ℕ) : Type 0 where
+  pub formats : outcome m (format s budget) ≡ taken
+  pub allows : allowedAll es (formatted m s budget .machine) ≡ true
+  pub ends : outcome (follow es (formatted m s budget) .machine) (restartEnd last) ≡ taken
+  pub gives : result (follow es (formatted m s budget) .machine) (restartEnd last) .world .pages ≡ slot ∷ 0 ∷ []
+
+pub example-reaches : Reaches start (small 1) plenty events plenty 2
+unfolding opens
+example-reaches = record { formats = refl; allows = refl; ends = refl; gives = refl }

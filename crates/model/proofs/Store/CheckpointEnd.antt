@@ -1,0 +1,153 @@
+-- A checkpoint's end keeps what holds of an open store; cut before its last store, nothing is lost.
+use mathlib.Core.Path.{_≡_, refl, sym, _∙_}
+use mathlib.Core.List.{List, [], _∷_, _++_, append-assoc}
+use mathlib.Core.Bool.{Bool, true, false}
+use Prim.Native.Nat.{ℕ, _+_, _-_, _≤_, _<_}
+use native.Mathlib.Omega.{arith}
+use lib.Dec.{ltb}
+use borrow.Author.Tests.{leb-false, ltb-true, ltb-false}
+use Rattle.model.specs.declared.Sizes.{Sizes}
+use Rattle.model.specs.declared.Core.{Core}
+use Rattle.model.specs.Sizes.{ringOf, sizesInBounds}
+use Rattle.model.specs.Anchor.{sizesOn, epochOn, epochWord}
+use Rattle.model.specs.World.{World, Action, store, anchor, perform, stores, run, finishes}
+use Rattle.model.specs.State.{startOf, endOf, placeOf, isOpen, servingSound, withLog}
+use Rattle.model.specs.Refusal.{accepted, verdict}
+use Rattle.model.specs.Causes.{whenCopying}
+use Rattle.model.specs.Checkpoint.{perDisk, toCopy, lowestToCopy, newStart, checkpointEndRows, checkpointEndTask}
+use Rattle.model.specs.Transaction.{diskOf}
+use Rattle.model.specs.Reference.{Reference}
+use Rattle.model.proofs.Below.{first-before, list-cong}
+use Rattle.model.proofs.Reader.{cond-cong}
+use Rattle.model.proofs.Run.{perform-append, stores-append, run-append, run-cut, perform-lengths}
+use Rattle.model.proofs.Places.{open-place, place-holds}
+use Rattle.model.proofs.Ledger.Entry.{pick}
+use Rattle.model.proofs.Ledger.Ordered.{keptFrom}
+use Rattle.model.proofs.Store.View.{Kept, Serving, Served}
+use Rattle.model.proofs.Store.Rows.{row-passed, stage-row, copying-serving, copying-not-open, serving-sound, sizes-sound, disk-sound, place-sound}
+use Rattle.model.proofs.Store.Crash.{kept}
+use Rattle.model.proofs.Store.FlushAll.{flushes, Emptied, none-buffered, flush-below}
+use Rattle.model.proofs.Store.Starts.{Moved, startStores, endStores, end-moved, end-cut}
+use Rattle.model.proofs.Store.Switch.{switchedCore, switch-serving}
+
+-- Numbers for each disk that agree on the disks agree.
+per-disk-cong : (s : Sizes) (f h : ℕ → ℕ) → ((d : ℕ) → d < s .disks → f d ≡ h d) → perDisk s f ≡ perDisk s h
+unfolding perDisk
+per-disk-cong s f h same = list-cong _ _ 8 (λ d l. cond-cong (ltb d (s .disks)) (λ e. same d (ltb-true _ _ e)) (λ e. refl))
+
+-- What an accepted end finds: stage copying, a sound state, every page copied.
+record Accepted (c : Core) : Type 0 where
+  stage : whenCopying (c .stage) ≡ true
+  sound : servingSound c ≡ true
+  copied : c .sizes .pages ≤ lowestToCopy c
+
+end-accepted : (c : Core) (w : World) → verdict (checkpointEndRows c w) ≡ accepted → Accepted c
+unfolding checkpointEndRows
+end-accepted c w e =
+    let one = row-passed _ _ e in
+    let two = row-passed _ _ (one .1) in
+    let five = row-passed _ _ (two .1) in
+    let last = row-passed _ _ (five .1) in
+    let stage = stage-row whenCopying c (one .0) in
+    record {
+      stage = stage .0;
+      sound = serving-sound c (copying-serving c (stage .0)) (stage .1);
+      copied = ltb-false _ _ (last .0);
+    }
+
+-- no page left to copy: as many are copied as there are
+all-copied : (c : Core) → 1 ≤ c .sizes .pages → c .sizes .pages ≤ lowestToCopy c → c .sizes .pages ≤ c .checkpoint .copied
+unfolding lowestToCopy toCopy
+all-copied c some h =
+    let last = first-before (toCopy c) (c .sizes .pages) (c .sizes .pages - 1) (omega arith) in
+    omega (arith, leb-false (c .checkpoint .copied) (c .sizes .pages - 1) last)
+
+module _ {c : Core} {w : World} {r : Reference} (g : Served c w r) (ok : verdict (checkpointEndRows c w) ≡ accepted) where
+  found : Accepted c
+  found = end-accepted c w ok
+
+  room : (d : ℕ) → d < c .sizes .disks → endOf (c .logs) d ≤ startOf (c .logs) d + ringOf (c .sizes) d
+  room d h = omega (arith, disk-sound c d (found .sound) h .room)
+
+  disks : (t : ℕ) → isOpen (c .table) t ≡ true → diskOf c t < c .sizes .disks
+  unfolding diskOf
+  disks t o =
+      let at = open-place (c .table) t o in
+      let there = place-holds (c .table) t (at .1) in
+      place-sound c (placeOf (c .table) t) (found .sound) (at .1) (λ z. at .0 (sym there ∙ z)) .disk
+
+  -- after the flushes
+  emptied : Emptied 0 (g .home) c w r (c .sizes .disks)
+  emptied = flush-below (g .serving) room (c .sizes .disks) (omega arith)
+
+  abbrev full : Core
+  full = withLog c (emptied .logs) (c .table)
+
+  abbrev flushing : List Action
+  flushing = flushes c w (c .sizes .disks)
+
+  abbrev mid : World
+  mid = perform flushing w
+
+  settled : Serving 0 (g .home) full mid r (emptied .flushed) []
+  settled = rw (none-buffered emptied) at (emptied .serving)
+
+  bounds : sizesInBounds (sizesOn (mid .anchor)) ≡ true
+  unfolding withLog
+  bounds = rw (settled .safe .devices .sizes) (sizes-sound c (found .sound))
+
+  number : epochOn (mid .anchor) ≡ c .epoch
+  unfolding withLog
+  number = settled .safe .devices .epoch
+
+  few : c .sizes .disks ≤ 8
+  few = g .serving .safe .devices .arrays .disks
+
+  -- the call's list is the flushes, then the stores of the anchor
+  abbrev last : List Action
+  last = endStores (c .epoch) (newStart c) (c .sizes .disks)
+
+  parts : checkpointEndTask c w .actions ≡ flushing ++ last
+  unfolding checkpointEndTask
+  parts =
+      append-assoc flushing (startStores (c .epoch) (newStart c) (c .sizes .disks)) (store anchor epochWord (c .epoch + 1) ∷ [])
+
+  moved : Moved (full .epoch) (newStart full) (full .sizes .disks) mid (perform last mid)
+  unfolding withLog newStart
+  moved = end-moved (c .epoch) (newStart c) (c .sizes .disks) mid few (settled .safe .devices .anchor)
+
+  switched : Serving 0 (g .home) (switchedCore full) (perform last mid) r (pick (keptFrom (newStart full)) (emptied .flushed)) []
+  unfolding withLog diskOf
+  switched =
+      switch-serving settled (copying-not-open c (found .stage))
+      (all-copied c (g .serving .safe .devices .bounds .pages-min) (found .copied)) disks moved (perform-lengths last mid)
+
+  -- a flush does not move the end of a log, so the tails are the ends at entry
+  same-core : switchedCore full ≡ checkpointEndTask c w .core
+  unfolding checkpointEndTask withLog newStart
+  same-core = rw (per-disk-cong (c .sizes) (endOf (emptied .logs)) (endOf (c .logs)) (emptied .ends))
+
+  -- the whole call: the store is open, with the next checkpoint's backup and starts
+  pub checkpoint-end-serves : Served (checkpointEndTask c w .core) (perform (checkpointEndTask c w .actions) w) r
+  checkpoint-end-serves =
+      rw (parts, perform-append flushing last w, ← same-core)
+      (record { home = g .home; flushed = pick (keptFrom (newStart full)) (emptied .flushed); buffered = []; serving = switched })
+
+  -- the call cut: a restart still gives what is committed
+  pub checkpoint-end-cut : (budget : ℕ) → finishes budget (checkpointEndTask c w .actions) ≡ false
+      → Kept (run budget (checkpointEndTask c w .actions) w) r
+  unfolding finishes
+  checkpoint-end-cut budget short = rw parts (go (ltb budget (stores flushing)) refl)
+    where
+      less : budget < stores (flushing ++ last)
+      less = rw parts at (leb-false (stores (checkpointEndTask c w .actions)) budget short)
+
+      go : (b : Bool) → ltb budget (stores flushing) ≡ b → Kept (run budget (flushing ++ last) w) r
+      go true e =
+          let l = ltb-true budget (stores flushing) e in
+          rw (run-cut budget flushing last w l) (emptied .cut budget l)
+      go false e =
+          let l = ltb-false budget (stores flushing) e in
+          rw (run-append budget flushing last w l)
+          (end-cut (c .epoch) (newStart c) (c .sizes .disks) mid few bounds number (kept (settled .safe))
+          (budget - stores flushing) (omega (arith, stores-append flushing last, less)))

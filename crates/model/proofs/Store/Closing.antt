@@ -1,0 +1,229 @@
+-- The end of a commit: the closing record goes behind the buffered ones of its disk, and the disk is flushed. Before the last
+-- store the transaction is not committed; with it, its writes are in the committed contents.
+use mathlib.Core.Path.{_≡_, refl, sym, ap, subst, fun-ext, _∙_}
+use mathlib.Core.List.{List, [], _∷_, _++_, map}
+use mathlib.Core.Bool.{true, false}
+use Prim.Native.Nat.{ℕ, _+_, _≤_, _<_}
+use native.Mathlib.Omega.{arith}
+use native.Mathlib.Decide.{decLt}
+use lib.ListN.{getD}
+use Rattle.model.specs.declared.Sizes.{Sizes}
+use Rattle.model.specs.declared.Core.{Core}
+use Rattle.model.specs.Sizes.{total, ringOf}
+use Rattle.model.specs.Record.{encode}
+use Rattle.model.specs.Anchor.{backupAt}
+use Rattle.model.specs.World.{World, Action, perform, stores, run}
+use Rattle.model.specs.Memory.{bufferAt, epochAt, epochOf}
+use Rattle.model.specs.State.{startOf, fillOf, endOf, flushed, withLog, without, isOpen}
+use Rattle.model.specs.Append.{Appended, append, flush}
+use Rattle.model.specs.Transaction.{diskOf}
+use Rattle.model.specs.Reference.{Reference, writesOf, removed, applied, wordsIn}
+use Rattle.model.proofs.Lengths.{Lengths, lengths-right}
+use Rattle.model.proofs.Run.{SameLengths, same-lengths-trans, perform-lengths}
+use Rattle.model.proofs.Flush.{OnlyLogs}
+use Rattle.model.proofs.Geometry.{pageOf, slotStart, slot-in}
+use Rattle.model.proofs.Slots.{patchOf, Shaped, words-applied, applied-shaped}
+use Rattle.model.proofs.WriteSets.{writes-removed-other}
+use Rattle.model.proofs.Places.{open-place, close-open}
+use Rattle.model.proofs.Ledger.Entry.{Entry, recordOf, isClose, closedIn, patched}
+use Rattle.model.proofs.Ledger.State.{committedBy, Same}
+use Rattle.model.proofs.Ledger.Order.{Ordered, sizeOf, on}
+use Rattle.model.proofs.Ledger.Sums.{true-false}
+use Rattle.model.proofs.Ledger.Word.{kept-open}
+use Rattle.model.proofs.Ledger.Ordered.{ordered-commit}
+use Rattle.model.proofs.Ledger.Good.{Good, good-same}
+use Rattle.model.proofs.Ledger.Close.{commit-good}
+use Rattle.model.proofs.Link.Words.{Fit, Link, lengths-perform}
+use Rattle.model.proofs.Link.Flush.{flush-link, flush-only, flush-cut, cut-only, arrays-flushed, start-flushed}
+use Rattle.model.proofs.Link.Buffered.{Small, Longer, InBuffer, owners-same, epochs-same}
+use Rattle.model.proofs.Store.View.{Kept, view, Devices, Safe, Accounts, Epochs, Serving, before}
+use Rattle.model.proofs.Store.Crash.{kept}
+use Rattle.model.proofs.Store.Flush.{devices-kept, left}
+use Rattle.model.proofs.Store.Logged.{longer, in-buffer, link-logged, ordered-logged, logged-stores}
+use Rattle.model.proofs.Store.Linked.{kept-linked}
+use Rattle.model.proofs.Store.Closed.{all-writes, sets-closed, accounts-closed, committedLog, lists, moved, closed, bounds}
+
+-- the reference after the commit of a transaction
+abbrev pub committedReference : Reference → ℕ → Reference
+committedReference r n =
+    record { sizes = r .sizes; committed = applied (r .sizes) (writesOf n (r .writeSets)) (r .committed); writeSets = removed n (r .writeSets) }
+
+-- The closing record e of an open transaction, appended where the buffer has room, and its disk flushed.
+module _ {home : ℕ → ℕ} {c : Core} {w : World} {r : Reference} {F B : List Entry} (g : Serving 0 home c w r F B) (e : Entry)
+    (opened : isOpen (c .table) (e .number) ≡ true) (closes : isClose e ≡ true) (there : e .disk ≡ diskOf c (e .number))
+    (below : e .disk < c .sizes .disks) (small : Small (c .sizes) (c .logs)) (room : fillOf (c .logs) (e .disk) + sizeOf e ≤ 64)
+    (at-end : e .position ≡ endOf (c .logs) (e .disk)) (fit : Fit (c .sizes) e)
+    (space : endOf (c .logs) (e .disk) + sizeOf e ≤ startOf (c .logs) (e .disk) + ringOf (c .sizes) (e .disk)) where
+  abbrev added : Appended
+  added = append (c .sizes) (c .logs) (w .work) (e .disk) (encode (recordOf e))
+
+  abbrev addedWorld : World
+  addedWorld = perform (added .actions) w
+
+  abbrev flushing : List Action
+  flushing = flush (c .sizes) (added .logs) (addedWorld .work) (e .disk)
+
+  abbrev doneWorld : World
+  doneWorld = perform flushing addedWorld
+
+  abbrev doneCore : Core
+  doneCore = withLog c (flushed (added .logs) (e .disk)) (without (c .table) (e .number))
+
+  abbrev doneReference : Reference
+  doneReference = committedReference r (e .number)
+
+  abbrev gone : List Entry
+  gone = committedLog F B e
+
+  abbrev rest : List Entry
+  rest = left (e .disk) B
+
+  here : e .disk ≡ home (e .number)
+  here = there ∙ sym (g .accounts .homes (e .number) opened)
+
+  unclosed : closedIn (F ++ B) (e .number) ≡ false
+  unfolding view
+  unclosed = g .safe .good .unclosed (e .number) opened
+
+  more : Longer (c .sizes) (e .disk) (sizeOf e) (c .logs) (added .logs)
+  more = longer (g .safe) e below here small room at-end unclosed fit
+
+  buffer : InBuffer (c .sizes) (e .disk) w addedWorld
+  buffer = in-buffer (g .safe) e below here small room at-end unclosed fit
+
+  linked : Link (c .sizes) (added .logs) addedWorld F (B ++ e ∷ [])
+  linked = link-logged (g .safe) e below here small room at-end unclosed fit
+
+  right : Lengths (c .sizes) addedWorld
+  right = lengths-perform (added .actions) (lengths-right (c .sizes) w (g .safe .devices .lengths))
+
+  ring-room : endOf (added .logs) (e .disk) ≤ startOf (added .logs) (e .disk) + ringOf (c .sizes) (e .disk)
+  ring-room = rw (more .start-same (e .disk), more .end-longer) space
+
+  only : OnlyLogs addedWorld doneWorld
+  only = flush-only (c .sizes) (added .logs) addedWorld (e .disk)
+
+  -- the append stores nothing
+  pub closing-append : stores (added .actions) ≡ 0
+  closing-append = logged-stores (g .safe) e below here small room at-end unclosed fit
+
+  -- cut inside that flush, nothing is lost
+  pub closing-cut : (k : ℕ) → k < stores flushing → Kept (run k flushing addedWorld) r
+  closing-cut k h =
+      let part-way = cut-only (c .sizes) (added .logs) addedWorld (e .disk) k h in
+      kept-linked (g .safe .link) (flush-cut linked right (more .arrays) (e .disk) below ring-room k h) (g .safe .devices .sizes)
+      (part-way .anchor-same ∙ buffer .anchor-same) (part-way .backups-same ∙ buffer .backups-same) (g .safe .devices .starts) (more .start-same)
+      (kept (g .safe))
+
+  lengths : SameLengths doneWorld w
+  lengths = same-lengths-trans (perform-lengths flushing addedWorld) (perform-lengths (added .actions) w)
+
+  start-same : (d : ℕ) → startOf (flushed (added .logs) (e .disk)) d ≡ startOf (c .logs) d
+  start-same d = start-flushed (added .logs) (e .disk) d ∙ more .start-same d
+
+  devices : Devices doneCore doneWorld
+  devices =
+      devices-kept (g .safe .devices) (flushed (added .logs) (e .disk)) (without (c .table) (e .number)) doneWorld start-same
+      (arrays-flushed (c .sizes) (added .logs) (e .disk) (more .arrays) below) (only .anchor-same ∙ buffer .anchor-same) lengths
+
+  -- the copy epochs stay
+  epoch-same : (p : ℕ) → epochOf (c .sizes) (doneWorld .work) p ≡ epochOf (c .sizes) (w .work) p
+  unfolding epochOf epochAt
+  epoch-same p =
+      ap (λ (m : List ℕ). getD m (bufferAt (c .sizes) (c .sizes .disks) + p) 0) (only .work-same)
+      ∙ epochs-same buffer (bufferAt (c .sizes) (c .sizes .disks) + p) below (omega arith)
+
+  -- the committed contents are those before with the transaction's writes
+  words-committed : (i : ℕ) → getD (wordsIn (doneReference .committed)) i 0
+      ≡ patched i (map (patchOf (c .sizes)) (writesOf (e .number) (r .writeSets))) (getD (wordsIn (r .committed)) i 0)
+  words-committed i =
+      ap (λ (s : Sizes). getD (wordsIn (applied s (writesOf (e .number) (r .writeSets)) (r .committed))) i 0) (g .safe .sizes)
+      ∙ words-applied (c .sizes) (writesOf (e .number) (r .writeSets)) (r .committed) (g .safe .shaped)
+      (all-writes _ (e .number) (r .writeSets) (g .sets .fits)) i
+
+  same : Same (total (c .sizes)) (committedBy (view c w r F B) e) (view doneCore doneWorld doneReference gone rest)
+  unfolding view committedBy withLog on
+  same =
+      record {
+        epoch = refl;
+        next = refl;
+        pages = λ i h. ap (λ (m : List ℕ). getD m i 0) (sym (only .pages-same ∙ buffer .pages-same));
+        current = λ i h. ap (λ (m : List ℕ). getD m (backupAt (c .sizes) (c .epoch) + i) 0) (sym (only .backups-same ∙ buffer .backups-same));
+        other = λ i h. ap (λ (m : List ℕ). getD m (backupAt (c .sizes) (c .epoch + 1) + i) 0) (sym (only .backups-same ∙ buffer .backups-same));
+        epochs = λ i h. sym (epoch-same (pageOf (c .sizes) i));
+        owners =
+            λ i h. sym
+            (ap (λ (m : List ℕ). getD m (slotStart (c .sizes) i) 0) (only .work-same)
+            ∙ owners-same buffer (slotStart (c .sizes) i) (slot-in (c .sizes) i h .start-lt));
+        committed = λ i h. sym (words-committed i);
+        writes =
+            λ u o. ap (map (patchOf (c .sizes)))
+            (sym (writes-removed-other (e .number) (r .writeSets) u (kept-open (isOpen (c .table)) (e .number) u o .1)));
+        opened = λ u. sym (close-open (c .table) (g .accounts .tabled) (e .number) opened u);
+        flushed = refl;
+        buffered = refl;
+      }
+
+  good : Good 0 (total (c .sizes)) (view doneCore doneWorld doneReference gone rest)
+  unfolding view
+  good = good-same same (commit-good home e (g .safe .ordered .homed) here closes opened (g .safe .good))
+
+  safe : Safe 0 home doneCore doneWorld doneReference gone rest
+  unfolding withLog
+  safe =
+      record {
+        devices = devices;
+        good = good;
+        link =
+            lists F B e (Link (c .sizes) (flushed (added .logs) (e .disk)) doneWorld)
+            (flush-link linked right (more .arrays) (e .disk) below ring-room);
+        ordered =
+            subst (λ (start : ℕ → ℕ). Ordered (c .sizes .disks) start home gone rest)
+            (fun-ext (λ d. sym (start-flushed (added .logs) (e .disk) d)))
+            (ordered-commit B e (ordered-logged (g .safe) e below here small room at-end unclosed fit));
+        fit = moved F B e (Fit (c .sizes)) (g .safe .fit) fit;
+        sizes = g .safe .sizes;
+        shaped =
+            subst (λ (s : Sizes). Shaped (c .sizes) (applied s (writesOf (e .number) (r .writeSets)) (r .committed))) (sym (g .safe .sizes))
+            (applied-shaped (c .sizes) (writesOf (e .number) (r .writeSets)) (r .committed) (g .safe .shaped)
+            (all-writes _ (e .number) (r .writeSets) (g .sets .fits)));
+      }
+
+  known : e .number < c .next
+  unfolding view
+  known = go (decLt (e .number) (c .next))
+    where
+      go : Dec (e .number < c .next) → e .number < c .next
+      go (yes h) = h
+      go (no h) = true-false opened (g .safe .good .unused (e .number) (omega arith) .1)
+
+  accounts : Accounts 0 home doneCore gone rest
+  accounts =
+      accounts-closed (g .accounts) e gone rest opened closes (λ u ne o z. open-place (c .table) u o .0 z) (moved F B e) (closed F B e closes) (bounds F B e)
+      (flushed (added .logs) (e .disk)) start-same known
+
+  not-change : {X : Type 0} → isClose e ≡ false → X
+  not-change o = true-false closes o
+
+  epochs : Epochs doneCore doneWorld gone rest
+  unfolding withLog before
+  epochs =
+      record {
+        copied = g .epochs .copied;
+        pages = λ p h. epoch-same p ∙ g .epochs .pages p h;
+        capped = moved F B e _ (g .epochs .capped) not-change;
+        early = moved F B e _ (g .epochs .early) (λ b. not-change);
+        ends = λ o d h. rw (start-same d) (bounds F B e _ _ d (g .epochs .ends o d h));
+      }
+
+  -- whole, the transaction is committed
+  pub closing-serves : Serving 0 home doneCore doneWorld doneReference gone rest
+  unfolding withLog
+  closing-serves =
+      record {
+        stage = g .stage;
+        safe = safe;
+        accounts = accounts;
+        epochs = epochs;
+        sets = sets-closed (g .accounts .tabled) (e .number) opened (g .sets) (flushed (added .logs) (e .disk)) doneReference refl;
+      }

@@ -1,0 +1,187 @@
+-- Commit: its closing record is appended, after a flush if the buffer is full, and its disk is flushed. An accepted commit leaves
+-- an open store with the transaction's writes committed; one that is cut loses nothing that was committed before.
+use mathlib.Core.Path.{_≡_, refl, sym, ap, _∙_}
+use mathlib.Core.List.{List, [], _++_, append-assoc}
+use mathlib.Core.Bool.{true, false}
+use Prim.Native.Nat.{ℕ, _+_, _-_, _≤_, _<_}
+use native.Mathlib.Omega.{arith}
+use native.Mathlib.Decide.{decLt}
+use borrow.Author.Tests.{leb-false, not-false}
+use Rattle.model.specs.declared.Sizes.{Sizes}
+use Rattle.model.specs.declared.Core.{Core}
+use Rattle.model.specs.Sizes.{ringOf}
+use Rattle.model.specs.Record.{encode, close, commitKind}
+use Rattle.model.specs.World.{World, Action, perform, stores, run, finishes}
+use Rattle.model.specs.State.{startOf, fillOf, endOf, flushed, withLog, without, placeOf, isOpen}
+use Rattle.model.specs.Refusal.{accepted, verdict}
+use Rattle.model.specs.Causes.{notOpen}
+use Rattle.model.specs.Append.{Appended, append, flush}
+use Rattle.model.specs.Transaction.{diskOf, commitRows, commitTask}
+use Rattle.model.specs.Call.{commit}
+use Rattle.model.specs.Reference.{Reference, afterTaken}
+use Rattle.model.proofs.Run.{perform-append, stores-append, run-append, run-cut}
+use Rattle.model.proofs.Places.{open-place, place-holds}
+use Rattle.model.proofs.Ledger.Entry.{Entry, recordOf, isClose}
+use Rattle.model.proofs.Ledger.Order.{sizeOf}
+use Rattle.model.proofs.Ledger.Sums.{true-false}
+use Rattle.model.proofs.Link.Words.{Fit}
+use Rattle.model.proofs.Link.Buffered.{Small}
+use Rattle.model.proofs.Store.View.{Kept, Served}
+use Rattle.model.proofs.Store.Rows.{row-passed, serving-row, serving-sound, disk-sound, place-sound}
+use Rattle.model.proofs.Store.Ready.{Ready, ready}
+use Rattle.model.proofs.Store.Closed.{reserved-on}
+use Rattle.model.proofs.Store.Closing.{committedReference, closing-append, closing-cut, closing-serves}
+
+-- What an accepted commit may rely on: the transaction is open, on a disk with room for its closing record.
+record Allowed (c : Core) (n : ℕ) : Type 0 where
+  opened : isOpen (c .table) n ≡ true
+  below : diskOf c n < c .sizes .disks
+  small : Small (c .sizes) (c .logs)
+  space : endOf (c .logs) (diskOf c n) + 2 ≤ startOf (c .logs) (diskOf c n) + ringOf (c .sizes) (diskOf c n)
+
+allowed : (c : Core) (w : World) (n : ℕ) → verdict (commitRows c w n) ≡ accepted → Allowed c n
+unfolding commitRows notOpen diskOf endOf
+allowed c w n e =
+    let r1 = row-passed _ _ e in
+    let r2 = row-passed _ _ (r1 .1) in
+    let r5 = row-passed _ _ (r2 .1) in
+    let r9 = row-passed _ _ (r5 .1) in
+    let o : isOpen (c .table) n ≡ true = not-false _ (r9 .0) in
+    let serving = serving-row c (r1 .0) in
+    let sound = serving-sound c (serving .0) (serving .1) in
+    let at = open-place (c .table) n o in
+    let place = place-sound c (placeOf (c .table) n) sound (at .1) (λ z. at .0 (sym (place-holds (c .table) n (at .1)) ∙ z)) in
+    let disk = disk-sound c (diskOf c n) sound (place .disk) in
+    record {
+      opened = o;
+      below = place .disk;
+      small = λ d h. disk-sound c d sound h .fill;
+      space = omega (arith, disk .room, disk .ordered, place .reserved, reserved-on c n o);
+    }
+
+-- the closing record of transaction n at position p of disk d
+abbrev closing : ℕ → ℕ → ℕ → Entry
+closing d p n = record { disk = d; position = p; kind = commitKind; page = 0; slot = 0; number = n; epoch = 0; at = 0; diff = [] }
+
+module _ (d p n : ℕ) where
+  closing-size : sizeOf (closing d p n) ≡ 2
+  unfolding sizeOf recordOf isClose encode
+  closing-size = refl
+
+  closing-closes : isClose (closing d p n) ≡ true
+  unfolding isClose
+  closing-closes = refl
+
+  closing-fit : (s : Sizes) → (n ≡ 0 → ⊥) → Fit s (closing d p n)
+  unfolding recordOf isClose
+  closing-fit s some =
+      record {
+        formed = record { kind-ge = omega arith; kind-lt = omega arith; number-pos = omega (arith, some) };
+        slotted = λ z. true-false refl z;
+      }
+
+module _ {c : Core} {w : World} {r : Reference} (g : Served c w r) (n : ℕ) (a : Allowed c n) where
+  start : Ready 0 (g .home) c w r (diskOf c n) 2
+  start = ready (g .serving) (diskOf c n) 2 (a .below) (a .small) (omega (arith, a .space)) (omega arith)
+
+  abbrev e : Entry
+  e = closing (diskOf c n) (endOf (start .logs) (diskOf c n)) n
+
+  -- the store after the flush that makes room, the append there, and the flush behind it
+  abbrev core : Core
+  core = withLog c (start .logs) (c .table)
+
+  abbrev world : World
+  world = perform (start .flushing) w
+
+  abbrev added : Appended
+  added = append (c .sizes) (start .logs) (world .work) (diskOf c n) (encode (recordOf e))
+
+  abbrev flushing : List Action
+  flushing = flush (c .sizes) (added .logs) (perform (added .actions) world .work) (diskOf c n)
+
+  task : commitTask c w n
+      ≡ record {
+        actions = start .flushing ++ (added .actions ++ flushing);
+        core = withLog c (flushed (added .logs) (diskOf c n)) (without (c .table) n);
+        value = 0;
+      }
+  unfolding commitTask recordOf isClose encode
+  task =
+      ap (λ (x : Appended).
+      record {
+        actions = x .actions ++ flush (c .sizes) (x .logs) (perform (x .actions) w .work) (diskOf c n);
+        core = withLog c (flushed (x .logs) (diskOf c n)) (without (c .table) n);
+        value = 0;
+      })
+      (start .split (encode (close commitKind n)) refl)
+      ∙ rw (perform-append, append-assoc)
+
+  some : n ≡ 0 → ⊥
+  some = open-place (c .table) n (a .opened) .0
+
+  room : fillOf (start .logs) (diskOf c n) + sizeOf e ≤ 64
+  room = omega (arith, start .room, closing-size (diskOf c n) (endOf (start .logs) (diskOf c n)) n)
+
+  space : endOf (start .logs) (diskOf c n) + sizeOf e ≤ startOf (start .logs) (diskOf c n) + ringOf (c .sizes) (diskOf c n)
+  space =
+      omega (arith, start .ends, start .starts (diskOf c n), a .space, closing-size (diskOf c n) (endOf (start .logs) (diskOf c n)) n)
+
+  abbrev closes : isClose e ≡ true
+  closes = closing-closes (diskOf c n) (endOf (start .logs) (diskOf c n)) n
+
+  abbrev fit : Fit (c .sizes) e
+  fit = closing-fit (diskOf c n) (endOf (start .logs) (diskOf c n)) n (c .sizes) some
+
+  serves : Served (withLog c (flushed (added .logs) (diskOf c n)) (without (c .table) n)) (perform flushing (perform (added .actions) world))
+      (committedReference r n)
+  unfolding withLog diskOf
+  serves =
+      record {
+        home = g .home;
+        flushed = _;
+        buffered = _;
+        serving = closing-serves (start .serving) e (a .opened) closes refl (a .below) (start .small) room refl fit space;
+      }
+
+  cut : (k : ℕ) → k < stores flushing → Kept (run k flushing (perform (added .actions) world)) r
+  unfolding withLog diskOf
+  cut k h = closing-cut (start .serving) e (a .opened) closes refl (a .below) (start .small) room refl fit space k h
+
+  no-stores : stores (added .actions) ≡ 0
+  unfolding withLog diskOf
+  no-stores = closing-append (start .serving) e (a .opened) closes refl (a .below) (start .small) room refl fit space
+
+  -- the list cut before its end: inside the first flush, or inside the second
+  cut-anywhere : (k : ℕ) → k < stores (start .flushing ++ (added .actions ++ flushing))
+      → Kept (run k (start .flushing ++ (added .actions ++ flushing)) w) r
+  cut-anywhere k h = go (decLt k (stores (start .flushing)))
+    where
+      go : Dec (k < stores (start .flushing)) → Kept (run k (start .flushing ++ (added .actions ++ flushing)) w) r
+      go (yes l) = rw (run-cut k (start .flushing) (added .actions ++ flushing) w l) (start .cut k l)
+      go (no l) =
+          let more = stores-append (start .flushing) (added .actions ++ flushing) in
+          let last = stores-append (added .actions) flushing in
+          rw (
+            run-append k (start .flushing) (added .actions ++ flushing) w (omega arith),
+            run-append (k - stores (start .flushing)) (added .actions) flushing world (omega (arith, no-stores)),
+          )
+          (cut (k - stores (start .flushing) - stores (added .actions)) (omega (arith, no-stores)))
+
+-- An accepted commit keeps the store open, and commits the transaction.
+pub commit-serves : {c : Core} {w : World} {r : Reference} → Served c w r → (number budget n : ℕ)
+    → verdict (commitRows c w number) ≡ accepted
+    → Served (commitTask c w number .core) (perform (commitTask c w number .actions) w) (afterTaken (commit number budget) n r)
+commit-serves {c} {w} g number budget n v =
+    let a = allowed c w number v in
+    rw (task g number a, perform-append, perform-append) (serves g number a)
+
+-- Cut, it leaves what was committed before it.
+pub commit-cut : {c : Core} {w : World} {r : Reference} → Served c w r → (number budget : ℕ)
+    → verdict (commitRows c w number) ≡ accepted → finishes budget (commitTask c w number .actions) ≡ false
+    → Kept (run budget (commitTask c w number .actions) w) r
+unfolding finishes
+commit-cut {c} {w} g number budget v f =
+    let a = allowed c w number v in
+    let less : budget < stores (commitTask c w number .actions) = leb-false _ _ f in
+    rw (task g number a) (cut-anywhere g number a budget (rw (task g number a) at less))

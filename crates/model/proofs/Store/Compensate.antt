@@ -1,0 +1,243 @@
+-- One update taken back inside an abort: the store goes on as it did, and a cut loses nothing.
+use mathlib.Core.Path.{_≡_, refl, sym, ap, _∙_}
+use mathlib.Core.List.{List, [], _∷_, _++_}
+use mathlib.Core.Bool.{true, false}
+use Prim.Native.Nat.{ℕ, _+_, _≤_, _<_}
+use native.Mathlib.Omega.{arith}
+use lib.Dec.{eqb}
+use lib.ListN.{length, getD}
+use borrow.Author.Tests.{eq-eqb}
+use Rattle.model.specs.declared.Sizes.{Sizes}
+use Rattle.model.specs.declared.Core.{Core}
+use Rattle.model.specs.Word.{_⊕_, xors, part}
+use Rattle.model.specs.Sizes.{slotsIn, widthIn, slotBase, total, ringOf}
+use Rattle.model.specs.Record.{encode, compensationKind}
+use Rattle.model.specs.Scan.{Update}
+use Rattle.model.specs.World.{World, Action, pages, perform, stores, run}
+use Rattle.model.specs.Memory.{epochAt, epochOf}
+use Rattle.model.specs.State.{startOf, endOf, withLog, isOpen, placeOf, hasUpdate}
+use Rattle.model.specs.Append.{Appended}
+use Rattle.model.specs.Transaction.{diskOf}
+use Rattle.model.specs.Abort.{xorIn, compensate}
+use Rattle.model.specs.Image.{xorAt}
+use Rattle.model.specs.Reference.{Reference}
+use Rattle.model.proofs.Run.{perform-append, stores-written}
+use Rattle.model.proofs.Lengths.{lengths-right}
+use Rattle.model.proofs.Geometry.{pageOf, slotStart, slot-start, slot-in, slot-end-total}
+use Rattle.model.proofs.Restart.Words.{withPages, perform-xor, xor-at-word, length-xor-at, spanning-true}
+use Rattle.model.proofs.Ledger.Entry.{Entry, recordOf, isClose, mask, spanning, share, adds}
+use Rattle.model.proofs.Ledger.State.{logged, Same}
+use Rattle.model.proofs.Ledger.Order.{sizeOf}
+use Rattle.model.proofs.Ledger.Word.{ofTxn}
+use Rattle.model.proofs.Ledger.Good.{Good, good-same}
+use Rattle.model.proofs.Ledger.Update.{compensate-good}
+use Rattle.model.proofs.Link.Words.{Fit}
+use Rattle.model.proofs.Link.Buffered.{Small, InBuffer, owners-same, epochs-same}
+use Rattle.model.proofs.Store.View.{Kept, view, Serving}
+use Rattle.model.proofs.Store.Logged.{Written}
+use Rattle.model.proofs.Store.LogEnd.{capped, early}
+use Rattle.model.proofs.Store.Put.{open-used, MayPut, put, put-longer, put-in-buffer, F1, B1, made-good, put-sums, put-safe, put-epochs, put-own, put-cut}
+
+-- An update as an abort reads it names a slot and has its width.
+pub record Slotted (s : Sizes) (u : Update) : Type 0 where
+  pub page-in : u .page < s .pages
+  pub slot-in : u .slot < slotsIn s (u .page)
+  pub width : length (u .diff) ≡ widthIn s (u .page)
+
+-- What some compensations leave: the log of disk d has n words more, and the transaction's entries add `more` besides.
+pub record Compensated (t : ℕ) (home : ℕ → ℕ) (c : Core) (w : World) (r : Reference) (F B : List Entry) (d n : ℕ) (more : ℕ → ℕ) (done : Appended) : Type 0 where
+  pub flushed : List Entry
+  pub buffered : List Entry
+  pub serving : Serving t home (withLog c (done .logs) (c .table)) (perform (done .actions) w) r flushed buffered
+  pub sums : (i : ℕ) → ofTxn i t (flushed ++ buffered) ≡ ofTxn i t (F ++ B) ⊕ more i
+  pub starts : (e : ℕ) → startOf (done .logs) e ≡ startOf (c .logs) e
+  pub ends : endOf (done .logs) d ≡ endOf (c .logs) d + n
+  pub small : Small (c .sizes) (done .logs)
+  pub cut : (k : ℕ) → k < stores (done .actions) → Kept (run k (done .actions) w) r
+
+-- One update u of transaction t taken back, with room for its record.
+module _ {t : ℕ} {home : ℕ → ℕ} {c : Core} {w : World} {r : Reference} {F B : List Entry} (g : Serving t home c w r F B)
+    (opened : isOpen (c .table) t ≡ true) (has : hasUpdate (c .table) (placeOf (c .table) t) ≡ true) (below : diskOf c t < c .sizes .disks)
+    (small : Small (c .sizes) (c .logs)) (u : Update) (slotted : Slotted (c .sizes) u)
+    (room : endOf (c .logs) (diskOf c t) + (3 + length (u .diff)) ≤ startOf (c .logs) (diskOf c t) + ringOf (c .sizes) (diskOf c t)) where
+  abbrev s : Sizes
+  s = c .sizes
+
+  abbrev d : ℕ
+  d = diskOf c t
+
+  abbrev at : ℕ
+  at = slotBase s (u .page) (u .slot)
+
+  -- the compensation record
+  abbrev e : Entry
+  e =
+      record {
+        disk = d;
+        position = endOf (c .logs) d;
+        kind = compensationKind;
+        page = u .page;
+        slot = u .slot;
+        number = t;
+        epoch = epochOf s (w .work) (u .page);
+        at = at;
+        diff = u .diff;
+      }
+
+  change-entry : isClose e ≡ false
+  unfolding isClose
+  change-entry = refl
+
+  size : sizeOf e ≡ 3 + length (u .diff)
+  unfolding sizeOf recordOf isClose encode
+  size = omega arith
+
+  fit : Fit s e
+  unfolding recordOf isClose
+  fit =
+      let bounds = g .safe .devices .bounds in
+      record {
+        formed =
+            record {
+              kind-lt = omega arith;
+              page-in = slotted .page-in;
+              page-lt = omega (arith, slotted .page-in, bounds .pages-max);
+              slot-in = slotted .slot-in;
+              slot-lt = omega (arith, slotted .slot-in, bounds .used (u .page) (slotted .page-in) .slots-max);
+              number-pos = open-used (g .safe) t opened .0;
+              width-eq = slotted .width;
+            };
+        slotted = λ h. refl;
+      }
+
+  may : MayPut c e
+  may =
+      record {
+        opened = opened;
+        there = refl;
+        below = below;
+        small = small;
+        short = omega (arith, size, slotted .width, g .safe .devices .bounds .used (u .page) (slotted .page-in) .width-max);
+        at-end = refl;
+        room = omega arith;
+        fit = fit;
+      }
+
+  abbrev added : Appended
+  added = put g e may
+
+  abbrev w1 : World
+  w1 = perform (added .actions) w
+
+  -- the slot changed back
+  abbrev w2 : World
+  w2 = withPages w1 (xorAt at (u .diff) (w1 .pages))
+
+  abbrev F' : List Entry
+  F' = F1 g e may
+
+  abbrev B' : List Entry
+  B' = B1 g e may ++ e ∷ []
+
+  buffer : InBuffer s d w w1
+  buffer = put-in-buffer g e may
+
+  inside : at + length (u .diff) ≤ length (w1 .pages)
+  inside =
+      rw (buffer .pages-same, slotted .width, lengths-right s w (g .safe .devices .lengths) .pages)
+      (slot-end-total s (u .page) (u .slot) (slotted .page-in) (slotted .slot-in))
+
+  -- every word takes what the record adds
+  pages-after : (i : ℕ) → getD (w .pages) i 0 ⊕ adds i e ≡ getD (xorAt at (u .diff) (w1 .pages)) i 0
+  unfolding adds isClose
+  pages-after i = rw (xor-at-word at (u .diff) (w1 .pages) i inside, buffer .pages-same)
+
+  epochs-after : (page : ℕ) → epochOf s (w .work) page ≡ epochOf s (w1 .work) page
+  unfolding epochOf epochAt
+  epochs-after page = sym (epochs-same buffer _ below (omega arith))
+
+  -- the words of the slot have the copy epoch of its page
+  copy : (i : ℕ) → i < total s → spanning at (length (u .diff)) i ≡ true → epochOf s (w .work) (pageOf s i) ≡ e .epoch
+  copy i h k =
+      let there = spanning-true at (length (u .diff)) i k in
+      ap (epochOf s (w .work)) (slot-start s (u .page) (u .slot) i (slotted .page-in) (slotted .slot-in) (there .0) (omega (arith, slotted .width)) .1)
+
+  same : Same (total s) (logged (view c w r F' (B1 g e may)) e) (view (withLog c (added .logs) (c .table)) w2 r F' B')
+  unfolding view logged withLog
+  same =
+      record {
+        epoch = refl;
+        next = refl;
+        pages = λ i h. pages-after i;
+        current = λ i h. rw (buffer .backups-same);
+        other = λ i h. rw (buffer .backups-same);
+        epochs = λ i h. epochs-after (pageOf s i);
+        owners = λ i h. sym (owners-same buffer (slotStart s i) (slot-in s i h .start-lt));
+        committed = λ i h. refl;
+        writes = λ v h. refl;
+        opened = λ v. refl;
+        flushed = refl;
+        buffered = refl;
+      }
+
+  good : Good t (total s) (view (withLog c (added .logs) (c .table)) w2 r F' B')
+  unfolding view
+  good = good-same same (compensate-good e (made-good g e may) opened change-entry copy)
+
+  written : Written s w1 w2
+  written =
+      record {
+        anchor-same = refl;
+        backups-same = refl;
+        logs-same = refl;
+        lengths = record { anchor = refl; pages = length-xor-at at (u .diff) (w1 .pages); backups = refl; logs = refl; work = refl };
+        buffers-same = λ i h k. refl;
+      }
+
+  serving : Serving t home (withLog c (added .logs) (c .table)) w2 r F' B'
+  unfolding withLog
+  serving =
+      record {
+        stage = g .stage;
+        safe = put-safe g e may written t (c .table) r (g .safe .sizes) (g .safe .shaped) good;
+        accounts = put-own g e may has refl;
+        epochs =
+            put-epochs g e may written (λ i h. refl) (λ h. capped g e (u .page) (slotted .page-in) refl)
+            (λ h k. early g e (u .page) (slotted .page-in) refl below refl h) (c .table);
+        sets = record { distinct = g .sets .distinct; has = g .sets .has; fits = g .sets .fits };
+      }
+
+  -- the record put, then the slot's words
+  abbrev slot-words : List Action
+  slot-words = xorIn at (u .diff) (w .pages)
+
+  is-put : compensate s (c .logs) w t d u ≡ record { actions = added .actions ++ slot-words; logs = added .logs }
+  unfolding compensate recordOf isClose
+  is-put = refl
+
+  world : perform (added .actions ++ slot-words) w ≡ w2
+  world =
+      perform-append (added .actions) slot-words w ∙ ap (λ (l : List ℕ). perform (xorIn at (u .diff) l) w1) (sym (buffer .pages-same))
+      ∙ perform-xor at (u .diff) w1
+
+  storeless : stores slot-words ≡ 0
+  unfolding xorIn
+  storeless = stores-written pages at (xors (part at (length (u .diff)) (w .pages)) (u .diff))
+
+  sums : (i : ℕ) → ofTxn i t (F' ++ B') ≡ ofTxn i t (F ++ B) ⊕ share at (u .diff) i
+  unfolding adds isClose
+  sums i = put-sums g e may (λ q. mask (eqb (q .number) t) (adds i q)) ∙ rw (eq-eqb t t refl)
+
+  pub compensated : Compensated t home c w r F B d (3 + length (u .diff)) (share at (u .diff)) (compensate s (c .logs) w t d u)
+  compensated =
+      rw is-put
+      (record {
+        flushed = F';
+        buffered = B';
+        serving = rw world serving;
+        sums = sums;
+        starts = put-longer g e may .start-same;
+        ends = put-longer g e may .end-longer ∙ ap (λ (n : ℕ). endOf (c .logs) d + n) size;
+        small = put-longer g e may .small;
+        cut = put-cut g e may slot-words storeless;
+      })

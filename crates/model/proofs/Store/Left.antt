@@ -1,0 +1,188 @@
+-- What an accepted abort takes back: its transaction's updates, all of them, with room for their compensations.
+use mathlib.Core.Path.{_≡_, refl, sym, ap, _∙_}
+use mathlib.Core.List.{List, [], _∷_, _++_}
+use mathlib.Core.Bool.{Bool, true, false, cond, _&&_, and-false}
+use Prim.Native.Nat.{ℕ, _+_, _-_, _≤_, _<_}
+use native.Mathlib.Omega.{arith}
+use lib.Dec.{leb, ltb, eqb}
+use borrow.Author.Tests.{ltb-false, le-leb, eqb-false, ne-eqb, not-false}
+use Rattle.model.specs.declared.Sizes.{Sizes}
+use Rattle.model.specs.declared.Core.{Core}
+use Rattle.model.specs.declared.Fault.{Fault}
+use Rattle.model.specs.declared.Fault.the-variants.{Sound, BadRecord}
+use Rattle.model.specs.Word.{_⊕_}
+use Rattle.model.specs.Sizes.{ringOf}
+use Rattle.model.specs.Record.{Record, change, close, updateKind}
+use Rattle.model.specs.Scan.{Scan, end, bad, item, faultIn, updatesIn, updateWords}
+use Rattle.model.specs.World.{World}
+use Rattle.model.specs.State.{startOf, endOf, isOpen, placeOf, firstAt, reservedAt, hasUpdate, servingSound}
+use Rattle.model.specs.Refusal.{accepted, verdict}
+use Rattle.model.specs.Causes.{notOpen, faultRow}
+use Rattle.model.specs.Transaction.{diskOf}
+use Rattle.model.specs.Abort.{abortScan, updatesLeft, abortFault, abortRows}
+use Rattle.model.specs.Reference.{Reference}
+use Rattle.model.proofs.RoundTrip.{WellFormed}
+use Rattle.model.proofs.Places.{open-place, place-holds}
+use Rattle.model.proofs.Xor.{⊕-zero-l}
+use Rattle.model.proofs.Ledger.Entry.{Entry, recordOf, All, sum, pick, mask, adds, onDisk}
+use Rattle.model.proofs.Ledger.Order.{on, entriesScan}
+use Rattle.model.proofs.Ledger.Sums.{true-false, sum-zero, all-append, all-map}
+use Rattle.model.proofs.Ledger.Picks.{all-pick}
+use Rattle.model.proofs.Ledger.Lists.{on-append}
+use Rattle.model.proofs.Ledger.Word.{ofTxn}
+use Rattle.model.proofs.Link.Words.{Fit}
+use Rattle.model.proofs.Link.Buffered.{Small}
+use Rattle.model.proofs.Link.Abort.{sumUpdates, abort-scan, updates-add}
+use Rattle.model.proofs.Store.View.{Own, Serving}
+use Rattle.model.proofs.Store.Rows.{row-passed, serving-row, serving-sound, disk-sound, place-sound}
+use Rattle.model.proofs.Store.Closed.{reserved-on}
+use Rattle.model.proofs.Store.Compensate.{Slotted}
+
+-- picking leaves a sum that what is not picked adds nothing to
+pub sum-picked : {A : Type 0} (p : A → Bool) (f : A → ℕ) (l : List A) → All (λ q. p q ≡ false → f q ≡ 0) l → sum f (pick p l) ≡ sum f l
+unfolding sum pick
+sum-picked p f [] h = refl
+sum-picked p f (q ∷ l) h = go (p q) refl (sum-picked p f l (h .1))
+  where
+    go : (b : Bool) → p q ≡ b → sum f (pick p l) ≡ sum f l → sum f (cond b (q ∷ pick p l) (pick p l)) ≡ f q ⊕ sum f l
+    go true e ih = ap (λ (y : ℕ). f q ⊕ y) ih
+    go false e ih = ih ∙ sym (⊕-zero-l (sum f l)) ∙ ap (λ (y : ℕ). y ⊕ sum f l) (sym (h .0 e))
+
+-- an update read from a record that fits names its slot
+update-slotted : (s : Sizes) (t p : ℕ) (q : Record) (rest : Scan) → WellFormed s q → All (Slotted s) (updatesIn t rest)
+    → All (Slotted s) (updatesIn t (item p q rest))
+unfolding updatesIn
+update-slotted s t p (close kind n) rest f h = h
+update-slotted s t p (change kind page slot n epoch diff) rest f h =
+    all-append (Slotted s) (updatesIn t rest) _ h (go (eqb kind updateKind && eqb n t))
+  where
+    go : (b : Bool) → All (Slotted s) (cond b (record { position = p; page = page; slot = slot; diff = diff } ∷ []) [])
+    go true = (record { page-in = f .page-in; slot-in = f .slot-in; width = f .width-eq }, tt)
+    go false = tt
+
+pub updates-slotted : (s : Sizes) (t : ℕ) (l : List Entry) → All (Fit s) l → All (Slotted s) (updatesIn t (entriesScan l))
+unfolding updatesIn entriesScan
+updates-slotted s t [] h = tt
+updates-slotted s t (q ∷ l) h = update-slotted s t (q .position) (recordOf q) (entriesScan l) (h .0 .formed) (updates-slotted s t l (h .1))
+
+-- The updates that an abort of an open transaction reads.
+module _ {home : ℕ → ℕ} {c : Core} {w : World} {r : Reference} {F B : List Entry} (g : Serving 0 home c w r F B)
+    (t : ℕ) (opened : isOpen (c .table) t ≡ true) (below : diskOf c t < c .sizes .disks) where
+  abbrev s : Sizes
+  s = c .sizes
+
+  abbrev d : ℕ
+  d = diskOf c t
+
+  abbrev place : ℕ
+  place = placeOf (c .table) t
+
+  -- the entries of its disk, and of these the ones from its first on
+  abbrev there : List Entry
+  there = on d F ++ on d B
+
+  abbrev from : List Entry
+  from = pick (λ q. leb (firstAt (c .table) place) (q .position)) there
+
+  all-there : (P : Entry → Type 0) → All P (F ++ B) → All P there
+  unfolding on
+  all-there P h = rw (← on-append d F B) (all-pick P (onDisk d) (F ++ B) h)
+
+  all-from : (P : Entry → Type 0) → All P (F ++ B) → All P from
+  all-from P h = all-pick P _ there (all-there P h)
+
+  -- a transaction without an update has no entry, and nothing to take back
+  module _ (none : hasUpdate (c .table) place ≡ false) where
+    pub none-left : updatesLeft c w t ≡ []
+    unfolding updatesLeft abortScan updatesIn
+    none-left = rw (none, and-false (isOpen (c .table) t))
+
+    pub none-logged : (i : ℕ) → ofTxn i t (F ++ B) ≡ 0
+    none-logged i =
+        sum-zero _ (F ++ B)
+        (all-map (λ q h. rw (ne-eqb (q .number) t (λ e. true-false (h e .has) none))) (F ++ B) (g .accounts .own t opened))
+
+  -- else they are the updates among its entries, and add what these add
+  module _ (has : hasUpdate (c .table) place ≡ true) where
+    scanned : abortScan c w t ≡ entriesScan from
+    scanned =
+        abort-scan c w t d (firstAt (c .table) place) (g .safe .link) opened has refl refl below (g .safe .fit) (g .safe .ordered .laid d below)
+        (g .accounts .firsts t opened has)
+
+    pub left-slotted : All (Slotted s) (updatesLeft c w t)
+    unfolding updatesLeft
+    left-slotted = rw scanned (updates-slotted s t from (all-from (Fit s) (g .safe .fit)))
+
+    same-sum : (i : ℕ) → ofTxn i t from ≡ ofTxn i t (F ++ B)
+    unfolding on onDisk
+    same-sum i =
+        sum-picked _ _ there (all-there _ (all-map early (F ++ B) (g .accounts .own t opened)))
+        ∙ ap (ofTxn i t) (sym (on-append d F B))
+        ∙ sum-picked _ _ (F ++ B) (all-map away (F ++ B) (g .safe .ordered .homed))
+      where
+        early : (q : Entry) → (q .number ≡ t → Own 0 c t q) → leb (firstAt (c .table) place) (q .position) ≡ false
+            → mask (eqb (q .number) t) (adds i q) ≡ 0
+        early q h k = rw (ne-eqb (q .number) t (λ e. true-false (le-leb _ _ (h e .first)) k))
+
+        away : (q : Entry) → q .disk ≡ home (q .number) → onDisk d q ≡ false → mask (eqb (q .number) t) (adds i q) ≡ 0
+        away q h k =
+            rw (ne-eqb (q .number) t (λ e. eqb-false (q .disk) d k (h ∙ ap home e ∙ g .accounts .homes t opened)))
+
+    pub left-sum : (i : ℕ) → sumUpdates s i (updatesLeft c w t) ≡ ofTxn i t (F ++ B)
+    unfolding updatesLeft
+    left-sum i =
+        ap (λ (x : Scan). sumUpdates s i (updatesIn t x)) scanned
+        ∙ updates-add s i t from (all-from _ (all-map (λ q h e. h e .kind (open-place (c .table) t opened .0)) (F ++ B) (g .accounts .own t opened)))
+        (all-from (Fit s) (g .safe .fit))
+        ∙ same-sum i
+
+-- What an accepted abort may rely on.
+pub record MayAbort (c : Core) (w : World) (t : ℕ) : Type 0 where
+  pub opened : isOpen (c .table) t ≡ true
+  pub below : diskOf c t < c .sizes .disks
+  pub small : Small (c .sizes) (c .logs)
+  -- the compensations and the closing record fit the ring
+  pub room : endOf (c .logs) (diskOf c t) + (updateWords (updatesLeft c w t) + 2) ≤ startOf (c .logs) (diskOf c t) + ringOf (c .sizes) (diskOf c t)
+
+no-fault : (f : Fault) → faultRow f .applies ≡ false → f ≡ Sound
+no-fault Sound h = refl
+no-fault (BadRecord disk p) h = true-false refl h
+
+fault-rest : (disk : ℕ) (x : Scan) (rest : Fault) → faultIn disk x rest ≡ Sound → rest ≡ Sound
+unfolding faultIn
+fault-rest disk end rest h = h
+fault-rest disk (bad p) rest h = let z : _≡_ {A = ℕ} 0 1 = cc in absurd (omega arith)
+fault-rest disk (item p q more) rest h = fault-rest disk more rest h
+
+-- row 7: the words of the updates are no more than are reserved for them
+fault-words : (c : Core) (w : World) (t : ℕ) → faultRow (abortFault c w t) .applies ≡ false
+    → updateWords (updatesLeft c w t) ≤ reservedAt (c .table) (placeOf (c .table) t) - 2
+unfolding abortFault
+fault-words c w t h = go _ refl (fault-rest _ _ _ (no-fault (abortFault c w t) h))
+  where
+    go : (b : Bool) → ltb (reservedAt (c .table) (placeOf (c .table) t) - 2) (updateWords (updatesLeft c w t)) ≡ b
+        → cond b (BadRecord (diskOf c t) (firstAt (c .table) (placeOf (c .table) t))) Sound ≡ Sound
+        → updateWords (updatesLeft c w t) ≤ reservedAt (c .table) (placeOf (c .table) t) - 2
+    go true e k = let z : _≡_ {A = ℕ} 0 1 = cc in absurd (omega arith)
+    go false e k = ltb-false _ _ e
+
+pub may-abort : (c : Core) (w : World) (t : ℕ) → verdict (abortRows c w t) ≡ accepted → MayAbort c w t
+unfolding abortRows notOpen diskOf endOf
+may-abort c w t v =
+    let r1 = row-passed _ _ v in
+    let r2 = row-passed _ _ (r1 .1) in
+    let r5 = row-passed _ _ (r2 .1) in
+    let r7 = row-passed _ _ (r5 .1) in
+    let r9 = row-passed _ _ (r7 .1) in
+    let serves = serving-row c (r1 .0) in
+    let fine : servingSound c ≡ true = serving-sound c (serves .0) (serves .1) in
+    let opened : isOpen (c .table) t ≡ true = not-false _ (r9 .0) in
+    let p = open-place (c .table) t opened in
+    let at = place-sound c (placeOf (c .table) t) fine (p .1) (λ z. p .0 (sym (place-holds (c .table) t (p .1)) ∙ z)) in
+    let disk = disk-sound c (diskOf c t) fine (at .disk) in
+    record {
+      opened = opened;
+      below = at .disk;
+      small = λ e h. disk-sound c e fine h .fill;
+      room = omega (arith, disk .room, disk .ordered, at .reserved, reserved-on c t opened, fault-words c w t (r7 .0));
+    }

@@ -1,0 +1,74 @@
+-- The end of a disk's log: no boundary lies behind it, and an entry put there has a copy epoch in its bounds.
+use mathlib.Core.Path.{_≡_, refl, sym, subst, _∙_}
+use mathlib.Core.List.{List, [], _∷_, _++_}
+use mathlib.Core.Bool.{Bool, true, false, cond, _||_}
+use Prim.Native.Nat.{ℕ, _+_, _≤_, _<_}
+use native.Mathlib.Omega.{arith}
+use lib.Dec.{ltb, eqb}
+use lib.ListN.{length, getD}
+use borrow.Author.Tests.{ltb-true, le-ltb, eqb-true}
+use Rattle.model.specs.declared.Sizes.{Sizes}
+use Rattle.model.specs.declared.Logs.{Logs}
+use Rattle.model.specs.declared.Core.{Core}
+use Rattle.model.specs.World.{World}
+use Rattle.model.specs.Memory.{epochOf}
+use Rattle.model.specs.State.{startOf, endOf}
+use Rattle.model.specs.Causes.{whenOpen}
+use Rattle.model.specs.Reference.{Reference}
+use Rattle.model.proofs.Ledger.Entry.{Entry}
+use Rattle.model.proofs.Ledger.Order.{sizeOf, wordsOf, on, boundary}
+use Rattle.model.proofs.Ledger.Lists.{length-words, length-words-append}
+use Rattle.model.proofs.Link.Words.{Link}
+use Rattle.model.proofs.Store.View.{Serving, before}
+
+-- a boundary is no later than the end
+pub boundary-to : (q p : ℕ) (l : List Entry) → boundary q p l ≡ true → q ≤ p + length (wordsOf l)
+unfolding boundary
+boundary-to q p [] h = omega (arith, eqb-true q p h)
+boundary-to q p (r ∷ l) h = go (eqb q p) refl h (boundary-to q (p + sizeOf r) l)
+  where
+    go : (b : Bool) → eqb q p ≡ b → b || boundary q (p + sizeOf r) l ≡ true
+        → (boundary q (p + sizeOf r) l ≡ true → q ≤ p + sizeOf r + length (wordsOf l)) → q ≤ p + length (wordsOf (r ∷ l))
+    go true e x ih = omega (arith, eqb-true q p e)
+    go false e x ih = omega (arith, ih x, length-words r l)
+
+-- the end of a disk's log is the end of its entries
+pub log-end : {s : Sizes} {l : Logs} {w : World} {F B : List Entry} → Link s l w F B → (d : ℕ) → d < s .disks
+    → endOf l d ≡ startOf l d + length (wordsOf (on d F ++ on d B))
+unfolding endOf
+log-end {F = F} {B = B} k d below = omega (arith, k .tail d below, k .fill d below, length-words-append (on d F) (on d B))
+
+-- An entry at the end of its disk's log, with the copy epoch of its page.
+module _ {x : ℕ} {home : ℕ → ℕ} {c : Core} {w : World} {r : Reference} {F B : List Entry} (g : Serving x home c w r F B)
+    (e : Entry) (page : ℕ) (page-lt : page < c .sizes .pages) (copy : e .epoch ≡ epochOf (c .sizes) (w .work) page) where
+  page-epoch : e .epoch ≡ cond (ltb page (c .checkpoint .copied)) (c .epoch + 1) (c .epoch)
+  page-epoch = copy ∙ g .epochs .pages page page-lt
+
+  -- the epoch is no later than the next checkpoint's
+  pub capped : e .epoch ≤ c .epoch + 1
+  capped = subst (λ (k : ℕ). k ≤ c .epoch + 1) (sym page-epoch) (go (ltb page (c .checkpoint .copied)))
+    where
+      go : (b : Bool) → cond b (c .epoch + 1) (c .epoch) ≤ c .epoch + 1
+      go true = omega arith
+      go false = omega arith
+
+  -- and with no checkpoint under way it is this one's; a checkpoint under way began before the entry
+  pub early : e .disk < c .sizes .disks → e .position ≡ endOf (c .logs) (e .disk) → before c e ≡ true → e .epoch ≤ c .epoch
+  unfolding before
+  early below at-end h = go (whenOpen (c .stage)) refl h
+    where
+      none : (k : ℕ) → k ≡ 0 → cond (ltb page k) (c .epoch + 1) (c .epoch) ≤ c .epoch
+      none k z = rw (z, le-ltb page 0 (omega arith)) (omega arith)
+
+      go : (b : Bool) → whenOpen (c .stage) ≡ b → b || ltb (e .position) (getD (c .checkpoint .ends) (e .disk) 0) ≡ true
+          → e .epoch ≤ c .epoch
+      go true o y = subst (λ (k : ℕ). k ≤ c .epoch) (sym page-epoch) (none (c .checkpoint .copied) (g .epochs .copied o))
+      go false o y =
+          absurd
+          (omega (
+            arith,
+            ltb-true (e .position) (getD (c .checkpoint .ends) (e .disk) 0) y,
+            log-end (g .safe .link) (e .disk) below,
+            boundary-to (getD (c .checkpoint .ends) (e .disk) 0) (startOf (c .logs) (e .disk)) (on (e .disk) F ++ on (e .disk) B)
+                (g .epochs .ends o (e .disk) below),
+          ))

@@ -1,0 +1,167 @@
+-- The new starts of a checkpoint: each is a boundary of its disk's log, and nobody needs what lies before them.
+use mathlib.Core.Path.{_≡_, refl, sym, _∙_}
+use mathlib.Core.Logic.{_⊎_, inl, inr}
+use mathlib.Core.List.{List, [], _∷_, _++_, append-nil}
+use mathlib.Core.Bool.{Bool, true, false, not, _&&_, _||_}
+use Prim.Native.Nat.{ℕ, _+_, _≤_, _<_}
+use native.Mathlib.Omega.{arith}
+use lib.Dec.{leb, eqb}
+use lib.ListN.{getD}
+use borrow.Author.Tests.{lt-ltb, le-leb, lt-leb, eqb-true, eqb-false, eq-eqb, ne-eqb}
+use Rattle.model.specs.declared.Table.{Table}
+use Rattle.model.specs.declared.Core.{Core}
+use Rattle.model.specs.Sizes.{total}
+use Rattle.model.specs.World.{World}
+use Rattle.model.specs.Memory.{epochOf}
+use Rattle.model.specs.State.{places, startOf, numberAt, diskAtPlace, firstAt, hasUpdate, servedBy, placeOf, isOpen}
+use Rattle.model.specs.Causes.{whenOpen}
+use Rattle.model.specs.Checkpoint.{newStart}
+use Rattle.model.specs.Transaction.{diskOf}
+use Rattle.model.specs.Reference.{Reference}
+use Rattle.model.proofs.Meaning.{Holds, new-start}
+use Rattle.model.proofs.Geometry.{pageOf, page-in}
+use Rattle.model.proofs.Places.{open-place, place-open, place-holds}
+use Rattle.model.proofs.Ledger.Entry.{Entry, All, pick, onDisk}
+use Rattle.model.proofs.Ledger.Order.{Ordered, sizeOf, on, Laid, boundary}
+use Rattle.model.proofs.Ledger.Sums.{true-false, all-map, all-zip}
+use Rattle.model.proofs.Ledger.Lists.{all-left, pick-swap, pick-whole}
+use Rattle.model.proofs.Ledger.Positions.{size-ge, laid-append, laid-from, boundary-from}
+use Rattle.model.proofs.Ledger.Ordered.{keptFrom}
+use Rattle.model.proofs.Ledger.Checkpoint.{MaySwitch}
+use Rattle.model.proofs.Ledger.Switch.{Placed, switch-old, switch-closed, switch-last}
+use Rattle.model.proofs.Store.View.{view, Own, Serving, before}
+
+-- a boundary from s on is one of the entries from s on
+boundary-kept : (p s q : ℕ) (l : List Entry) → Laid p l → boundary s p l ≡ true → boundary q p l ≡ true → s ≤ q
+    → boundary q s (pick (λ r. leb s (r .position)) l) ≡ true
+unfolding boundary pick
+boundary-kept p s q [] h b k m = eq-eqb q s (omega (arith, eqb-true s p b, eqb-true q p k))
+boundary-kept p s q (r ∷ l) h b k m = go (eqb s p) refl b (boundary-kept (p + sizeOf r) s q l (h .1))
+  where
+    go : (t : Bool) → eqb s p ≡ t → t || boundary s (p + sizeOf r) l ≡ true
+        → (boundary s (p + sizeOf r) l ≡ true → boundary q (p + sizeOf r) l ≡ true → s ≤ q
+        → boundary q s (pick (λ r. leb s (r .position)) l) ≡ true)
+        → boundary q s (pick (λ r. leb s (r .position)) (r ∷ l)) ≡ true
+    go true e x ih =
+        let same : s ≡ p = eqb-true s p e in
+        let all = all-map (λ r y. le-leb p (r .position) y) (r ∷ l) (laid-from p (r ∷ l) h) in
+        rw (same, pick-whole (λ r. leb p (r .position)) (r ∷ l) all) k
+    go false e x ih =
+        let late : p + sizeOf r ≤ s = boundary-from s (p + sizeOf r) l x in
+        let two = size-ge r in
+        rw (lt-leb s (r .position) (omega (arith, h .0))) (ih x (rw (ne-eqb q p (λ z. omega arith)) at k) m)
+
+-- so it is one of what is kept of a disk's log
+pub boundary-later : {disks : ℕ} {start home : ℕ → ℕ} {F : List Entry} → Ordered disks start home F [] → (start' : ℕ → ℕ) (d q : ℕ)
+    → d < disks → boundary (start' d) (start d) (on d F) ≡ true → boundary q (start d) (on d F) ≡ true → start' d ≤ q
+    → boundary q (start' d) (on d (pick (keptFrom start') F)) ≡ true
+unfolding on onDisk
+boundary-later {start = start} {F = F} o start' d q h cut b m =
+    rw (pick-swap (onDisk d) (keptFrom start') (λ e. leb (start' d) (e .position)) (λ e x. rw (eqb-true (e .disk) d x)) F)
+    (boundary-kept (start d) (start' d) q (on d F) (laid-append (start d) (on d F) (on d []) (o .laid d h) .0) cut b m)
+
+-- what holds of each open transaction's entries, as a property of all entries
+open-entries : (O : ℕ → Bool) (P : ℕ → Entry → Type 0) (l : List Entry)
+    → ((t : ℕ) → O t ≡ true → All (λ e. e .number ≡ t → P t e) l) → All (λ e. O (e .number) ≡ true → P (e .number) e) l
+open-entries O P [] h = tt
+open-entries O P (e ∷ l) h = ((λ o. h (e .number) o .0 refl), open-entries O P l (λ t o. h t o .1))
+
+-- a place that serves a disk holds a transaction of it
+served-place : (t : Table) (d i : ℕ) → servedBy t d i ≡ true → (numberAt t i ≡ 0 → ⊥) × (diskAtPlace t i ≡ d)
+unfolding servedBy
+served-place t d i h = go (eqb (numberAt t i) 0) (eqb (diskAtPlace t i) d) refl refl h
+  where
+    go : (a b : Bool) → eqb (numberAt t i) 0 ≡ a → eqb (diskAtPlace t i) d ≡ b → not a && b ≡ true
+        → (numberAt t i ≡ 0 → ⊥) × (diskAtPlace t i ≡ d)
+    go true b p q z = true-false z refl
+    go false true p q z = (eqb-false _ _ p, eqb-true _ _ q)
+    go false false p q z = true-false z refl
+
+place-served : (t : Table) (d i : ℕ) → (numberAt t i ≡ 0 → ⊥) → diskAtPlace t i ≡ d → servedBy t d i ≡ true
+unfolding servedBy
+place-served t d i h k = rw (ne-eqb (numberAt t i) 0 h, eq-eqb (diskAtPlace t i) d k)
+
+-- where an open transaction's first record lies, and the end of a disk that the checkpoint's begin remembered
+abbrev pub firstOf : Core → ℕ → ℕ
+firstOf c t = firstAt (c .table) (placeOf (c .table) t)
+
+abbrev pub markOf : Core → ℕ → ℕ
+markOf c d = getD (c .checkpoint .ends) d 0
+
+module _ {home : ℕ → ℕ} {c : Core} {w : World} {r : Reference} {F : List Entry} (g : Serving 0 home c w r F [])
+    (copying : whenOpen (c .stage) ≡ false) (copied : c .sizes .pages ≤ c .checkpoint .copied) where
+  flat : (P : Entry → Type 0) → All P (F ++ []) → All P F
+  flat P h = all-left P F [] h
+
+  flat-on : (d : ℕ) → on d F ++ on d [] ≡ on d F
+  unfolding on pick
+  flat-on d = append-nil (on d F)
+
+  -- an open transaction's first record begins at a boundary of its disk's log
+  pub first-boundary : (t : ℕ) → isOpen (c .table) t ≡ true → hasUpdate (c .table) (placeOf (c .table) t) ≡ true
+      → boundary (firstOf c t) (startOf (c .logs) (diskOf c t)) (on (diskOf c t) F) ≡ true
+  first-boundary t o h = rw (flat-on (diskOf c t)) at (g .accounts .firsts t o h)
+
+  -- and so a new start is one: it is such a first position or a remembered end
+  pub new-boundary : (d : ℕ) → d < c .sizes .disks → boundary (newStart c d) (startOf (c .logs) d) (on d F) ≡ true
+  unfolding diskOf
+  new-boundary d h = go (new-start c d .one-of)
+    where
+      go : (newStart c d ≡ markOf c d)
+          ⊎ ((i : ℕ) × (i < places) × Holds (c .table) d i × (newStart c d ≡ firstAt (c .table) i))
+          → boundary (newStart c d) (startOf (c .logs) d) (on d F) ≡ true
+      go (inl e) = rw (e, ← flat-on d) (g .epochs .ends copying d h)
+      go (inr x) =
+          let i : ℕ = x .0 in
+          let t : ℕ = numberAt (c .table) i in
+          let at = served-place (c .table) d i (x .2 .0) in
+          let place : placeOf (c .table) t ≡ i = g .accounts .tabled .distinct i (x .1) (at .0) in
+          let o : isOpen (c .table) t ≡ true = place-open (c .table) t (at .0) (rw place (x .1)) in
+          rw (x .3) (rw (place, at .1) at (first-boundary t o (rw place (x .2 .1))))
+
+  own-entries : All (λ e. isOpen (c .table) (e .number) ≡ true → Own 0 c (e .number) e) F
+  own-entries = open-entries (isOpen (c .table)) (Own 0 c) F (λ t o. flat _ (g .accounts .own t o))
+
+  -- the new start of a disk is no later than the first record of an open transaction there
+  pub start-early : (t : ℕ) → isOpen (c .table) t ≡ true → hasUpdate (c .table) (placeOf (c .table) t) ≡ true
+      → newStart c (diskOf c t) ≤ firstOf c t
+  unfolding diskOf
+  start-early t o h =
+      let at = open-place (c .table) t o in
+      let there : numberAt (c .table) (placeOf (c .table) t) ≡ t = place-holds (c .table) t (at .1) in
+      new-start c (diskOf c t) .at-most-first (placeOf (c .table) t) (at .1)
+      (place-served (c .table) (diskOf c t) (placeOf (c .table) t) (λ z. at .0 (sym there ∙ z)) refl, h)
+
+  reach : All (λ e. isOpen (c .table) (e .number) ≡ true → newStart c (e .disk) ≤ firstOf c (e .number)) F
+  reach = all-zip one F own-entries (flat _ (g .safe .ordered .homed))
+    where
+      one : (e : Entry) → (isOpen (c .table) (e .number) ≡ true → Own 0 c (e .number) e) → e .disk ≡ home (e .number)
+          → isOpen (c .table) (e .number) ≡ true → newStart c (e .disk) ≤ firstOf c (e .number)
+      one e own at o = rw (at ∙ g .accounts .homes (e .number) o) (start-early (e .number) o (own o .has))
+
+  -- where the entries lie at the checkpoint's end
+  pub placed : Placed (isOpen (c .table)) (firstOf c) (markOf c) (c .epoch) F
+  unfolding before
+  placed =
+      record {
+        opened = all-map (λ e h o. h o .first) F own-entries;
+        settled = all-map (λ e h o. rw (append-nil F) at (h o)) F (flat _ (g .accounts .settled));
+        early = all-map (λ e h l. h (rw (copying, lt-ltb (e .position) (getD (c .checkpoint .ends) (e .disk) 0) l))) F
+            (flat _ (g .epochs .early));
+      }
+
+  -- every page has the checkpoint's copy epoch
+  pub page-copied : (p : ℕ) → p < c .sizes .pages → epochOf (c .sizes) (w .work) p ≡ c .epoch + 1
+  page-copied p h = rw (lt-ltb p (c .checkpoint .copied) (omega arith)) at (g .epochs .pages p h)
+
+  -- the last store may be made
+  pub may : MaySwitch (total (c .sizes)) (view c w r F []) (keptFrom (newStart c))
+  unfolding view
+  may =
+      record {
+        flushed = refl;
+        all-copied = λ i h. omega (arith, page-copied (pageOf (c .sizes) i) (page-in (c .sizes) i h .0));
+        old = λ i h. switch-old (g .safe .ordered) (newStart c) placed (λ d l. new-start c d .at-most-end) i;
+        closed = switch-closed (g .safe .ordered) (newStart c) placed reach;
+        last = switch-last (g .safe .ordered) (newStart c);
+      }

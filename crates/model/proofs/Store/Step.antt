@@ -1,0 +1,227 @@
+-- Every call keeps what holds, whether it is refused, taken or cut.
+use mathlib.Core.Path.{_≡_, refl, sym, ap, subst, _∙_}
+use mathlib.Core.List.{List, [], _∷_}
+use mathlib.Core.Bool.{Bool, true, false}
+use Prim.Native.Nat.{ℕ}
+use Rattle.model.specs.declared.Stage.{Stage}
+use Rattle.model.specs.declared.Stage.the-variants.{Shut, Replaying, Open, Copying}
+use Rattle.model.specs.declared.Sizes.{Sizes}
+use Rattle.model.specs.declared.Core.{Core}
+use Rattle.model.specs.World.{World, perform, run, finishes}
+use Rattle.model.specs.State.{newCore}
+use Rattle.model.specs.Refusal.{Row, row, verdict, accepted, Result}
+use Rattle.model.specs.Causes.{whenShut, whenReplaying, whenOpen, whenCopying, whenServing, stageForbids}
+use Rattle.model.specs.Transaction.{beginRows, beginTask, updateRows, readRows, readTask, commitRows}
+use Rattle.model.specs.Abort.{abortRows}
+use Rattle.model.specs.Format.{formatRows}
+use Rattle.model.specs.Checkpoint.{checkpointBeginRows, checkpointBeginTask, checkpointStepRows, checkpointEndRows}
+use Rattle.model.specs.Restart.{restartBeginRows, restartStepRows, restartEndRows}
+use Rattle.model.specs.Call.{Call, format, begin, update, read, commit, abort, checkpointBegin, checkpointStep, checkpointEnd, restartBegin, restartStep, restartEnd, newState, rowsOf, taskOf, budgetOf, resultOf}
+use Rattle.model.specs.Reference.{Reference, Outcome, taken, outcomeOf, afterTaken, withSets}
+use Rattle.model.specs.Anchor.{sizesOn}
+use Rattle.model.specs.Image.{imageOf, restarted}
+use Rattle.model.specs.Machine.{Machine, Event, call, result, outcome, isRefused, after, referred, allowedCall}
+use Rattle.model.proofs.Ledger.Sums.{true-false}
+use Rattle.model.proofs.Storeless.{storesNothing, storeless-finishes}
+use Rattle.model.proofs.Restart.Image.{SameDevices, image-devices}
+use Rattle.model.proofs.Restart.Taken.{Taken, taken-call}
+use Rattle.model.proofs.Restart.Progress.{Progress, begin-progress}
+use Rattle.model.proofs.Restart.Steps.{step-progress}
+use Rattle.model.proofs.Restart.End.{end-gives}
+use Rattle.model.proofs.Store.View.{Kept, Served, Serving, Safe}
+use Rattle.model.proofs.Store.Rows.{row-passed, stage-row, open-serving, copying-serving}
+use Rattle.model.proofs.Store.Crash.{kept}
+use Rattle.model.proofs.Store.Begin.{begin-serves}
+use Rattle.model.proofs.Store.Copy.{checkpoint-begin-serves, checkpoint-step-serves, checkpoint-step-cut}
+use Rattle.model.proofs.Store.End.{AtEnd, restart-end-serves, restart-end-cut}
+use Rattle.model.proofs.Store.Update.{update-serves, update-cut}
+use Rattle.model.proofs.Store.Commit.{commit-serves, commit-cut}
+use Rattle.model.proofs.Store.CheckpointEnd.{checkpoint-end-serves, checkpoint-end-cut}
+use Rattle.model.proofs.Store.Abort.{abort-serves, abort-cut}
+use Rattle.model.proofs.Store.Holding.{Holding, shut, replaying, serving, kept-sets, call-keeps}
+
+-- whatever the stage, the devices restart to what is committed
+pub holding-kept : {m : Machine} {r : Reference} → Holding m r → Kept (m .world) r
+holding-kept (shut s k n) = k
+holding-kept (replaying p k n) = k
+holding-kept (serving g) = kept (g .serving .safe)
+
+-- an accepted call found the stage that it is for
+pub row-one : (allowed : Stage → Bool) (c : Core) (rows : List Row) → verdict (row 1 (stageForbids allowed c) ∷ rows) ≡ accepted → allowed (c .stage) ≡ true
+row-one allowed c rows v = stage-row allowed c (row-passed _ rows v .0) .0
+
+-- the store as its stage says
+module _ {m : Machine} {r : Reference} where
+  served : Holding m r → whenServing (m .core .stage) ≡ true → Served (m .core) (m .world) r
+  served (shut s k n) e = true-false (sym (ap whenServing s) ∙ e) refl
+  served (replaying p k n) e = true-false (sym (ap whenServing (p .stage)) ∙ e) refl
+  served (serving g) e = g
+
+  pub stopped : Holding m r → whenShut (m .core .stage) ≡ true → Kept (m .world) r × (r .writeSets ≡ [])
+  stopped (shut s k n) e = (k, n)
+  stopped (replaying p k n) e = true-false (sym (ap whenShut (p .stage)) ∙ e) refl
+  stopped (serving g) e = apart (m .core .stage) e (g .serving .stage)
+    where
+      apart : (s : Stage) → whenShut s ≡ true → whenServing s ≡ true → Kept (m .world) r × (r .writeSets ≡ [])
+      apart Shut a b = true-false b refl
+      apart Replaying a b = true-false a refl
+      apart Open a b = true-false a refl
+      apart Copying a b = true-false a refl
+
+  pub replayed : Holding m r → whenReplaying (m .core .stage) ≡ true → Progress (m .core) (m .world) × Kept (m .world) r × (r .writeSets ≡ [])
+  replayed (shut s k n) e = true-false (sym (ap whenReplaying s) ∙ e) refl
+  replayed (replaying p k n) e = (p, k, n)
+  replayed (serving g) e = apart (m .core .stage) e (g .serving .stage)
+    where
+      apart : (s : Stage) → whenReplaying s ≡ true → whenServing s ≡ true → Progress (m .core) (m .world) × Kept (m .world) r × (r .writeSets ≡ [])
+      apart Shut a b = true-false a refl
+      apart Replaying a b = true-false b refl
+      apart Open a b = true-false a refl
+      apart Copying a b = true-false a refl
+
+-- the same devices keep the same
+pub kept-devices : {v w : World} {r : Reference} → SameDevices v w → Kept w r → Kept v r
+kept-devices d k = record { sizes = ap sizesOn (d .anchor) ∙ k .sizes; shaped = k .shaped; image = ap restarted (image-devices d) ∙ k .image }
+
+-- a call that stores nothing is never cut
+never-cut : {X : Type 0} (k : Call) (m : Machine) → storesNothing k ≡ true → finishes (budgetOf k) (taskOf k (m .core) (m .world) .actions) ≡ false → X
+never-cut k m e f = true-false (storeless-finishes k (m .core) (m .world) e) f
+
+-- an accepted call whose budget lasts is taken
+accepted-taken : (k : Call) (m : Machine) → verdict (rowsOf k (m .core) (m .world)) ≡ accepted
+    → finishes (budgetOf k) (taskOf k (m .core) (m .world) .actions) ≡ true → outcomeOf (resultOf k (m .core) (m .world) .answer) ≡ taken
+unfolding resultOf
+accepted-taken k m v f = rw (v, f)
+
+-- an accepted call is not refused
+accepted-goes : (k : Call) (m : Machine) → verdict (rowsOf k (m .core) (m .world)) ≡ accepted
+    → (b : Bool) → finishes (budgetOf k) (taskOf k (m .core) (m .world) .actions) ≡ b → isRefused (outcome m k) ≡ false
+unfolding resultOf outcome result
+accepted-goes k m v true f = rw (v, f)
+accepted-goes k m v false f = rw (v, f)
+
+module _ (m : Machine) (r : Reference) (h : Holding m r) where
+  step-begin : Holding (after m (call begin)) (referred m (call begin) r)
+  unfolding beginTask beginRows perform
+  step-begin =
+      call-keeps begin m r h
+      (λ v f. serving (begin-serves (served h (row-one whenServing (m .core) _ v)) v))
+      (λ v f. never-cut begin m refl f)
+
+  step-read : (reader page slot : ℕ) → Holding (after m (call (read reader page slot))) (referred m (call (read reader page slot)) r)
+  unfolding readTask perform
+  step-read reader page slot =
+      call-keeps (read reader page slot) m r h (λ v f. h) (λ v f. never-cut (read reader page slot) m refl f)
+
+  step-update : (number page slot : ℕ) (value : List ℕ) (budget : ℕ)
+      → Holding (after m (call (update number page slot value budget))) (referred m (call (update number page slot value budget)) r)
+  unfolding updateRows
+  step-update number page slot value budget =
+      call-keeps (update number page slot value budget) m r h
+      (λ v f. serving (update-serves (served h (row-one whenServing (m .core) _ v)) number page slot value budget 0 v))
+      (λ v f. update-cut (served h (row-one whenServing (m .core) _ v)) number page slot value budget v f)
+
+  step-commit : (number budget : ℕ) → Holding (after m (call (commit number budget))) (referred m (call (commit number budget)) r)
+  unfolding commitRows
+  step-commit number budget =
+      call-keeps (commit number budget) m r h
+      (λ v f. serving (commit-serves (served h (row-one whenServing (m .core) _ v)) number budget 0 v))
+      (λ v f. commit-cut (served h (row-one whenServing (m .core) _ v)) number budget v f)
+
+  step-abort : (number budget : ℕ) → Holding (after m (call (abort number budget))) (referred m (call (abort number budget)) r)
+  unfolding abortRows
+  step-abort number budget =
+      call-keeps (abort number budget) m r h
+      (λ v f. serving (abort-serves (served h (row-one whenServing (m .core) _ v)) number budget 0 v))
+      (λ v f. abort-cut (served h (row-one whenServing (m .core) _ v)) number budget v f)
+
+  step-checkpoint-begin : Holding (after m (call checkpointBegin)) (referred m (call checkpointBegin) r)
+  unfolding checkpointBeginRows checkpointBeginTask perform
+  step-checkpoint-begin =
+      call-keeps checkpointBegin m r h
+      (λ v f. serving (checkpoint-begin-serves (served h (open-serving (m .core) (row-one whenOpen (m .core) _ v))) v))
+      (λ v f. never-cut checkpointBegin m refl f)
+
+  step-checkpoint-step : (budget : ℕ) → Holding (after m (call (checkpointStep budget))) (referred m (call (checkpointStep budget)) r)
+  unfolding checkpointStepRows
+  step-checkpoint-step budget =
+      call-keeps (checkpointStep budget) m r h
+      (λ v f. serving (checkpoint-step-serves (served h (copying-serving (m .core) (row-one whenCopying (m .core) _ v))) v))
+      (λ v f. checkpoint-step-cut budget (served h (copying-serving (m .core) (row-one whenCopying (m .core) _ v))) v (holding-kept h) f)
+
+  step-checkpoint-end : (budget : ℕ) → Holding (after m (call (checkpointEnd budget))) (referred m (call (checkpointEnd budget)) r)
+  unfolding checkpointEndRows
+  step-checkpoint-end budget =
+      call-keeps (checkpointEnd budget) m r h
+      (λ v f. serving (checkpoint-end-serves (served h (copying-serving (m .core) (row-one whenCopying (m .core) _ v))) v))
+      (λ v f. checkpoint-end-cut (served h (copying-serving (m .core) (row-one whenCopying (m .core) _ v))) v budget f)
+
+  step-new : Holding (after m (call newState)) (referred m (call newState) r)
+  unfolding perform newCore
+  step-new = call-keeps newState m r h (λ v f. shut refl (kept-sets (holding-kept h) []) refl) (λ v f. never-cut newState m refl f)
+
+  step-restart-begin : Holding (after m (call restartBegin)) (referred m (call restartBegin) r)
+  unfolding restartBeginRows
+  step-restart-begin =
+      call-keeps restartBegin m r h
+      (λ v f.
+      let o = accepted-taken restartBegin m v f in
+      let t = taken-call restartBegin (m .core) (m .world) o in
+      let p = rw (t .core, t .world) at (begin-progress (m .core) (m .world) o) in
+      let s = stopped h (row-one whenShut (m .core) _ v) in
+      replaying (p .0) (kept-devices (p .1) (s .0)) (s .1))
+      (λ v f. never-cut restartBegin m refl f)
+
+  step-restart-step : (source : ℕ) → Holding (after m (call (restartStep source))) (referred m (call (restartStep source)) r)
+  unfolding restartStepRows
+  step-restart-step source =
+      call-keeps (restartStep source) m r h
+      (λ v f.
+      let o = accepted-taken (restartStep source) m v f in
+      let t = taken-call (restartStep source) (m .core) (m .world) o in
+      let s = replayed h (row-one whenReplaying (m .core) _ v) in
+      let p = rw (t .core, t .world) at (step-progress (m .core) (m .world) source (s .0) o) in
+      replaying (p .0) (kept-devices (p .1) (s .1)) (s .2))
+      (λ v f. never-cut (restartStep source) m refl f)
+
+  step-restart-end : (budget : ℕ) → Holding (after m (call (restartEnd budget))) (referred m (call (restartEnd budget)) r)
+  unfolding restartEndRows
+  step-restart-end budget =
+      call-keeps (restartEnd budget) m r h
+      (λ v f. serving (restart-end-serves (at-end (replayed h (row-one whenReplaying (m .core) _ v)) (accepted-taken (restartEnd budget) m v f)) v))
+      (λ v f. let s = replayed h (row-one whenReplaying (m .core) _ v) in restart-end-cut (m .core) (m .world) budget (s .1) (s .0 .sizes) (s .0 .epoch) v f)
+    where
+      at-end : Progress (m .core) (m .world) × Kept (m .world) r × (r .writeSets ≡ []) → outcomeOf (resultOf (restartEnd budget) (m .core) (m .world) .answer) ≡ taken → AtEnd (m .core) (m .world) r
+      at-end s o =
+          record {
+            sizes = s .0 .sizes;
+            epoch = s .0 .epoch;
+            tails = s .0 .tails;
+            eight = s .0 .eight;
+            reference = sym (s .1 .sizes) ∙ sym (s .0 .sizes);
+            shaped = rw (s .0 .sizes ∙ s .1 .sizes) (s .1 .shaped);
+            pages = sym (end-gives (m .core) (m .world) budget (s .0) o .1) ∙ end-gives (m .core) (m .world) budget (s .0) o .0 ∙ s .1 .image;
+            none = s .2;
+          }
+
+  step-format : (s : Sizes) (budget : ℕ) → isRefused (outcome m (format s budget)) ≡ true → Holding (after m (call (format s budget))) (referred m (call (format s budget)) r)
+  step-format s budget e =
+      call-keeps (format s budget) m r h
+      (λ v f. true-false e (accepted-goes (format s budget) m v true f))
+      (λ v f. true-false e (accepted-goes (format s budget) m v false f))
+
+-- every call that is allowed
+pub step-call : (k : Call) (m : Machine) (r : Reference) → Holding m r → allowedCall m k ≡ true → Holding (after m (call k)) (referred m (call k) r)
+step-call (format s budget) m r h e = step-format m r h s budget e
+step-call begin m r h e = step-begin m r h
+step-call (update number page slot value budget) m r h e = step-update m r h number page slot value budget
+step-call (read reader page slot) m r h e = step-read m r h reader page slot
+step-call (commit number budget) m r h e = step-commit m r h number budget
+step-call (abort number budget) m r h e = step-abort m r h number budget
+step-call checkpointBegin m r h e = step-checkpoint-begin m r h
+step-call (checkpointStep budget) m r h e = step-checkpoint-step m r h budget
+step-call (checkpointEnd budget) m r h e = step-checkpoint-end m r h budget
+step-call restartBegin m r h e = step-restart-begin m r h
+step-call (restartStep source) m r h e = step-restart-step m r h source
+step-call (restartEnd budget) m r h e = step-restart-end m r h budget
+step-call newState m r h e = step-new m r h

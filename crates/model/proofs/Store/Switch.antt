@@ -1,0 +1,224 @@
+-- A checkpoint's last store keeps what holds of an open store: with all flushed and copied, the other backup counts and the log
+-- begins at the new starts.
+use mathlib.Core.Path.{_≡_, refl, sym, ap, _∙_}
+use mathlib.Core.List.{List, [], _++_, append-nil}
+use mathlib.Core.Bool.{Bool, true, false}
+use Prim.Native.Nat.{ℕ, _+_, _%_, _≤_, _<_}
+use native.Mathlib.Omega.{arith}
+use lib.ListN.{length, getD, replicate, length-append, length-replicate, getD-replicate}
+use borrow.Author.Tests.{le-ltb}
+use Rattle.model.specs.declared.Stage.the-variants.{Open}
+use Rattle.model.specs.declared.Sizes.{Sizes}
+use Rattle.model.specs.declared.Core.{Core}
+use Rattle.model.specs.Word.{part}
+use Rattle.model.specs.Sizes.{total, ringWord}
+use Rattle.model.specs.Anchor.{backupAt}
+use Rattle.model.specs.World.{World}
+use Rattle.model.specs.Memory.{epochOf, bufferOf}
+use Rattle.model.specs.State.{startOf, tailOf, fillOf, endOf, hasUpdate, placeOf, isOpen, noCheckpoint}
+use Rattle.model.specs.Causes.{whenOpen, tailOn}
+use Rattle.model.specs.Checkpoint.{perDisk, newStart}
+use Rattle.model.specs.Transaction.{diskOf}
+use Rattle.model.specs.Reference.{Reference}
+use Rattle.model.proofs.Reader.{Holds, holds-append}
+use Rattle.model.proofs.Run.{SameLengths}
+use Rattle.model.proofs.Ledger.Entry.{Entry, All, pick}
+use Rattle.model.proofs.Ledger.State.{switched, Same}
+use Rattle.model.proofs.Ledger.Order.{Ordered, wordsOf, on, boundary}
+use Rattle.model.proofs.Ledger.Sums.{true-false, all-map}
+use Rattle.model.proofs.Ledger.Picks.{all-pick}
+use Rattle.model.proofs.Ledger.Lists.{all-left, words-none}
+use Rattle.model.proofs.Ledger.Positions.{Suffix}
+use Rattle.model.proofs.Ledger.Ordered.{keptFrom, switch-suffix, ordered-switch}
+use Rattle.model.proofs.Ledger.Good.{good-same}
+use Rattle.model.proofs.Ledger.Checkpoint.{switch-good}
+use Rattle.model.proofs.Ledger.Switch.{placed-kept}
+use Rattle.model.proofs.Link.Words.{Link}
+use Rattle.model.proofs.Restart.Progress.{getD-per-disk, length-per-disk}
+use Rattle.model.proofs.Store.View.{view, Devices, Safe, Accounts, Epochs, Serving, before}
+use Rattle.model.proofs.Store.Same.{sets-same}
+use Rattle.model.proofs.Store.Flush.{lengths-same}
+use Rattle.model.proofs.Store.NewStarts.{firstOf, boundary-later, first-boundary, new-boundary, start-early, placed, page-copied, may}
+use Rattle.model.proofs.Store.Starts.{Moved}
+
+-- the state that a checkpoint's end leaves
+abbrev pub switchedCore : Core → Core
+switchedCore c =
+    record {
+      stage = Open;
+      sizes = c .sizes;
+      epoch = c .epoch + 1;
+      logs = record { starts = perDisk (c .sizes) (newStart c); tails = perDisk (c .sizes) (endOf (c .logs)); fills = replicate 8 0 };
+      table = c .table;
+      next = c .next;
+      checkpoint = noCheckpoint;
+      replay = c .replay;
+    }
+
+module _ {home : ℕ → ℕ} {c : Core} {w : World} {r : Reference} {F : List Entry} (g : Serving 0 home c w r F [])
+    (copying : whenOpen (c .stage) ≡ false) (copied : c .sizes .pages ≤ c .checkpoint .copied)
+    (disks : (t : ℕ) → isOpen (c .table) t ≡ true → diskOf c t < c .sizes .disks) where
+  abbrev kept : Entry → Bool
+  kept = keptFrom (newStart c)
+
+  cut : (d : ℕ) → d < c .sizes .disks → boundary (newStart c d) (startOf (c .logs) d) (on d F) ≡ true
+  cut = new-boundary g copying copied
+
+  -- The world after the stores.
+  module _ {v : World} (moved : Moved (c .epoch) (newStart c) (c .sizes .disks) w v) (lengths : SameLengths v w) where
+    abbrev now : Core
+    now = switchedCore c
+
+    eight : c .sizes .disks ≤ 8
+    eight = g .safe .devices .arrays .disks
+
+    start-now : (d : ℕ) → d < c .sizes .disks → startOf (now .logs) d ≡ newStart c d
+    unfolding startOf
+    start-now d h = getD-per-disk (c .sizes) (newStart c) d eight h
+
+    fill-now : (d : ℕ) → d < c .sizes .disks → fillOf (now .logs) d ≡ 0
+    unfolding fillOf
+    fill-now d h = getD-replicate 8 d 0 0 (omega (arith, eight))
+
+    -- nothing is buffered, so the logs end at their tails
+    tail-now : (d : ℕ) → d < c .sizes .disks → tailOf (now .logs) d ≡ tailOf (c .logs) d
+    unfolding tailOf endOf on pick
+    tail-now d h =
+        let empty : fillOf (c .logs) d ≡ 0 = g .safe .link .fill d h ∙ ap length words-none in
+        getD-per-disk (c .sizes) (endOf (c .logs)) d eight h ∙ omega arith
+
+    suffix : (d : ℕ) → d < c .sizes .disks → Suffix (startOf (c .logs) d) (newStart c d) (on d F) (on d (pick kept F))
+    suffix d h = switch-suffix (g .safe .ordered) (newStart c) d h (cut d h)
+
+    devices : Devices now v
+    devices =
+        record {
+          bounds = g .safe .devices .bounds;
+          anchor = lengths .anchor ∙ g .safe .devices .anchor;
+          lengths = lengths-same (c .sizes) lengths (g .safe .devices .lengths);
+          sizes = moved .sizes ∙ g .safe .devices .sizes;
+          epoch = moved .epoch;
+          starts = λ d h. moved .starts d h ∙ sym (start-now d h);
+          arrays =
+              record {
+                starts = length-per-disk (c .sizes) (newStart c);
+                tails = length-per-disk (c .sizes) (endOf (c .logs));
+                fills = length-replicate {A = ℕ} 8 0;
+                disks = eight;
+                ring = g .safe .devices .arrays .ring;
+              };
+        }
+
+    -- the checkpoint after the next writes the backup that was current
+    backup-back : (s : Sizes) (n : ℕ) → backupAt s (n + 1 + 1) ≡ backupAt s n
+    unfolding backupAt
+    backup-back s n =
+        let e : (n + 1 + 1) % 2 ≡ n % 2 = omega arith in
+        rw e
+
+    same : Same (total (c .sizes)) (switched (view c w r F []) kept) (view now v r (pick kept F) [])
+    unfolding view switched epochOf
+    same =
+        record {
+          epoch = refl;
+          next = refl;
+          pages = λ i h. rw (moved .pages-same);
+          current = λ i h. rw (moved .backups-same);
+          other = λ i h. rw (moved .backups-same, backup-back (c .sizes) (c .epoch));
+          epochs = λ i h. rw (moved .work-same);
+          owners = λ i h. rw (moved .work-same);
+          committed = λ i h. refl;
+          writes = λ u h. refl;
+          opened = λ u. refl;
+          flushed = refl;
+          buffered = refl;
+        }
+
+    -- the words from the new start on are those of the entries that are kept
+    held : (d : ℕ) → d < c .sizes .disks
+        → Holds (λ q. getD (v .logs) (ringWord (c .sizes) d q) 0) (newStart c d) (wordsOf (on d (pick kept F)))
+    held d h =
+        let k = suffix d h in
+        let at : startOf (c .logs) d + length (k .front) ≡ newStart c d = omega (arith, k .cut) in
+        rw (moved .logs-same) (rw at at (holds-append _ (startOf (c .logs) d) (k .front) _ (rw (k .words) at (g .safe .link .held d h)) .1))
+
+    link : Link (c .sizes) (now .logs) v (pick kept F) []
+    unfolding tailOn bufferOf part on pick
+    link =
+        record {
+          held = λ d h. rw (start-now d h) (held d h);
+          tail = λ d h.
+              let k = suffix d h in
+              let both = ap length (k .words) ∙ length-append (k .front) (wordsOf (on d (pick kept F))) in
+              omega (arith, start-now d h, tail-now d h, g .safe .link .tail d h, k .cut);
+          stored = λ d h. rw (moved .logs-same) (g .safe .link .stored d h ∙ sym (tail-now d h));
+          buffer = λ d h. rw (fill-now d h) (sym words-none);
+          fill = λ d h. rw words-none (fill-now d h);
+        }
+
+    ordered : Ordered (c .sizes .disks) (startOf (now .logs)) home (pick kept F) []
+    ordered =
+        let o = ordered-switch (g .safe .ordered) (newStart c) cut in
+        record { laid = λ d h. rw (start-now d h) (o .laid d h); inside = o .inside; homed = o .homed; last = o .last }
+
+    -- what holds of all entries holds of those that are kept
+    thin : (P : Entry → Type 0) → All P (F ++ []) → All P (pick kept F ++ [])
+    thin P h = rw (append-nil (pick kept F)) (all-pick P kept F (all-left P F [] h))
+
+    safe : Safe 0 home now v r (pick kept F) []
+    safe =
+        record {
+          devices = devices;
+          good = good-same same (switch-good (g .safe .good) (may g copying copied));
+          link = link;
+          ordered = ordered;
+          fit = thin _ (g .safe .fit);
+          sizes = g .safe .sizes;
+          shaped = g .safe .shaped;
+        }
+
+    first-kept : (t : ℕ) → isOpen (c .table) t ≡ true → hasUpdate (c .table) (placeOf (c .table) t) ≡ true
+        → boundary (firstOf c t) (startOf (now .logs) (diskOf c t)) (on (diskOf c t) (pick kept F) ++ on (diskOf c t) []) ≡ true
+    unfolding on pick
+    first-kept t o h =
+        let d : ℕ = diskOf c t in
+        rw (start-now d (disks t o), append-nil (on d (pick kept F)))
+        (boundary-later (g .safe .ordered) (newStart c) d (firstOf c t) (disks t o) (cut d (disks t o))
+        (first-boundary g copying copied t o h) (start-early g copying copied t o h))
+
+    accounts : Accounts 0 home now (pick kept F) []
+    unfolding diskOf
+    accounts =
+        record {
+          tabled = g .accounts .tabled;
+          homes = g .accounts .homes;
+          own = λ t o.
+              thin _
+              (all-map (λ e h same. let k = h same in record { has = k .has; first = k .first; kind = k .kind }) (F ++ [])
+              (g .accounts .own t o));
+          firsts = first-kept;
+          settled = rw (append-nil (pick kept F)) (placed-kept (g .safe .ordered) (newStart c) (placed g copying copied) .settled);
+          numbered = thin _ (g .accounts .numbered);
+        }
+
+    epochs : Epochs now v (pick kept F) []
+    unfolding epochOf before
+    epochs =
+        record {
+          copied = λ o. refl;
+          pages = λ p h. rw (moved .work-same, le-ltb p 0 (omega arith)) (page-copied g copying copied p h);
+          capped = thin _ (all-map (λ e h k. omega (arith, h k)) (F ++ []) (g .epochs .capped));
+          early = thin _ (all-map (λ e h b k. h k) (F ++ []) (g .epochs .capped));
+          ends = λ o. true-false refl o;
+        }
+
+    -- the store is open, with the other backup current
+    pub switch-serving : Serving 0 home now v r (pick kept F) []
+    switch-serving =
+        record {
+          stage = refl;
+          safe = safe;
+          accounts = accounts;
+          epochs = epochs;
+          sets = sets-same refl refl (g .sets);
+        }

@@ -1,0 +1,78 @@
+-- All updates of a transaction taken back, one after the other.
+use mathlib.Core.Path.{_≡_, refl, sym, ap, _∙_}
+use mathlib.Core.List.{List, [], _∷_, _++_}
+use mathlib.Core.Bool.{true}
+use Prim.Native.Nat.{ℕ, _+_, _-_, _≤_, _<_}
+use native.Mathlib.Omega.{arith}
+use native.Mathlib.Decide.{decLt}
+use Rattle.model.specs.declared.Core.{Core}
+use Rattle.model.specs.Word.{_⊕_}
+use Rattle.model.specs.Sizes.{ringOf}
+use Rattle.model.specs.Scan.{Update, updateWords}
+use Rattle.model.specs.World.{World, perform, stores, run}
+use Rattle.model.specs.State.{startOf, endOf, withLog, isOpen, placeOf, hasUpdate}
+use Rattle.model.specs.Append.{Appended}
+use Rattle.model.specs.Transaction.{diskOf}
+use Rattle.model.specs.Abort.{undoAll}
+use Rattle.model.specs.Reference.{Reference}
+use Rattle.model.proofs.Xor.{⊕-assoc, ⊕-zero-r}
+use Rattle.model.proofs.Run.{perform-append, stores-append, run-append, run-cut}
+use Rattle.model.proofs.Ledger.Entry.{Entry, All, sum}
+use Rattle.model.proofs.Ledger.Word.{ofTxn}
+use Rattle.model.proofs.Link.Buffered.{Small}
+use Rattle.model.proofs.Link.Abort.{sumUpdates}
+use Rattle.model.proofs.Store.View.{Kept, Serving}
+use Rattle.model.proofs.Store.Compensate.{Slotted, Compensated, compensated}
+
+module _ {t : ℕ} {home : ℕ → ℕ} {c : Core} {w : World} {r : Reference} {F B : List Entry} where
+  -- nothing to take back
+  pub none-undone : Serving t home c w r F B → Small (c .sizes) (c .logs) → (d : ℕ)
+      → Compensated t home c w r F B d 0 (λ i. 0) (record { actions = []; logs = c .logs })
+  unfolding withLog perform stores
+  none-undone g small d =
+      record {
+        flushed = F;
+        buffered = B;
+        serving = g;
+        sums = λ i. sym (⊕-zero-r (ofTxn i t (F ++ B)));
+        starts = λ e. refl;
+        ends = omega arith;
+        small = small;
+        cut = λ k h. absurd (omega arith);
+      }
+
+  -- one compensation and then others
+  pub then-undone : {d m n : ℕ} {f h : ℕ → ℕ} {one rest : Appended} (a : Compensated t home c w r F B d m f one)
+      → Compensated t home (withLog c (one .logs) (c .table)) (perform (one .actions) w) r (a .flushed) (a .buffered) d n h rest
+      → Compensated t home c w r F B d (m + n) (λ i. f i ⊕ h i) (record { actions = one .actions ++ rest .actions; logs = rest .logs })
+  unfolding withLog
+  then-undone {d} {m} {n} {f} {h} {one} {rest} a b =
+      record {
+        flushed = b .flushed;
+        buffered = b .buffered;
+        serving = rw (perform-append (one .actions) (rest .actions) w) (b .serving);
+        sums = λ i. b .sums i ∙ ap (λ (y : ℕ). y ⊕ h i) (a .sums i) ∙ ⊕-assoc (ofTxn i t (F ++ B)) (f i) (h i);
+        starts = λ e. b .starts e ∙ a .starts e;
+        ends = omega (arith, a .ends, b .ends);
+        small = b .small;
+        cut = λ k l. cut k l (decLt k (stores (one .actions)));
+      }
+    where
+      cut : (k : ℕ) → k < stores (one .actions ++ rest .actions) → Dec (k < stores (one .actions)) → Kept (run k (one .actions ++ rest .actions) w) r
+      cut k l (yes less) = rw (run-cut k (one .actions) (rest .actions) w less) (a .cut k less)
+      cut k l (no more) =
+          rw (run-append k (one .actions) (rest .actions) w (omega arith))
+          (b .cut (k - stores (one .actions)) (omega (arith, stores-append (one .actions) (rest .actions))))
+
+-- all of them, with room for their records
+pub undone : {t : ℕ} {home : ℕ → ℕ} {c : Core} {w : World} {r : Reference} {F B : List Entry} → Serving t home c w r F B
+    → isOpen (c .table) t ≡ true → hasUpdate (c .table) (placeOf (c .table) t) ≡ true → diskOf c t < c .sizes .disks
+    → Small (c .sizes) (c .logs) → (us : List Update) → All (Slotted (c .sizes)) us
+    → endOf (c .logs) (diskOf c t) + updateWords us ≤ startOf (c .logs) (diskOf c t) + ringOf (c .sizes) (diskOf c t)
+    → Compensated t home c w r F B (diskOf c t) (updateWords us) (λ i. sumUpdates (c .sizes) i us)
+    (undoAll (c .sizes) (c .logs) w t (diskOf c t) us)
+unfolding undoAll updateWords sumUpdates sum withLog diskOf
+undone {t = t} {c = c} g opened has below small [] slotted room = none-undone g small (diskOf c t)
+undone {t = t} {c = c} g opened has below small (u ∷ us) slotted room =
+    let one = compensated g opened has below small u (slotted .0) (omega arith) in
+    then-undone one (undone (one .serving) opened has below (one .small) us (slotted .1) (omega (arith, one .starts (diskOf c t), one .ends)))

@@ -1,0 +1,232 @@
+-- An update keeps what holds of an open store; cut inside the flush that makes room for its record, it loses nothing.
+use mathlib.Core.Path.{_≡_, refl, sym, subst, _∙_}
+use mathlib.Core.List.{List, [], _∷_, _++_, append-assoc}
+use mathlib.Core.Bool.{true, false, cond}
+use Prim.Native.Nat.{ℕ, _+_, _≤_, _<_}
+use native.Mathlib.Omega.{arith}
+use lib.Dec.{leb}
+use lib.ListN.{length}
+use borrow.Author.Tests.{leb-false, eqb-true, ne-eqb, not-false}
+use Rattle.model.specs.declared.Table.{Table}
+use Rattle.model.specs.declared.Core.{Core}
+use Rattle.model.specs.Sizes.{slotsIn, widthIn, slotBase, ringOf}
+use Rattle.model.specs.Record.{encode}
+use Rattle.model.specs.World.{World, Action, write, pages, work, cost, act, perform, stores, run, finishes, each}
+use Rattle.model.specs.Memory.{ownerAt, ownerOf}
+use Rattle.model.specs.State.{startOf, fillOf, endOf, withLog, isOpen, placeOf, firstAt, reservedAt, hasUpdate, withPlace, servingSound}
+use Rattle.model.specs.Refusal.{accepted, verdict}
+use Rattle.model.specs.Causes.{whenServing, stageForbids, slotMissing, notOpen, valueWrong, locked}
+use Rattle.model.specs.Append.{Appended, append}
+use Rattle.model.specs.Transaction.{diskOf, slotWords, updateRecord, updated, updateRows, updateTask}
+use Rattle.model.specs.Call.{update}
+use Rattle.model.specs.Reference.{Reference, afterTaken}
+use Rattle.model.proofs.Run.{perform-append, perform-pages, run-cut, stores-append, stores-written}
+use Rattle.model.proofs.Counts.{append-fits}
+use Rattle.model.proofs.Places.{open-place, place-holds}
+use Rattle.model.proofs.Ledger.Entry.{Entry, recordOf, isClose}
+use Rattle.model.proofs.Ledger.Order.{sizeOf}
+use Rattle.model.proofs.Ledger.Sums.{true-false}
+use Rattle.model.proofs.Ledger.Picks.{or-false}
+use Rattle.model.proofs.Link.Buffered.{Small}
+use Rattle.model.proofs.Store.View.{Kept, Serving, Served}
+use Rattle.model.proofs.Store.Rows.{row-passed, serving-row, serving-sound, disk-sound, PlaceSound, place-sound}
+use Rattle.model.proofs.Store.Ready.{Ready, ready}
+use Rattle.model.proofs.Store.UpdateRoom.{Allowed, updateEntry, slotChanged, noted, update-size}
+use Rattle.model.proofs.Store.UpdateTable.{serving-updated}
+
+-- None of its rows applies.
+module _ (c : Core) (w : World) (number page slot : ℕ) (value : List ℕ) (ok : verdict (updateRows c w number page slot value) ≡ accepted) where
+  rows : (stageForbids whenServing c ≡ false) × (slotMissing (c .sizes) page slot ≡ false) × (notOpen c number ≡ false)
+      × (valueWrong (c .sizes) page value ≡ false) × (locked c w number page slot ≡ false)
+  unfolding updateRows
+  rows =
+      let r1 = row-passed _ _ ok in
+      let r2 = row-passed _ _ (r1 .1) in
+      let r5 = row-passed _ _ (r2 .1) in
+      let r8 = row-passed _ _ (r5 .1) in
+      let r9 = row-passed _ _ (r8 .1) in
+      let r10 = row-passed _ _ (r9 .1) in
+      let r11 = row-passed _ _ (r10 .1) in
+      (r1 .0, r8 .0, r9 .0, r10 .0, r11 .0)
+
+  within-bounds : servingSound c ≡ true
+  within-bounds =
+      let t = serving-row c (rows .0) in
+      serving-sound c (t .0) (t .1)
+
+  is-open : isOpen (c .table) number ≡ true
+  unfolding notOpen
+  is-open = not-false (isOpen (c .table) number) (rows .2)
+
+  there : PlaceSound c (placeOf (c .table) number)
+  there =
+      let p = open-place (c .table) number is-open in
+      place-sound c (placeOf (c .table) number) within-bounds (p .1) (λ z. p .0 (sym (place-holds (c .table) number (p .1)) ∙ z))
+
+  slot-there : (page < c .sizes .pages) × (slot < slotsIn (c .sizes) page)
+  unfolding slotMissing
+  slot-there =
+      let t = or-false (leb (c .sizes .pages) page) (leb (slotsIn (c .sizes) page) slot) (rows .1) in
+      (leb-false (c .sizes .pages) page (t .0), leb-false (slotsIn (c .sizes) page) slot (t .1))
+
+  not-others : (u : ℕ) → isOpen (c .table) u ≡ true → (u ≡ number → ⊥) → u ≡ ownerOf (c .sizes) (w .work) page slot → ⊥
+  unfolding locked isOpen
+  not-others u o ne owns = true-false (rw (← owns, o, ne-eqb u number ne)) (rows .4)
+
+  pub update-allowed : Allowed c w number page slot value
+  unfolding diskOf valueWrong
+  update-allowed =
+      record {
+        opened = is-open;
+        disk = there .disk;
+        reserved = there .reserved;
+        page-lt = slot-there .0;
+        slot-lt = slot-there .1;
+        width = eqb-true (length value) (widthIn (c .sizes) page) (not-false _ (rows .3));
+        free = not-others;
+      }
+
+  pub update-small : Small (c .sizes) (c .logs)
+  update-small d below = disk-sound c d within-bounds below .fill
+
+  pub update-ring : (d : ℕ) → d < c .sizes .disks → endOf (c .logs) d ≤ startOf (c .logs) d + ringOf (c .sizes) d
+  unfolding endOf
+  update-ring d below =
+      let k = disk-sound c d within-bounds below in
+      omega (arith, k .ordered, k .room)
+
+-- cut before a part without stores, a list is cut inside what stands before it
+cut-short : (budget : ℕ) (l m : List Action) → stores m ≡ 0 → finishes budget (l ++ m) ≡ false → budget < stores l
+unfolding finishes
+cut-short budget l m none h = omega (arith, leb-false (stores (l ++ m)) budget h, stores-append l m)
+
+-- An update is the flush that makes room, and an update with room.
+module _ {home : ℕ → ℕ} {c : Core} {w : World} {r : Reference} {F B : List Entry} (g : Serving 0 home c w r F B)
+    (number page slot : ℕ) (value : List ℕ) (ok : verdict (updateRows c w number page slot value) ≡ accepted) where
+  may : Allowed c w number page slot value
+  may = update-allowed c w number page slot value ok
+
+  abbrev d : ℕ
+  d = diskOf c number
+
+  abbrev at : ℕ
+  at = slotBase (c .sizes) page slot
+
+  abbrev words : List ℕ
+  words = encode (updateRecord c w number page slot value)
+
+  size : length words ≡ 3 + widthIn (c .sizes) page
+  unfolding sizeOf recordOf isClose updateRecord
+  size = update-size g number page slot value may
+
+  y : Ready 0 home c w r d (length words)
+  y =
+      ready g d (length words) (may .disk) (update-small c w number page slot value ok) (update-ring c w number page slot value ok d (may .disk))
+      (omega (arith, size, g .safe .devices .bounds .used page (may .page-lt) .width-max))
+
+  -- the state and the world between the two
+  abbrev c' : Core
+  c' = withLog c (y .logs) (c .table)
+
+  abbrev v : World
+  v = perform (y .flushing) w
+
+  abbrev put : Appended
+  put = append (c .sizes) (y .logs) (v .work) d words
+
+  may' : Allowed c' v number page slot value
+  unfolding withLog diskOf
+  may' =
+      record {
+        opened = may .opened;
+        disk = may .disk;
+        reserved = may .reserved;
+        page-lt = may .page-lt;
+        slot-lt = may .slot-lt;
+        width = may .width;
+        free = rw (y .only .work-same) (may .free);
+      }
+
+  same-words : encode (recordOf (updateEntry c' v number page slot value)) ≡ words
+  unfolding withLog updateRecord recordOf isClose slotWords
+  same-words = rw (y .only .work-same, y .only .pages-same)
+
+  -- what an update does, in two
+  update-actions : updateTask c w number page slot value .actions
+      ≡ y .flushing ++ (put .actions ++ (each (write pages) at value ++ write work (ownerAt (c .sizes) page slot) number ∷ []))
+  unfolding updateTask
+  update-actions = rw (y .split words refl) (simp append-assoc)
+
+  update-world : perform (updateTask c w number page slot value .actions) w ≡ slotChanged (perform (put .actions) v) at value number
+  unfolding perform act ownerAt
+  update-world = rw (update-actions, perform-append, perform-append, perform-append, perform-pages)
+
+  update-core : updateTask c w number page slot value .core ≡ withLog c (put .logs) (updated c number (length words))
+  unfolding updateTask
+  update-core = rw (y .split words refl)
+
+  -- the end of the disk's log is the same before the flush and after it
+  abbrev tableOf : ℕ → Table
+  tableOf n =
+      withPlace (c .table) (placeOf (c .table) number) number d
+      (cond (hasUpdate (c .table) (placeOf (c .table) number)) (firstAt (c .table) (placeOf (c .table) number)) (endOf (y .logs) d))
+      (reservedAt (c .table) (placeOf (c .table) number) + n)
+
+  same-table : tableOf (length words) ≡ updated c number (length words)
+  unfolding updated
+  same-table = rw (y .ends)
+
+  abbrev After : List ℕ → Table → Type 0
+  After xs t =
+      Serving 0 home (withLog c (append (c .sizes) (y .logs) (v .work) d xs .logs) t)
+      (slotChanged (perform (append (c .sizes) (y .logs) (v .work) d xs .actions) v) at value number)
+      (noted r number page slot value) (y .flushed) (y .buffered ++ updateEntry c' v number page slot value ∷ [])
+
+  room' : fillOf (y .logs) d + sizeOf (updateEntry c' v number page slot value) ≤ 64
+  unfolding sizeOf
+  room' = rw same-words (y .room)
+
+  after : After (encode (recordOf (updateEntry c' v number page slot value))) (tableOf (length (encode (recordOf (updateEntry c' v number page slot value)))))
+  unfolding withLog diskOf sizeOf
+  after = serving-updated (y .serving) number page slot value may' (y .small) room'
+
+  pub update-served : Served (updateTask c w number page slot value .core) (perform (updateTask c w number page slot value .actions) w)
+      (noted r number page slot value)
+  update-served =
+      record {
+        home = home;
+        flushed = y .flushed;
+        buffered = y .buffered ++ updateEntry c' v number page slot value ∷ [];
+        serving =
+            rw (update-core, update-world)
+            (subst (After words) same-table (subst (λ (xs : List ℕ). After xs (tableOf (length xs))) same-words after));
+      }
+
+  -- only the flush has stores
+  abbrev rest : List Action
+  rest = put .actions ++ (each (write pages) at value ++ write work (ownerAt (c .sizes) page slot) number ∷ [])
+
+  stores-rest : stores rest ≡ 0
+  unfolding stores cost
+  stores-rest =
+      simp (stores-append, stores-written) (omega (arith, append-fits (c .sizes) (y .logs) (v .work) d words (y .room)))
+
+  pub update-kept : (budget : ℕ) → finishes budget (updateTask c w number page slot value .actions) ≡ false
+      → Kept (run budget (updateTask c w number page slot value .actions) w) r
+  update-kept budget = rw update-actions (λ h. rw (run-cut budget (y .flushing) rest w (short h)) (y .cut budget (short h)))
+    where
+      short : finishes budget (y .flushing ++ rest) ≡ false → budget < stores (y .flushing)
+      short h = cut-short budget (y .flushing) rest stores-rest h
+
+module _ {c : Core} {w : World} {r : Reference} (g : Served c w r) where
+  -- finished, it leaves an open store whose reference has noted its write
+  pub update-serves : (number page slot : ℕ) (value : List ℕ) (budget n : ℕ) → verdict (updateRows c w number page slot value) ≡ accepted
+      → Served (updateTask c w number page slot value .core) (perform (updateTask c w number page slot value .actions) w)
+      (afterTaken (update number page slot value budget) n r)
+  update-serves number page slot value budget n ok = update-served (g .serving) number page slot value ok
+
+  -- cut, it leaves devices that restart to what was committed
+  pub update-cut : (number page slot : ℕ) (value : List ℕ) (budget : ℕ) → verdict (updateRows c w number page slot value) ≡ accepted
+      → finishes budget (updateTask c w number page slot value .actions) ≡ false
+      → Kept (run budget (updateTask c w number page slot value .actions) w) r
+  update-cut number page slot value budget ok h = update-kept (g .serving) number page slot value ok budget h

@@ -1,0 +1,247 @@
+-- An update whose record fits the free words of its disk's buffer: what it relies on, and what it does to the ledger.
+use mathlib.Core.Path.{_≡_, refl, sym, ap, _∙_}
+use mathlib.Core.List.{List, [], _∷_, _++_, map, map-append}
+use mathlib.Core.Bool.{Bool, true, false, cond}
+use Prim.Native.Nat.{ℕ, _+_, _-_, _≤_, _<_}
+use native.Mathlib.Omega.{arith}
+use native.Mathlib.Decide.{decLt}
+use lib.Dec.{eqb}
+use lib.ListN.{length, getD, set}
+use lib.Seq.{sets, getD-set-same, getD-set-other}
+use Rattle.model.specs.declared.Sizes.{Sizes}
+use Rattle.model.specs.declared.Logs.{Logs}
+use Rattle.model.specs.declared.Table.{Table}
+use Rattle.model.specs.declared.Core.{Core}
+use Rattle.model.specs.Word.{_⊕_, xors}
+use Rattle.model.specs.Sizes.{slotsIn, widthIn, slotBase, total}
+use Rattle.model.specs.Record.{encode}
+use Rattle.model.specs.World.{World}
+use Rattle.model.specs.Memory.{bufferAt, epochAt, workWords, ownerAt, ownerOf, epochOf}
+use Rattle.model.specs.State.{endOf, withLog, isOpen, placeOf, reservedAt}
+use Rattle.model.specs.Transaction.{diskOf, slotWords}
+use Rattle.model.specs.Reference.{Reference, Write, writesOf, added, withSets}
+use Rattle.model.proofs.Xor.{⊕-self-left, ⊕-zero-r, length-xors-same, getD-xors-same}
+use Rattle.model.proofs.Lengths.{Lengths, lengths-right, length-part}
+use Rattle.model.proofs.Geometry.{pageOf, slotStart, slot-start, slot-in, slot-apart, slot-end-total}
+use Rattle.model.proofs.Slots.{patchOf}
+use Rattle.model.proofs.WriteSets.{added-writes}
+use Rattle.model.proofs.Places.{open-place}
+use Rattle.model.proofs.Restart.Words.{spanning-true, spanning-in, sets-in, sets-before, sets-after, getD-part}
+use Rattle.model.proofs.Ledger.Entry.{Entry, isClose, recordOf, spanning, adds, closedIn}
+use Rattle.model.proofs.Ledger.State.{updated, Same}
+use Rattle.model.proofs.Ledger.Order.{sizeOf}
+use Rattle.model.proofs.Ledger.Sums.{true-false}
+use Rattle.model.proofs.Ledger.Good.{Good, good-same}
+use Rattle.model.proofs.Ledger.Update.{MayUpdate, adds-in, adds-out, update-good}
+use Rattle.model.proofs.Link.Words.{Fit}
+use Rattle.model.proofs.Link.Buffered.{InBuffer, owners-same, epochs-same}
+use Rattle.model.proofs.Store.View.{view, Serving}
+
+-- What an accepted update may rely on: its transaction is open, its slot is there and not another's, its value as wide.
+pub record Allowed (c : Core) (w : World) (number page slot : ℕ) (value : List ℕ) : Type 0 where
+  pub opened : isOpen (c .table) number ≡ true
+  pub disk : diskOf c number < c .sizes .disks
+  pub reserved : 2 ≤ reservedAt (c .table) (placeOf (c .table) number)
+  pub page-lt : page < c .sizes .pages
+  pub slot-lt : slot < slotsIn (c .sizes) page
+  pub width : length value ≡ widthIn (c .sizes) page
+  pub free : (u : ℕ) → isOpen (c .table) u ≡ true → (u ≡ number → ⊥) → u ≡ ownerOf (c .sizes) (w .work) page slot → ⊥
+
+-- the entry of its record, at the end of its transaction's disk
+abbrev pub updateEntry : Core → World → ℕ → ℕ → ℕ → List ℕ → Entry
+updateEntry c w number page slot value =
+    record {
+      disk = diskOf c number;
+      position = endOf (c .logs) (diskOf c number);
+      kind = 0;
+      page = page;
+      slot = slot;
+      number = number;
+      epoch = epochOf (c .sizes) (w .work) page;
+      at = slotBase (c .sizes) page slot;
+      diff = xors (slotWords c w page slot) value;
+    }
+
+-- the memories after it: the value in its slot, and the slot's owner
+abbrev pub slotChanged : World → ℕ → List ℕ → ℕ → World
+slotChanged v at value number =
+    record { anchor = v .anchor; pages = sets (v .pages) at value; backups = v .backups; logs = v .logs; work = set (v .work) at number }
+
+-- the reference after it
+abbrev pub noted : Reference → ℕ → ℕ → ℕ → List ℕ → Reference
+noted r number page slot value = withSets r (added number (record { page = page; slot = slot; value = value }) (r .writeSets))
+
+-- words outside the run that is set stay
+sets-out : (l : List ℕ) (at : ℕ) (vs : List ℕ) (i : ℕ) → spanning at (length vs) i ≡ false → getD (sets l at vs) i 0 ≡ getD l i 0
+sets-out l at vs i h = go (decLt i at) (decLt i (at + length vs))
+  where
+    go : Dec (i < at) → Dec (i < at + length vs) → getD (sets l at vs) i 0 ≡ getD l i 0
+    go (yes before) d = sets-before l at vs i before
+    go (no before) (yes end) = true-false (spanning-in at (length vs) i (omega arith) end) h
+    go (no before) (no end) = sets-after l at vs i (omega arith)
+
+module _ {home : ℕ → ℕ} {c : Core} {w : World} {r : Reference} {F B : List Entry} (g : Serving 0 home c w r F B)
+    (number page slot : ℕ) (value : List ℕ) (may : Allowed c w number page slot value) where
+  abbrev s : Sizes
+  s = c .sizes
+
+  abbrev at : ℕ
+  at = slotBase s page slot
+
+  abbrev e : Entry
+  e = updateEntry c w number page slot value
+
+  right : Lengths s w
+  right = lengths-right s w (g .safe .devices .lengths)
+
+  -- the slot lies within the page memory
+  inside : at + widthIn s page ≤ total s
+  inside = slot-end-total s page slot (may .page-lt) (may .slot-lt)
+
+  pub at-lt : at < total s
+  at-lt = omega (arith, inside, g .safe .devices .bounds .used page (may .page-lt) .width-min)
+
+  old-width : length (slotWords c w page slot) ≡ length value
+  unfolding slotWords
+  old-width = length-part at (widthIn s page) (w .pages) (omega (arith, inside, right .pages)) ∙ sym (may .width)
+
+  diff-width : length (e .diff) ≡ length value
+  diff-width = length-xors-same (slotWords c w page slot) value old-width ∙ old-width
+
+  -- its words
+  pub update-size : sizeOf e ≡ 3 + widthIn s page
+  unfolding sizeOf recordOf isClose encode
+  update-size = omega (arith, diff-width, may .width)
+
+  is-change : isClose e ≡ false
+  unfolding isClose
+  is-change = refl
+
+  pub update-fit : Fit s e
+  unfolding recordOf isClose
+  update-fit =
+      let b = g .safe .devices .bounds in
+      record {
+        formed = record {
+          kind-lt = omega arith;
+          page-in = may .page-lt;
+          page-lt = omega (arith, may .page-lt, b .pages-max);
+          slot-in = may .slot-lt;
+          slot-lt = omega (arith, may .slot-lt, b .used page (may .page-lt) .slots-max);
+          number-pos = omega (arith, open-place (c .table) number (may .opened) .0);
+          width-eq = diff-width ∙ may .width;
+        };
+        slotted = λ h. refl;
+      }
+
+  pub update-unclosed : closedIn (F ++ B) number ≡ false
+  unfolding view
+  update-unclosed = g .safe .good .unclosed number (may .opened)
+
+  -- every word of the slot has its start and its page
+  module _ (i : ℕ) (h : spanning at (length value) i ≡ true) where
+    near : (at ≤ i) × (i < at + widthIn s page)
+    near = rw (may .width) at (spanning-true at (length value) i h)
+
+    here : (slotStart s i ≡ at) × (pageOf s i ≡ page)
+    here = slot-start s page slot i (may .page-lt) (may .slot-lt) (near .0) (near .1)
+
+    differs : getD (e .diff) (i - at) 0 ≡ getD (w .pages) i 0 ⊕ getD value (i - at) 0
+    unfolding slotWords
+    differs =
+        let back : at + (i - at) ≡ i = omega (arith, near) in
+        getD-xors-same (slotWords c w page slot) value old-width (i - at)
+        ∙ ap (λ (x : ℕ). x ⊕ getD value (i - at) 0)
+        (getD-part at (widthIn s page) (w .pages) (i - at) (omega (arith, near)) ∙ ap (λ (k : ℕ). getD (w .pages) k 0) back)
+
+  may-update : MayUpdate (total s) (view c w r F B) e value
+  unfolding view ownerOf ownerAt
+  may-update =
+      record {
+        opened = may .opened;
+        change = is-change;
+        lengths = diff-width;
+        differs = λ i l h. differs i h;
+        free = λ i l h u o ne owns. may .free u o ne (owns ∙ ap (λ (k : ℕ). getD (w .work) k 0) (here i h .0));
+        copy = λ i l h. ap (epochOf s (w .work)) (here i h .1);
+      }
+
+  -- The world v after the record is buffered, and a table with the same transactions.
+  module _ (v : World) (k : InBuffer s (diskOf c number) w v) (long : length (v .work) ≡ workWords s) (t : Table)
+      (same-open : (u : ℕ) → isOpen t u ≡ isOpen (c .table) u) where
+    abbrev u : World
+    u = slotChanged v at value number
+
+    pages-after : (i : ℕ) → getD (w .pages) i 0 ⊕ adds i e ≡ getD (sets (v .pages) at value) i 0
+    pages-after i = rw (k .pages-same) (go (spanning at (length value) i) refl)
+      where
+        go : (b : Bool) → spanning at (length value) i ≡ b → getD (w .pages) i 0 ⊕ adds i e ≡ getD (sets (w .pages) at value) i 0
+        go true h =
+            ap (λ (x : ℕ). getD (w .pages) i 0 ⊕ x) (adds-in i e is-change (rw diff-width h) ∙ differs i h)
+            ∙ ⊕-self-left (getD (w .pages) i 0) (getD value (i - at) 0)
+            ∙ sym (sets-in (w .pages) at value i (omega (arith, inside, right .pages, may .width)) (near i h .0) (rw (may .width) (near i h .1)))
+        go false h =
+            ap (λ (x : ℕ). getD (w .pages) i 0 ⊕ x) (adds-out i e (rw diff-width h)) ∙ ⊕-zero-r (getD (w .pages) i 0)
+            ∙ sym (sets-out (w .pages) at value i h)
+
+    -- an owner or a copy epoch other than the slot's owner
+    work-other : (j : ℕ) → (j ≡ at → ⊥) → getD (set (v .work) at number) j 0 ≡ getD (v .work) j 0
+    work-other j ne = getD-set-other (v .work) at j number 0 ne
+
+    epochs-after : (p : ℕ) → epochOf s (w .work) p ≡ epochOf s (set (v .work) at number) p
+    unfolding epochOf epochAt bufferAt
+    epochs-after p =
+        sym (work-other (epochAt s p) (λ x. omega (arith, at-lt)) ∙ epochs-same k (epochAt s p) (may .disk) (omega arith))
+
+    owners-after : (i : ℕ) → i < total s
+        → cond (spanning at (length value) i) number (getD (w .work) (slotStart s i) 0) ≡ getD (set (v .work) at number) (slotStart s i) 0
+    unfolding workWords epochAt bufferAt
+    owners-after i l = go (spanning at (length value) i) refl
+      where
+        go : (b : Bool) → spanning at (length value) i ≡ b
+            → cond b number (getD (w .work) (slotStart s i) 0) ≡ getD (set (v .work) at number) (slotStart s i) 0
+        go true h = rw (here i h .0) (sym (getD-set-same (v .work) at number 0 (omega (arith, at-lt, long))))
+        go false h =
+            sym (work-other (slotStart s i) (slot-apart s page slot i (g .safe .devices .bounds) (may .page-lt) (may .slot-lt) l (rw (may .width) at h))
+            ∙ owners-same k (slotStart s i) (slot-in s i l .start-lt))
+
+    writes-after : (n : ℕ)
+        → cond (eqb n number) (map (patchOf s) (writesOf n (r .writeSets)) ++ record { at = at; value = value } ∷ []) (map (patchOf s) (writesOf n (r .writeSets)))
+        ≡ map (patchOf s) (writesOf n (noted r number page slot value .writeSets))
+    unfolding patchOf
+    writes-after n =
+        rw (added-writes number (record { page = page; slot = slot; value = value }) (r .writeSets) (sym (g .sets .has number) ∙ may .opened) n)
+        (go (eqb n number))
+      where
+        write : Write
+        write = record { page = page; slot = slot; value = value }
+
+        sheet : List Write
+        sheet = writesOf n (r .writeSets)
+
+        go : (b : Bool) → cond b (map (patchOf s) sheet ++ patchOf s write ∷ []) (map (patchOf s) sheet) ≡ map (patchOf s) (cond b (sheet ++ write ∷ []) sheet)
+        go true = sym (map-append (patchOf s) sheet (write ∷ []))
+        go false = refl
+
+    same : Same (total s) (updated (view c w r F B) e value)
+        (view (withLog c (c .logs) t) u (noted r number page slot value) F (B ++ e ∷ []))
+    unfolding view updated withLog
+    same =
+        record {
+          epoch = refl;
+          next = refl;
+          pages = λ i l. pages-after i;
+          current = λ i l. rw (k .backups-same);
+          other = λ i l. rw (k .backups-same);
+          epochs = λ i l. epochs-after (pageOf s i);
+          owners = owners-after;
+          committed = λ i l. refl;
+          writes = λ n o. writes-after n;
+          opened = λ n. sym (same-open n);
+          flushed = refl;
+          buffered = refl;
+        }
+
+    pub good-updated : (l : Logs) → Good 0 (total s) (view (withLog c l t) u (noted r number page slot value) F (B ++ e ∷ []))
+    unfolding view withLog
+    good-updated l = good-same same (update-good (g .safe .good) may-update)

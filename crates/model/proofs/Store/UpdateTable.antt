@@ -1,0 +1,231 @@
+-- An update whose record fits the buffer keeps what holds of an open store: the table of transactions, the copy epochs, the write sets.
+use mathlib.Core.Path.{_≡_, refl, sym, ap, _∙_}
+use mathlib.Core.List.{List, [], _∷_, _++_}
+use mathlib.Core.Bool.{Bool, true, false, cond}
+use Prim.Native.Nat.{ℕ, _+_, _≤_, _<_}
+use native.Mathlib.Omega.{arith}
+use native.Mathlib.Decide.{ℕ-discrete, decLt}
+use lib.Dec.{ltb, eqb}
+use lib.ListN.{length, getD, length-set}
+use lib.Seq.{length-sets, getD-set-other}
+use borrow.Author.Tests.{lt-ltb}
+use Rattle.model.specs.declared.Sizes.{Sizes}
+use Rattle.model.specs.declared.Table.{Table}
+use Rattle.model.specs.declared.Core.{Core}
+use Rattle.model.specs.Sizes.{slotBase, total}
+use Rattle.model.specs.Record.{encode}
+use Rattle.model.specs.World.{World, perform}
+use Rattle.model.specs.Memory.{bufferAt, workWords}
+use Rattle.model.specs.State.{places, startOf, fillOf, endOf, withLog, isOpen, placeOf, numberAt, diskAtPlace, firstAt, reservedAt, hasUpdate, withPlace}
+use Rattle.model.specs.Append.{Appended, append}
+use Rattle.model.specs.Transaction.{diskOf}
+use Rattle.model.specs.Reference.{Reference, Write, WriteSet, added}
+use Rattle.model.proofs.Lengths.{lengths-right}
+use Rattle.model.proofs.Run.{perform-lengths}
+use Rattle.model.proofs.Slots.{Fits}
+use Rattle.model.proofs.WriteSets.{has-added, distinct-added}
+use Rattle.model.proofs.Places.{open-place, place-holds, put-disk, put-first, put-reserved, other-disk, other-first, other-reserved, update-place, update-open, update-tabled}
+use Rattle.model.proofs.Ledger.Entry.{Entry, recordOf, All, closedIn}
+use Rattle.model.proofs.Ledger.Order.{sizeOf, on, boundary}
+use Rattle.model.proofs.Ledger.Sums.{true-false, all-append, all-map}
+use Rattle.model.proofs.Ledger.Positions.{boundary-end}
+use Rattle.model.proofs.Link.Words.{Fit}
+use Rattle.model.proofs.Link.Buffered.{Small, InBuffer}
+use Rattle.model.proofs.Store.View.{view, Sets, Serving}
+use Rattle.model.proofs.Store.Logged.{Written, boundary-logged, in-buffer, safe-written, epochs-written, Entered, accounts-logged}
+use Rattle.model.proofs.Store.LogEnd.{boundary-to, log-end, capped, early}
+use Rattle.model.proofs.Store.UpdateRoom.{Allowed, updateEntry, slotChanged, noted, at-lt, update-size, update-fit, update-unclosed, good-updated}
+
+-- a write that fits, added to sets of writes that do
+pub fits-added : (s : Sizes) (n : ℕ) (e : Write) → Fits s e → (sets : List WriteSet) → All (λ (x : WriteSet). All (Fits s) (x .writes)) sets
+    → All (λ (x : WriteSet). All (Fits s) (x .writes)) (added n e sets)
+unfolding added
+fits-added s n e fit [] h = tt
+fits-added s n e fit (x ∷ xs) h = go (eqb (x .number) n) (fits-added s n e fit xs (h .1))
+  where
+    go : (b : Bool) → All (λ (x : WriteSet). All (Fits s) (x .writes)) (added n e xs)
+        → All (λ (x : WriteSet). All (Fits s) (x .writes)) (cond b (record { number = n; writes = x .writes ++ e ∷ [] } ∷ xs) (x ∷ added n e xs))
+    go true rest = (all-append (Fits s) (x .writes) (e ∷ []) (h .0) (fit, tt), h .1)
+    go false rest = (h .0, rest)
+
+module _ {home : ℕ → ℕ} {c : Core} {w : World} {r : Reference} {F B : List Entry} (g : Serving 0 home c w r F B)
+    (number page slot : ℕ) (value : List ℕ) (may : Allowed c w number page slot value) (small : Small (c .sizes) (c .logs))
+    (room : fillOf (c .logs) (diskOf c number) + sizeOf (updateEntry c w number page slot value) ≤ 64) where
+  abbrev e : Entry
+  e = updateEntry c w number page slot value
+
+  abbrev d : ℕ
+  d = diskOf c number
+
+  -- The table after it.
+  abbrev place : ℕ
+  place = placeOf (c .table) number
+
+  abbrev first : ℕ
+  first = cond (hasUpdate (c .table) place) (firstAt (c .table) place) (endOf (c .logs) d)
+
+  abbrev reserve : ℕ
+  reserve = reservedAt (c .table) place + sizeOf e
+
+  abbrev t : Table
+  t = withPlace (c .table) place number d first reserve
+
+  placed : place < places
+  placed = open-place (c .table) number (may .opened) .1
+
+  holds : numberAt (c .table) place ≡ number
+  holds = place-holds (c .table) number placed
+
+  same-place : (n : ℕ) → placeOf t n ≡ placeOf (c .table) n
+  same-place = update-place (c .table) (g .accounts .tabled) place number d first reserve placed holds
+
+  same-open : (n : ℕ) → isOpen t n ≡ isOpen (c .table) n
+  same-open = update-open (c .table) (g .accounts .tabled) place number d first reserve placed holds
+
+  -- two open transactions have two places
+  apart : (n : ℕ) → isOpen (c .table) n ≡ true → (n ≡ number → ⊥) → placeOf (c .table) n ≡ place → ⊥
+  apart n o ne same =
+      ne (sym (place-holds (c .table) n (open-place (c .table) n o .1)) ∙ ap (numberAt (c .table)) same ∙ holds)
+
+  -- its first record's place: as it was, or the end of the log
+  first-edge : boundary first (startOf (c .logs) d) (on d F ++ on d B) ≡ true
+  first-edge = go (hasUpdate (c .table) place) refl
+    where
+      go : (b : Bool) → hasUpdate (c .table) place ≡ b
+          → boundary (cond b (firstAt (c .table) place) (endOf (c .logs) d)) (startOf (c .logs) d) (on d F ++ on d B) ≡ true
+      go true h = g .accounts .firsts number (may .opened) h
+      go false h = rw (log-end (g .safe .link) d (may .disk)) (boundary-end (startOf (c .logs) d) (on d F ++ on d B))
+
+  first-le : first ≤ endOf (c .logs) d
+  first-le = omega (arith, log-end (g .safe .link) d (may .disk), boundary-to first (startOf (c .logs) d) (on d F ++ on d B) first-edge)
+
+  first-is : firstAt t (placeOf t number) ≡ first
+  first-is = ap (firstAt t) (same-place number) ∙ put-first (c .table) (g .accounts .tabled) place number d first reserve placed
+
+  has-one : hasUpdate t (placeOf t number) ≡ true
+  unfolding hasUpdate
+  has-one =
+      rw (same-place number, put-reserved (c .table) (g .accounts .tabled) place number d first reserve placed)
+      (lt-ltb 2 reserve (omega (arith, may .reserved, update-size g number page slot value may)))
+
+  disk-same : (n : ℕ) → isOpen (c .table) n ≡ true → Dec (n ≡ number) → diskAtPlace t (placeOf t n) ≡ diskOf c n
+  unfolding diskOf
+  disk-same n o (yes same) =
+      ap (λ (m : ℕ). diskAtPlace t (placeOf t m)) same ∙ ap (diskAtPlace t) (same-place number)
+      ∙ put-disk (c .table) (g .accounts .tabled) place number d first reserve placed ∙ ap (diskOf c) (sym same)
+  disk-same n o (no ne) =
+      ap (diskAtPlace t) (same-place n)
+      ∙ other-disk (c .table) (g .accounts .tabled) place number d first reserve placed (placeOf (c .table) n) (apart n o ne)
+
+  has-same : (n : ℕ) → isOpen (c .table) n ≡ true → (n ≡ number → ⊥) → hasUpdate t (placeOf t n) ≡ hasUpdate (c .table) (placeOf (c .table) n)
+  unfolding hasUpdate
+  has-same n o ne =
+      ap (λ (k : ℕ). ltb 2 k)
+      (ap (reservedAt t) (same-place n)
+      ∙ other-reserved (c .table) (g .accounts .tabled) place number d first reserve placed (placeOf (c .table) n) (apart n o ne))
+
+  first-same : (n : ℕ) → isOpen (c .table) n ≡ true → (n ≡ number → ⊥) → firstAt t (placeOf t n) ≡ firstAt (c .table) (placeOf (c .table) n)
+  first-same n o ne =
+      ap (firstAt t) (same-place n)
+      ∙ other-first (c .table) (g .accounts .tabled) place number d first reserve placed (placeOf (c .table) n) (apart n o ne)
+
+  here : e .disk ≡ home (e .number)
+  here = sym (g .accounts .homes number (may .opened))
+
+  unclosed : closedIn (F ++ B) number ≡ false
+  unclosed = update-unclosed g number page slot value may
+
+  fit : Fit (c .sizes) e
+  fit = update-fit g number page slot value may
+
+  entered : Entered (g .safe) e (may .disk) here small room refl unclosed fit t
+  entered =
+      record {
+        tabled = update-tabled (c .table) (g .accounts .tabled) place number d first reserve placed holds;
+        opened = same-open;
+        disks = λ n o. disk-same n o (ℕ-discrete n number);
+        others = λ n o ne. (has-same n o ne, first-same n o ne);
+        has = has-one;
+        first = rw first-is first-le;
+        firsts = all-map (λ q h n. rw (first-is, h n .has) (h n .first)) (F ++ B) (g .accounts .own number (may .opened));
+        at = rw first-is (boundary-logged first (startOf (c .logs) d) d F B e first-edge);
+        kind = λ h. refl;
+        open? = may .opened;
+      }
+
+  number-lt : number < c .next
+  unfolding view
+  number-lt = go (decLt number (c .next))
+    where
+      go : Dec (number < c .next) → number < c .next
+      go (yes h) = h
+      go (no h) = true-false (may .opened) (g .safe .good .unused number (omega arith) .1)
+
+  -- The words after it.
+  abbrev put : Appended
+  put = append (c .sizes) (c .logs) (w .work) d (encode (recordOf e))
+
+  abbrev bufferedWorld : World
+  bufferedWorld = perform (put .actions) w
+
+  abbrev changed : World
+  changed = slotChanged bufferedWorld (slotBase (c .sizes) page slot) value number
+
+  other-word : (i : ℕ) → total (c .sizes) ≤ i → getD (changed .work) i 0 ≡ getD (bufferedWorld .work) i 0
+  other-word i h =
+      getD-set-other (bufferedWorld .work) (slotBase (c .sizes) page slot) i number 0 (λ x. omega (arith, at-lt g number page slot value may))
+
+  written : Written (c .sizes) bufferedWorld changed
+  unfolding bufferAt
+  written =
+      record {
+        anchor-same = refl;
+        backups-same = refl;
+        logs-same = refl;
+        lengths =
+            record {
+              anchor = refl;
+              pages = length-sets (bufferedWorld .pages) (slotBase (c .sizes) page slot) value;
+              backups = refl;
+              logs = refl;
+              work = length-set (bufferedWorld .work) (slotBase (c .sizes) page slot) number;
+            };
+        buffers-same = λ i h l. other-word i (omega arith);
+      }
+
+  buffer : InBuffer (c .sizes) d w bufferedWorld
+  buffer = in-buffer (g .safe) e (may .disk) here small room refl unclosed fit
+
+  long : length (bufferedWorld .work) ≡ workWords (c .sizes)
+  long = perform-lengths _ w .work ∙ lengths-right (c .sizes) w (g .safe .devices .lengths) .work
+
+  abbrev updatedCore : Core
+  updatedCore = withLog c (put .logs) t
+
+  sets-after : Sets updatedCore (noted r number page slot value)
+  unfolding withLog
+  sets-after =
+      let write : Write = record { page = page; slot = slot; value = value } in
+      record {
+        distinct = distinct-added number write (r .writeSets) (g .sets .distinct);
+        has = λ n. same-open n ∙ g .sets .has n ∙ sym (has-added number write (r .writeSets) n);
+        fits =
+            fits-added (c .sizes) number write (record { page-lt = may .page-lt; slot-lt = may .slot-lt; width = may .width })
+            (r .writeSets) (g .sets .fits);
+      }
+
+  pub serving-updated : Serving 0 home updatedCore changed (noted r number page slot value) F (B ++ e ∷ [])
+  unfolding withLog bufferAt
+  serving-updated =
+      record {
+        stage = g .stage;
+        safe =
+            safe-written (g .safe) e (may .disk) here small room refl unclosed fit written 0 t (noted r number page slot value)
+            (g .safe .sizes) (g .safe .shaped)
+            (good-updated g number page slot value may bufferedWorld buffer long t same-open _);
+        accounts = accounts-logged (g .safe) e (may .disk) here small room refl unclosed fit (g .accounts) t entered number-lt;
+        epochs =
+            epochs-written (g .safe) e (may .disk) here small room refl unclosed fit written (g .epochs)
+            (λ i h. other-word i (omega arith)) (λ o. capped g e page (may .page-lt) refl) (λ h o. early g e page (may .page-lt) refl (may .disk) refl h) t;
+        sets = sets-after;
+      }
