@@ -1,16 +1,16 @@
 -- What the bounds on the sizes say, taken apart once.
-use mathlib.Core.Path.{_≡_}
-use mathlib.Core.Bool.{Bool, true, and-eq-true-iff, cond, _&&_}
+use mathlib.Core.Path.{_≡_, refl}
+use mathlib.Core.Bool.{Bool, true, false, and-eq-true-iff, cond, _&&_}
 use Prim.Native.Nat.{ℕ, zero, suc, _*_, _≤_, _<_}
 use native.Mathlib.Omega.{arith}
 use native.Mathlib.Nat.{suc-mul}
 use lib.Dec.{leb, ltb, eqb}
 use lib.ListN.{length}
-use borrow.Author.Tests.{lt-ltb, le-ltb, leb-true, eqb-true}
+use borrow.Author.Tests.{lt-ltb, le-ltb, ltb-true, ltb-false, leb-true, le-leb, eqb-true, eq-eqb}
 use Rattle.model.specs.declared.Sizes.{Sizes}
 use Rattle.model.specs.Below.{within, sumBelow, allBelow}
 use Rattle.model.specs.Sizes.{slotsIn, widthIn, pageWords, pageBase, total, usedEntry, unusedEntry, entryInBounds, sizesInBounds}
-use Rattle.model.proofs.Below.{all-each}
+use Rattle.model.proofs.Below.{all-each, each-all}
 
 -- What the bounds say of a page that is used.
 pub record BoundedPage (s : Sizes) (page : ℕ) : Type 0 where
@@ -96,6 +96,33 @@ bounded s e =
       used = λ page h. bounded-page s page (rw (lt-ltb page (s .pages) h) at (entries s (t5 .1) page (omega arith)));
       unused = λ page h k. unused-page s page (rw (le-ltb page (s .pages) h) at (entries s (t5 .1) page k));
     }
+
+-- and back
+entry-in : (s : Sizes) → Bounded s → (page : ℕ) → page < 64 → entryInBounds s page ≡ true
+unfolding entryInBounds usedEntry unusedEntry within
+entry-in s b page h = go (ltb page (s .pages)) refl
+  where
+    go : (c : Bool) → ltb page (s .pages) ≡ c → cond c (usedEntry s page) (unusedEntry s page) ≡ true
+    go true e =
+        let u = b .used page (ltb-true page (s .pages) e) in
+        rw (le-leb _ _ (u .slots-min), le-leb _ _ (u .slots-max), le-leb _ _ (u .width-min), le-leb _ _ (u .width-max), le-leb _ _ (u .words-max))
+    go false e =
+        let z = b .unused page (ltb-false page (s .pages) e) h in
+        rw (eq-eqb _ _ (z .0), eq-eqb _ _ (z .1))
+
+pub in-bounds : (s : Sizes) → Bounded s → sizesInBounds s ≡ true
+unfolding sizesInBounds within
+in-bounds s b =
+    rw (
+      le-leb _ _ (b .pages-min),
+      le-leb _ _ (b .pages-max),
+      le-leb _ _ (b .disks-min),
+      le-leb _ _ (b .disks-max),
+      le-leb _ _ (b .ring-min),
+      le-leb _ _ (b .ring-max),
+      eq-eqb _ _ (b .slots-length),
+      eq-eqb _ _ (b .widths-length),
+    ) (each-all (entryInBounds s) 64 (entry-in s b))
 
 -- n numbers of at most m
 sum-max : (f : ℕ → ℕ) (m n : ℕ) → ((i : ℕ) → i < n → f i ≤ m) → sumBelow f n ≤ n * m

@@ -10,14 +10,14 @@ use Rattle.model.specs.declared.Sizes.{Sizes}
 use Rattle.model.specs.Sizes.{ringOf, diskAt, tailWord, ringWord}
 use Rattle.model.specs.Record.{Record, encodeAll}
 use Rattle.model.specs.Decode.{readLog}
-use Rattle.model.specs.Scan.{scan}
+use Rattle.model.specs.Scan.{scan, placed}
 use Rattle.model.specs.World.{World, Action, store, logs, act, perform, each}
 use Rattle.model.specs.Append.{storeLog, storeAll}
 use Rattle.model.proofs.Run.{perform-append}
 use Rattle.model.proofs.Reader.{Holds, holds-agree, read-ring, read-buffer, read-same}
 use Rattle.model.proofs.Scan.{scan-cong}
 use Rattle.model.proofs.Ring.{lay-length, lay-keeps, lay-keeps-rings, lay-keeps-tails, lay-at, lay-after, tail-length, tail-here, tail-keeps-tails, tail-keeps-rings}
-use Rattle.model.proofs.RoundTrip.{AllWellFormed, placed, scan-log}
+use Rattle.model.proofs.RoundTrip.{AllWellFormed, scan-log}
 
 -- Stores on the logs leave the anchor, the backups and both memories.
 pub record OnlyLogs (before after : World) : Type 0 where

@@ -32,6 +32,8 @@ pub mod Link
 pub mod Restart
 -- The calls.
 pub mod Store
+-- Every call hands back a state that passes the first test.
+pub mod Sound
 pub mod PowerLoss
 -- Computed tables.
 pub mod Everything

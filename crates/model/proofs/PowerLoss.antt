@@ -5,6 +5,7 @@ use mathlib.Core.Bool.{Bool, true, false, _&&_, and-eq-true-iff}
 use Prim.Native.Nat.{ℕ}
 use lib.ListN.{length}
 use lib.Dec.{eqb}
+use borrow.Author.Tests.{eqb-true}
 use Rattle.model.specs.declared.Stage.{Stage}
 use Rattle.model.specs.declared.Stage.the-variants.{Shut, Replaying, Open, Copying}
 use Rattle.model.specs.declared.Sizes.{Sizes}
@@ -16,15 +17,20 @@ use Rattle.model.specs.Restart.{restartEndRows}
 use Rattle.model.specs.Call.{Call, format, restartEnd, resultOf}
 use Rattle.model.specs.Reference.{Reference, Outcome, taken, refused, interrupted, outcomeOf, blank, hear, heard, wordsIn}
 use Rattle.model.specs.Machine.{Machine, Event, call, lent, scramble, result, outcome, isRefused, allowed, scrambled, after, referred, Run, follow, allowedAll, formatted}
-use Rattle.model.specs.Promise.{Always, PowerLoss}
+use Rattle.model.specs.Promise.{Always, PowerLoss, RestartAccepted, Table, LogKept, StateTrue, NeverMalformed}
+use Rattle.model.specs.History.{Put, told, history}
 use Rattle.model.proofs.Ledger.Sums.{true-false}
-use Rattle.model.proofs.Restart.Image.{SameDevices, image-devices}
 use Rattle.model.proofs.Restart.Taken.{taken-call}
 use Rattle.model.proofs.Restart.End.{end-gives}
 use Rattle.model.proofs.Store.View.{Kept, Served}
 use Rattle.model.proofs.Store.Format.{format-serves}
 use Rattle.model.proofs.Store.Holding.{Holding, shut, replaying, serving}
-use Rattle.model.proofs.Store.Step.{step-call, stopped, replayed, row-one, kept-devices}
+use Rattle.model.proofs.Store.Step.{step-call, holding-kept, served, stopped, replayed, row-one}
+use Rattle.model.proofs.Store.Steady.{kept-devices}
+use Rattle.model.proofs.Store.Checks.{restart-begin-answers, never-seven}
+use Rattle.model.proofs.Store.PlainTable.{plain}
+use Rattle.model.proofs.Store.Truth.{log-of, truth}
+use Rattle.model.proofs.Store.AbortRows.{abort-never-bad}
 
 -- what the reference hears of a refused call changes nothing
 heard-refused : (k : Call) (a : Answer) (r : Reference) → isRefused (outcomeOf a) ≡ true → hear (heard k a) r ≡ r
@@ -40,39 +46,84 @@ shut-stage Open e = true-false e refl
 shut-stage Copying e = true-false e refl
 
 -- every allowed event keeps what holds
-pub step-event : (e : Event) (m : Machine) (r : Reference) → Holding m r → allowed m e ≡ true → Holding (after m e) (referred m e r)
-step-event (call k) m r h a = step-call k m r h a
-step-event (lent k w) m r h a = rw (heard-refused k (resultOf k (m .core) w .answer) r a) h
-step-event (scramble pages work) m r h a =
-    let same = eqb (length pages) (length (m .world .pages)) in
-    let stage = and-eq-true-iff (whenShut (m .core .stage)) same .0 (and-eq-true-iff (whenShut (m .core .stage) && same) _ .0 a .0) .0 in
-    let k = stopped h stage in
-    shut (shut-stage (m .core .stage) stage) (kept-devices (record { anchor = refl; backups = refl; logs = refl }) (k .0)) (k .1)
+pub step-event : (e : Event) (puts : List Put) (m : Machine) (r : Reference) → Holding puts m r → allowed m e ≡ true
+    → Holding (told m e puts) (after m e) (referred m e r)
+step-event (call k) puts m r h a = step-call k puts m r h a
+step-event (lent k w) puts m r h a = rw (heard-refused k (resultOf k (m .core) w .answer) r a) h
+step-event (scramble pages work) puts m r h a =
+    let one = eqb (length pages) (length (m .world .pages)) in
+    let two = eqb (length work) (length (m .world .work)) in
+    let both = and-eq-true-iff (whenShut (m .core .stage) && one) two .0 a in
+    let stage = and-eq-true-iff (whenShut (m .core .stage)) one .0 (both .0) in
+    let k = stopped h (stage .0) in
+    shut (shut-stage (m .core .stage) (stage .0))
+    (kept-devices (record { anchor = refl; backups = refl; logs = refl })
+    (record { anchor = refl; pages = eqb-true _ _ (stage .1); backups = refl; logs = refl; work = eqb-true _ _ (both .1) })
+    (k .0))
+    (k .1)
 
 -- and so does every list of them
-pub follow-holds : (events : List Event) (x : Run) → Holding (x .machine) (x .reference) → allowedAll events (x .machine) ≡ true
-    → Holding (follow events x .machine) (follow events x .reference)
-unfolding follow allowedAll
-follow-holds [] x h a = h
-follow-holds (e ∷ es) x h a =
+pub follow-holds : (events : List Event) (puts : List Put) (x : Run) → Holding puts (x .machine) (x .reference)
+    → allowedAll events (x .machine) ≡ true
+    → Holding (history events (x .machine) puts) (follow events x .machine) (follow events x .reference)
+unfolding follow allowedAll history
+follow-holds [] puts x h a = h
+follow-holds (e ∷ es) puts x h a =
     let both = and-eq-true-iff (allowed (x .machine) e) (allowedAll es (after (x .machine) e)) .0 a in
-    follow-holds es (record { machine = after (x .machine) e; reference = referred (x .machine) e (x .reference) })
-    (step-event e (x .machine) (x .reference) h (both .0)) (both .1)
+    follow-holds es (told (x .machine) e puts) (record { machine = after (x .machine) e; reference = referred (x .machine) e (x .reference) })
+    (step-event e puts (x .machine) (x .reference) h (both .0)) (both .1)
 
 -- it holds after a format
 pub format-holds : (m : Machine) (s : Sizes) (budget : ℕ) → outcome m (format s budget) ≡ taken
-    → Holding (formatted m s budget .machine) (formatted m s budget .reference)
+    → Holding [] (formatted m s budget .machine) (formatted m s budget .reference)
 unfolding formatted result outcome
 format-holds m s budget e =
     let t = taken-call (format s budget) (m .core) (m .world) e in
     rw (t .core, t .world) (serving (format-serves (m .core) (m .world) s (t .accepted)))
 
+-- so it holds of every machine and reference that a list of allowed events reaches
+pub always : (P : Machine → Reference → Type 0) → ((puts : List Put) (m : Machine) (r : Reference) → Holding puts m r → P m r) → Always P
+unfolding Always
+always P f m s budget formats events a =
+    f (history events (formatted m s budget .machine) []) _ _ (follow-holds events [] (formatted m s budget) (format-holds m s budget formats) a)
+
 -- The power-loss theorem: see specs/Promise.antt.
 pub power-loss : PowerLoss
-unfolding PowerLoss Always result outcome restartEndRows
-power-loss m s budget formats events a last ends =
-    let x : Run = follow events (formatted m s budget) in
-    let h : Holding (x .machine) (x .reference) = follow-holds events (formatted m s budget) (format-holds m s budget formats) a in
-    let t = taken-call (restartEnd last) (x .machine .core) (x .machine .world) ends in
-    let k = replayed h (row-one whenReplaying (x .machine .core) _ (t .accepted)) in
-    end-gives (x .machine .core) (x .machine .world) last (k .0) ends .0 ∙ k .1 .image
+unfolding PowerLoss result outcome restartEndRows
+power-loss = always _ given
+  where
+    given : (puts : List Put) (m : Machine) (r : Reference) → Holding puts m r → (budget : ℕ) → outcome m (restartEnd budget) ≡ taken
+        → result m (restartEnd budget) .world .pages ≡ wordsIn (r .committed)
+    given puts m r h budget o =
+        let t = taken-call (restartEnd budget) (m .core) (m .world) o in
+        let k = replayed h (row-one whenReplaying (m .core) _ (t .accepted)) in
+        end-gives (m .core) (m .world) budget (k .0) o .0 ∙ k .1 .image
+
+-- A restart begin of a shut store is refused for its number only.
+pub restart-accepted : RestartAccepted
+unfolding RestartAccepted result
+restart-accepted = always _ (λ puts m r h e. restart-begin-answers (m .core) (m .world) e (holding-kept h .sound))
+
+-- The page memory is a plain table of slots.
+pub table : Table
+unfolding Table
+table = always _ (λ puts m r h e. plain m r (served h e))
+
+-- Each disk's words are the records that the calls put there, and the reader finds these and no others.
+pub log-kept : LogKept
+unfolding LogKept
+log-kept m s budget formats events a serves disk below =
+    log-of _ _ (served (follow-holds events [] (formatted m s budget) (format-holds m s budget formats) a) serves) disk below
+
+-- What the state says is true.
+pub state-true : StateTrue
+unfolding StateTrue
+state-true = always _ (λ puts m r h e. truth m r (served h e))
+
+-- No call finds a malformed record.
+pub never-malformed : NeverMalformed
+unfolding NeverMalformed result
+never-malformed =
+    always _ (λ puts m r h k.
+    never-seven k (m .core) (m .world) (λ e. holding-kept h .sound) (λ e. replayed h (ap whenReplaying e) .0)
+    (λ e. abort-never-bad (served h e)))

@@ -11,7 +11,7 @@ use Rattle.model.specs.declared.Decoded.the-variants.{Change, Close}
 use Rattle.model.specs.Sizes.{slotsIn, widthIn, ringOf, diskAt, ringWord}
 use Rattle.model.specs.Record.{Record, change, close, header, encode, encodeAll}
 use Rattle.model.specs.Decode.{readLog, span, kindField, pageField, slotField, widthField, misplaced, decodeWords, decodeAt}
-use Rattle.model.specs.Scan.{Scan, end, item, scan}
+use Rattle.model.specs.Scan.{Scan, end, item, scan, placed}
 use Rattle.model.specs.World.{World, perform, each}
 use Rattle.model.specs.Append.{storeLog}
 use Rattle.model.proofs.Decode.{words-change, words-close}
@@ -41,11 +41,6 @@ WellFormed s (close kind number) = CloseFits kind number
 abbrev pub AllWellFormed : Sizes → List Record → Type 0
 AllWellFormed s [] = Unit {0}
 AllWellFormed s (r ∷ rs) = WellFormed s r × AllWellFormed s rs
-
--- the records from position p on, each at its position
-unfoldable pub placed : ℕ → List Record → Scan
-placed p [] = end
-placed p (r ∷ rs) = item p r (placed (p + length (encode r)) rs)
 
 -- what a decoder says of a record that stands at p
 abbrev pub decoded : ℕ → Record → Decoded

@@ -6,6 +6,8 @@ pub mod Same
 pub mod Crash
 -- The steps that calls share: a flush, room in a buffer, a record appended.
 pub mod Flush
+pub mod Steady
+pub mod Checks
 pub mod Ready
 pub mod Logged
 pub mod LogEnd
@@ -19,6 +21,7 @@ pub mod End
 -- Transactions.
 pub mod Begin
 pub mod UpdateRoom
+pub mod UpdateOwners
 pub mod UpdateTable
 pub mod Update
 pub mod Closed
@@ -30,6 +33,7 @@ pub mod Undo
 pub mod Left
 pub mod CloseAbort
 pub mod Abort
+pub mod AbortRows
 -- Checkpoints.
 pub mod Page
 pub mod Copy
@@ -39,5 +43,7 @@ pub mod NewStarts
 pub mod Switch
 pub mod CheckpointEnd
 -- All of them.
+pub mod PlainTable
+pub mod Truth
 pub mod Holding
 pub mod Step

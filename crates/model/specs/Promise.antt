@@ -12,10 +12,10 @@ use Rattle.model.specs.Sizes.{slotsIn, ringOf}
 use Rattle.model.specs.Anchor.{epochOn, startOn}
 use Rattle.model.specs.Record.{Record, encodeAll}
 use Rattle.model.specs.Decode.{readLog}
-use Rattle.model.specs.Scan.{Scan, scan}
+use Rattle.model.specs.Scan.{Scan, scan, placed, updatesIn, updateWords, oldest}
 use Rattle.model.specs.World.{World}
 use Rattle.model.specs.Memory.{bufferOf, epochOf}
-use Rattle.model.specs.State.{limit, startOf, tailOf, fillOf, endOf, isOpen, placeOf, reservedAt}
+use Rattle.model.specs.State.{limit, startOf, tailOf, fillOf, endOf, isOpen, placeOf, firstAt, reservedAt, hasUpdate}
 use Rattle.model.specs.Refusal.{numberOf}
 use Rattle.model.specs.Causes.{whenServing, tailOn, locked}
 use Rattle.model.specs.Transaction.{diskOf, readWords}
@@ -63,6 +63,61 @@ pub record PlainTable (m : Machine) (r : Reference) : Type 0 where
 unfoldable pub Table : Type 0
 Table = Always λ m r. whenServing (m .core .stage) ≡ true → PlainTable m r
 
+-- The log. While the store is open or copying, the words of a disk from its start to its tail and then its buffer are the encoding
+-- of the last records that the calls put there (specs/History.antt: an update's difference is before XOR after, 000's definition 1),
+-- and the reader gives back those records at their positions, and no others.
+unfoldable pub logScan : Core → World → ℕ → Scan
+logScan c w disk =
+    scan (c .sizes) (readLog (c .sizes) (w .logs) disk (tailOf (c .logs) disk) (bufferOf (c .sizes) (w .work) disk (fillOf (c .logs) disk)))
+    (endOf (c .logs) disk) (startOf (c .logs) disk)
+
+pub record LogOf (m : Machine) (disk : ℕ) (put : List Record) : Type 0 where
+  pub old : List Record
+  pub kept : List Record
+  pub parts : put ≡ old ++ kept
+  pub words : retainedWords (m .core .sizes) (m .world) disk
+      ++ bufferOf (m .core .sizes) (m .world .work) disk (fillOf (m .core .logs) disk)
+      ≡ encodeAll kept
+  pub reads : logScan (m .core) (m .world) disk ≡ placed (startOf (m .core .logs) disk) kept
+
+unfoldable pub LogKept : Type 0
+LogKept =
+    (m : Machine) (s : Sizes) (budget : ℕ)
+    → outcome m (format s budget) ≡ taken
+    → (events : List Event)
+    → allowedAll events (formatted m s budget .machine) ≡ true
+    → let n : Machine = follow events (formatted m s budget) .machine in
+    whenServing (n .core .stage) ≡ true → (disk : ℕ) → disk < n .core .sizes .disks
+    → LogOf n disk (recordsOn disk (history events (formatted m s budget .machine) []))
+
 -- No call ever finds a malformed record.
 unfoldable pub NeverMalformed : Type 0
 NeverMalformed = Always λ m r. (k : Call) → numberOf (result m k .answer) ≡ 7 → ⊥
+
+-- What the state says is true. The checkpoint number, the starts and the tails are the device words; an open transaction's first
+-- position and its reserved words are those of its update records in the log; a page's copy epoch is the number of the last
+-- checkpoint that copied it: the one under way if that has copied it already, else the last one that ended.
+pub record Truth (m : Machine) : Type 0 where
+  pub epoch : epochOn (m .world .anchor) ≡ m .core .epoch
+  pub starts : (disk : ℕ) → disk < m .core .sizes .disks → startOn (m .world .anchor) disk ≡ startOf (m .core .logs) disk
+  pub tails : (disk : ℕ) → disk < m .core .sizes .disks → tailOn (m .core .sizes) (m .world) disk ≡ tailOf (m .core .logs) disk
+  pub reserved : (t : ℕ) → isOpen (m .core .table) t ≡ true
+      → reservedAt (m .core .table) (placeOf (m .core .table) t)
+      ≡ 2 + updateWords (updatesIn t (logScan (m .core) (m .world) (diskOf (m .core) t)))
+  pub first : (t : ℕ) → isOpen (m .core .table) t ≡ true → hasUpdate (m .core .table) (placeOf (m .core .table) t) ≡ true
+      → oldest (updatesIn t (logScan (m .core) (m .world) (diskOf (m .core) t))) ≡ firstAt (m .core .table) (placeOf (m .core .table) t)
+  pub pages : (page : ℕ) → page < m .core .sizes .pages
+      → epochOf (m .core .sizes) (m .world .work) page ≡ cond (ltb page (m .core .checkpoint .copied)) (m .core .epoch + 1) (m .core .epoch)
+
+unfoldable pub StateTrue : Type 0
+StateTrue = Always λ m r. whenServing (m .core .stage) ≡ true → Truth m
+
+-- Commit and abort always fit: for every open transaction there is room in the ring, and below 2^62, for the words reserved for it:
+-- its closing record and a compensation for each of its updates.
+pub record Closable (c : Core) (t : ℕ) : Type 0 where
+  pub closing : 2 ≤ reservedAt (c .table) (placeOf (c .table) t)
+  pub ring : endOf (c .logs) (diskOf c t) - startOf (c .logs) (diskOf c t) + reservedAt (c .table) (placeOf (c .table) t) ≤ ringOf (c .sizes) (diskOf c t)
+  pub positions : endOf (c .logs) (diskOf c t) + reservedAt (c .table) (placeOf (c .table) t) ≤ limit
+
+unfoldable pub ClosingFits : Type 0
+ClosingFits = Always λ m r. whenServing (m .core .stage) ≡ true → (t : ℕ) → isOpen (m .core .table) t ≡ true → Closable (m .core) t

@@ -11,7 +11,7 @@ use Rattle.model.specs.declared.Fate.{Fate}
 use Rattle.model.specs.declared.Fate.the-variants.{Closed, Unclosed, Unreadable}
 use Rattle.model.specs.declared.Fault.{Fault}
 use Rattle.model.specs.declared.Fault.the-variants.{Sound, BadRecord}
-use Rattle.model.specs.Record.{Record, change, close, updateKind}
+use Rattle.model.specs.Record.{Record, change, close, encode, updateKind}
 use Rattle.model.specs.Decode.{decodeAt, span}
 
 -- A log as it is read: each record with its position, up to the end or to the first malformed one.
@@ -36,6 +36,11 @@ scanAtMost s read stop (suc n) p =
 -- the log from p up to `stop`: each record has a word or more, so there are at most stop - p
 unfoldable pub scan : Sizes → (ℕ → ℕ) → ℕ → ℕ → Scan
 scan s read stop p = scanAtMost s read stop (stop - p) p
+
+-- the scan of given records that lie one after the other from p on
+unfoldable pub placed : ℕ → List Record → Scan
+placed p [] = end
+placed p (r ∷ rs) = item p r (placed (p + length (encode r)) rs)
 
 -- "a transaction with a closing record (commit or abort) further on in that retained log is closed, else it is loose"
 unfoldable pub fateIn : ℕ → Scan → Fate
@@ -70,3 +75,9 @@ updatesIn number (item p (change kind page slot n epoch diff) rest) =
 unfoldable pub updateWords : List Update → ℕ
 updateWords [] = 0
 updateWords (u ∷ us) = 3 + length (u .diff) + updateWords us
+
+-- the position of the oldest of them, 0 where there is none
+unfoldable pub oldest : List Update → ℕ
+oldest [] = 0
+oldest (u ∷ []) = u .position
+oldest (u ∷ v ∷ us) = oldest (v ∷ us)

@@ -64,6 +64,15 @@ pub fill-flushed-other : (l : Logs) (d e : ℕ) → (e ≡ d → ⊥) → fillOf
 unfolding fillOf flushed
 fill-flushed-other l d e ne = getD-set-other (l .fills) d e 0 0 ne
 
+-- every disk's end stays where it is
+pub ends-flushed : (s : Sizes) (l : Logs) (d : ℕ) → Arrays s l → d < s .disks → (e : ℕ) → endOf (flushed l d) e ≡ endOf l e
+unfolding endOf
+ends-flushed s l d a below e = go (ℕ-discrete e d)
+  where
+    go : Dec (e ≡ d) → tailOf (flushed l d) e + fillOf (flushed l d) e ≡ tailOf l e + fillOf l e
+    go (yes same) = rw same (end-flushed s l d a below)
+    go (no ne) = rw (tail-flushed-other l d e ne, fill-flushed-other l d e ne)
+
 -- The words that a budget covers, of a run of stores with one store behind it.
 covered-then : (put : ℕ → ℕ → Action) (a : Action) → ((i x : ℕ) → cost (put i x) ≡ 1) → cost a ≡ 1 → (n i : ℕ) (xs : List ℕ)
     → n ≤ length xs → covered n (each put i xs ++ a ∷ []) ≡ each put i (take n xs)

@@ -12,7 +12,7 @@ use Rattle.model.specs.Sizes.{slotBase, ringOf, ringWord}
 use Rattle.model.specs.Anchor.{sizesOn, startOn}
 use Rattle.model.specs.Record.{encode}
 use Rattle.model.specs.Decode.{readLog}
-use Rattle.model.specs.Scan.{Scan, item, scan}
+use Rattle.model.specs.Scan.{Scan, item, scan, placed}
 use Rattle.model.specs.World.{World, Action, perform, covered, run}
 use Rattle.model.specs.Memory.{bufferOf}
 use Rattle.model.specs.State.{startOf, tailOf, fillOf}
@@ -22,7 +22,7 @@ use Rattle.model.proofs.Below.{getD-list}
 use Rattle.model.proofs.Run.{perform-lengths}
 use Rattle.model.proofs.Lengths.{Lengths}
 use Rattle.model.proofs.Reader.{Holds, holds-from, holds-agree, read-ring, span-holds}
-use Rattle.model.proofs.RoundTrip.{WellFormed, AllWellFormed, placed, scan-placed}
+use Rattle.model.proofs.RoundTrip.{WellFormed, AllWellFormed, scan-placed}
 use Rattle.model.proofs.Ledger.Entry.{Entry, isClose, recordOf, All}
 use Rattle.model.proofs.Ledger.Order.{sizeOf, wordsOf, on, Laid, entriesScan}
 use Rattle.model.proofs.Ledger.Picks.{all-pick}

@@ -12,13 +12,14 @@ use lib.Seq.{getD-set-other, drop-set-lt, drop-set-add, take-set-le}
 use Rattle.model.specs.declared.Sizes.{Sizes}
 use Rattle.model.specs.Below.{joinBelow, listBelow}
 use Rattle.model.specs.Word.{part}
-use Rattle.model.specs.Sizes.{total, sizesInBounds}
+use Rattle.model.specs.Sizes.{total}
 use Rattle.model.specs.Anchor.{epochOn, sizesOn, startOn, startWord, backupAt}
 use Rattle.model.specs.World.{World, anchor, backups, logs, Memory, pages, work, Action, store, write, cost, act, perform, covered, run, each}
 use Rattle.model.specs.Causes.{tailOn}
-use Rattle.model.specs.Image.{Image, retainedWords, imageOf}
+use Rattle.model.specs.Image.{retainedWords, imageOf}
 use Rattle.model.proofs.Ledger.Entry.{All}
-use Rattle.model.proofs.Restart.Image.{disks-le, image-same, image-devices}
+use Rattle.model.proofs.Run.{SameLengths, act-lengths, same-lengths-trans}
+use Rattle.model.proofs.Restart.Image.{image-same, SameDevices}
 
 -- Where c is the current checkpoint: an action that writes memory, or stores in the row or the backup of checkpoint c + 1.
 abbrev pub Aside : Sizes → ℕ → Action → Type 0
@@ -87,44 +88,77 @@ row-after : (c i : ℕ) → startWord (c + 1) 0 ≤ i → 132 ≤ i
 unfolding startWord
 row-after c i h = omega arith
 
--- one such action keeps the image
-pub act-aside : (a : Action) (w : World) → sizesInBounds (sizesOn (w .anchor)) ≡ true
-    → Aside (sizesOn (w .anchor)) (epochOn (w .anchor)) a → imageOf (act a w) ≡ imageOf w
-unfolding act retainedWords tailOn
-act-aside (store anchor i x) w b h =
-    let s : Sizes = sizesOn (w .anchor) in
+-- Two worlds of which a restart sees the same.
+pub record Steady (v w : World) : Type 0 where
+  pub lengths : SameLengths v w
+  pub sizes : sizesOn (v .anchor) ≡ sizesOn (w .anchor)
+  pub epoch : epochOn (v .anchor) ≡ epochOn (w .anchor)
+  pub starts : (d : ℕ) → d < 8 → startOn (v .anchor) d ≡ startOn (w .anchor) d
+  pub backup : part (backupAt (sizesOn (w .anchor)) (epochOn (w .anchor))) (total (sizesOn (w .anchor))) (v .backups)
+      ≡ part (backupAt (sizesOn (w .anchor)) (epochOn (w .anchor))) (total (sizesOn (w .anchor))) (w .backups)
+  pub logs : v .logs ≡ w .logs
+
+pub steady-trans : {u v w : World} → Steady u v → Steady v w → Steady u w
+steady-trans p q =
+    record {
+      lengths = same-lengths-trans (p .lengths) (q .lengths);
+      sizes = p .sizes ∙ q .sizes;
+      epoch = p .epoch ∙ q .epoch;
+      starts = λ d h. p .starts d h ∙ q .starts d h;
+      backup = (rw (q .sizes, q .epoch) at (p .backup)) ∙ q .backup;
+      logs = p .logs ∙ q .logs;
+    }
+
+pub devices-steady : {v w : World} → SameDevices v w → SameLengths v w → Steady v w
+devices-steady {v} {w} d k =
+    record {
+      lengths = k;
+      sizes = ap sizesOn (d .anchor);
+      epoch = ap epochOn (d .anchor);
+      starts = λ e h. ap (λ (a : List ℕ). startOn a e) (d .anchor);
+      backup = ap (λ (b : List ℕ). part (backupAt (sizesOn (w .anchor)) (epochOn (w .anchor))) (total (sizesOn (w .anchor))) b) (d .backups);
+      logs = d .logs;
+    }
+
+-- the image is the same
+pub steady-image : {v w : World} → Steady v w → sizesOn (w .anchor) .disks ≤ 8 → imageOf v ≡ imageOf w
+unfolding retainedWords tailOn
+steady-image {v} {w} k eight =
+    image-same v w (k .sizes) (k .epoch) (k .backup) (λ d h. k .starts d (omega arith)) (λ d h. rw (k .logs, k .starts d (omega arith)))
+
+-- one such action leaves what a restart sees
+pub act-aside : (a : Action) (w : World) → Aside (sizesOn (w .anchor)) (epochOn (w .anchor)) a → Steady (act a w) w
+unfolding act
+act-aside (store anchor i x) w h =
     let k : 132 ≤ i = row-after (epochOn (w .anchor)) i (h .0) in
-    let eight = disks-le s b in
-    let same : (d : ℕ) → d < s .disks → startOn (set (w .anchor) i x) d ≡ startOn (w .anchor) d =
-    λ d l. start-kept (w .anchor) i x k (h .0) (h .1) d (omega arith) in
-    image-same (act (store anchor i x) w) w (sizes-kept (w .anchor) i x k) (epoch-kept (w .anchor) i x k) refl same
-    (λ d l. rw (same d l))
-act-aside (store backups i x) w b h =
-    image-same (act (store backups i x) w) w refl refl
-    (other-backup (sizesOn (w .anchor)) (epochOn (w .anchor)) i x (w .backups) (h .0) (h .1)) (λ d l. refl) (λ d l. refl)
-act-aside (store logs i x) w b h = absurd h
-act-aside (write pages i x) w b h = image-devices (record { anchor = refl; backups = refl; logs = refl })
-act-aside (write work i x) w b h = image-devices (record { anchor = refl; backups = refl; logs = refl })
+    record {
+      lengths = act-lengths (store anchor i x) w;
+      sizes = sizes-kept (w .anchor) i x k;
+      epoch = epoch-kept (w .anchor) i x k;
+      starts = start-kept (w .anchor) i x k (h .0) (h .1);
+      backup = refl;
+      logs = refl;
+    }
+act-aside (store backups i x) w h =
+    record {
+      lengths = act-lengths (store backups i x) w;
+      sizes = refl;
+      epoch = refl;
+      starts = λ d l. refl;
+      backup = other-backup (sizesOn (w .anchor)) (epochOn (w .anchor)) i x (w .backups) (h .0) (h .1);
+      logs = refl;
+    }
+act-aside (store logs i x) w h = absurd h
+act-aside (write pages i x) w h = devices-steady (record { anchor = refl; backups = refl; logs = refl }) (act-lengths (write pages i x) w)
+act-aside (write work i x) w h = devices-steady (record { anchor = refl; backups = refl; logs = refl }) (act-lengths (write work i x) w)
 
--- the image has the sizes and c
-image-sizes : (v w : World) → imageOf v ≡ imageOf w → sizesOn (v .anchor) ≡ sizesOn (w .anchor)
-unfolding imageOf
-image-sizes v w e = ap (λ (i : Image). i .sizes) e
-
-image-epoch : (v w : World) → imageOf v ≡ imageOf w → epochOn (v .anchor) ≡ epochOn (w .anchor)
-unfolding imageOf
-image-epoch v w e = ap (λ (i : Image). i .epoch) e
-
--- a list of such actions keeps the image, whole or cut short by a budget
-pub image-kept-by : (l : List Action) (w : World) → sizesInBounds (sizesOn (w .anchor)) ≡ true
-    → All (Aside (sizesOn (w .anchor)) (epochOn (w .anchor))) l → imageOf (perform l w) ≡ imageOf w
+-- and so does a list of them, whole or cut short by a budget
+pub steady-by : (l : List Action) (w : World) → All (Aside (sizesOn (w .anchor)) (epochOn (w .anchor))) l → Steady (perform l w) w
 unfolding perform
-image-kept-by [] w b h = refl
-image-kept-by (a ∷ l) w b h =
-    let one = act-aside a w b (h .0) in
-    let sizes = image-sizes (act a w) w one in
-    let epoch = image-epoch (act a w) w one in
-    image-kept-by l (act a w) (rw sizes b) (rw (sizes, epoch) (h .1)) ∙ one
+steady-by [] w h = devices-steady (record { anchor = refl; backups = refl; logs = refl }) (record { anchor = refl; pages = refl; backups = refl; logs = refl; work = refl })
+steady-by (a ∷ l) w h =
+    let one = act-aside a w (h .0) in
+    steady-trans (steady-by l (act a w) (rw (one .sizes, one .epoch) (h .1))) one
 
 all-covered : (P : Action → Type 0) (budget : ℕ) (l : List Action) → All P l → All P (covered budget l)
 unfolding covered
@@ -135,10 +169,10 @@ all-covered P budget (a ∷ l) h = go (leb (cost a) budget) (all-covered P (budg
     go true rest = (h .0, rest)
     go false rest = tt
 
-pub image-kept-run : (budget : ℕ) (l : List Action) (w : World) → sizesInBounds (sizesOn (w .anchor)) ≡ true
-    → All (Aside (sizesOn (w .anchor)) (epochOn (w .anchor))) l → imageOf (run budget l w) ≡ imageOf w
+pub steady-run : (budget : ℕ) (l : List Action) (w : World) → All (Aside (sizesOn (w .anchor)) (epochOn (w .anchor))) l
+    → Steady (run budget l w) w
 unfolding run
-image-kept-run budget l w b h = image-kept-by (covered budget l) w b (all-covered _ budget l h)
+steady-run budget l w h = steady-by (covered budget l) w (all-covered _ budget l h)
 
 -- lists of such actions
 module _ (s : Sizes) (c : ℕ) where

@@ -115,6 +115,7 @@ module _ (c : Core) (w : World) (m : Progress c w) (h : c .replay .page < c .siz
         eight = m .eight;
         room = m .room;
         positions = m .positions;
+        clean = m .clean;
         page = omega arith;
         words = backup-words;
       }

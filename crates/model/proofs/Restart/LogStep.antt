@@ -14,7 +14,7 @@ use Rattle.model.specs.declared.Decoded.the-variants.{Change, Close, Mal
 use Rattle.model.specs.Word.{_⊕_}
 use Rattle.model.specs.Sizes.{slotBase, total}
 use Rattle.model.specs.Decode.{span, decodeAt}
-use Rattle.model.specs.Scan.{Scan, scan, fateIn}
+use Rattle.model.specs.Scan.{Scan, end, scan, fateIn}
 use Rattle.model.specs.World.{World, perform}
 use Rattle.model.specs.State.{startOf, tailOf}
 use Rattle.model.specs.Causes.{tailOn}
@@ -24,6 +24,7 @@ use Rattle.model.specs.Image.{retainedWords, imageOf, xorAt, restarted}
 use Rattle.model.proofs.Ledger.Entry.{mask, share}
 use Rattle.model.proofs.Xor.{xor, ⊕-zero-l, ⊕-zero-r}
 use Rattle.model.proofs.Decode.{found-change, found-close}
+use Rattle.model.proofs.Reading.{ending}
 use Rattle.model.proofs.Scan.{scan-change, scan-close}
 use Rattle.model.proofs.Restart.Words.{withPages, perform-xor, xor-below-less}
 use Rattle.model.proofs.Restart.Gain.{gain, slot-within, length-span, choice-length, choice-word}
@@ -39,7 +40,8 @@ module _ (c : Core) (w : World) (m : Progress c w) (d next : ℕ) (h : d < c .si
     (l : List ℕ) (long : length l ≡ total (c .sizes)) (added : ℕ → ℕ)
     (now : (x : ℕ) → x < total (c .sizes) → getD l x 0 ≡ getD (w .pages) x 0 ⊕ added x)
     (less : (x : ℕ) → gain (c .sizes) (c .epoch) (logLeft c w d) x
-    ≡ added x ⊕ gain (c .sizes) (c .epoch) (scan (c .sizes) (readDisk c w d) (tailOf (c .logs) d) next) x) where
+    ≡ added x ⊕ gain (c .sizes) (c .epoch) (scan (c .sizes) (readDisk c w d) (tailOf (c .logs) d) next) x)
+    (well : ending (scan (c .sizes) (readDisk c w d) (tailOf (c .logs) d) next) ≡ end) where
   moved-here : positionOf (movedTo c d next) d ≡ next
   unfolding positionOf movedTo withReplay
   moved-here = getD-set-same (c .replay .positions) d next 0 (omega (arith, m .room))
@@ -80,6 +82,13 @@ module _ (c : Core) (w : World) (m : Progress c w) (d next : ℕ) (h : d < c .si
           rw (same, moved-here) (omega (arith, m .positions d h .0, from), until)
       go (no ne) = rw (moved-other e ne) (m .positions e k)
 
+  moved-clean : (e : ℕ) → e < c .sizes .disks → ending (logLeft (movedTo c d next) (withPages w l) e) ≡ end
+  moved-clean e k = go (ℕ-discrete e d)
+    where
+      go : Dec (e ≡ d) → ending (logLeft (movedTo c d next) (withPages w l) e) ≡ end
+      go (yes same) = rw (same, left-here) well
+      go (no ne) = rw (left-other e ne) (m .clean e k)
+
   moved : Progress (movedTo c d next) (withPages w l)
   unfolding movedTo withReplay backupLeft imageOf retainedWords tailOn
   moved =
@@ -95,6 +104,7 @@ module _ (c : Core) (w : World) (m : Progress c w) (d next : ℕ) (h : d < c .si
         eight = m .eight;
         room = simp length-set (m .room);
         positions = moved-positions;
+        clean = moved-clean;
         page = m .page;
         words = moved-words;
       }
@@ -123,6 +133,19 @@ module _ (c : Core) (w : World) (m : Progress c w) (d : ℕ) (h : d < c .sizes .
   unfolding logLeft gain
   close-less e x = rw (scan-close (c .sizes) (readDisk c w d) (tailOf (c .logs) d) k e) (sym (⊕-zero-l _))
 
+  -- the rest of a well-formed log behind a record is well formed
+  pub change-well : {kind page slot number epoch width next : ℕ}
+      → decodeAt (c .sizes) (readDisk c w d) (tailOf (c .logs) d) (positionOf c d) ≡ Change kind page slot number epoch width next
+      → ending (scan (c .sizes) (readDisk c w d) (tailOf (c .logs) d) next) ≡ end
+  unfolding logLeft ending
+  change-well e = rw (scan-change (c .sizes) (readDisk c w d) (tailOf (c .logs) d) k e) at (m .clean d h)
+
+  close-well : {kind number next : ℕ}
+      → decodeAt (c .sizes) (readDisk c w d) (tailOf (c .logs) d) (positionOf c d) ≡ Close kind number next
+      → ending (scan (c .sizes) (readDisk c w d) (tailOf (c .logs) d) next) ≡ end
+  unfolding logLeft ending
+  close-well e = rw (scan-close (c .sizes) (readDisk c w d) (tailOf (c .logs) d) k e) at (m .clean d h)
+
   change-progress : {kind page slot number epoch width next : ℕ}
       → decodeAt (c .sizes) (readDisk c w d) (tailOf (c .logs) d) (positionOf c d) ≡ Change kind page slot number epoch width next
       → Progress (recordStep c w d (Change kind page slot number epoch width next) .core)
@@ -141,7 +164,7 @@ module _ (c : Core) (w : World) (m : Progress c w) (d : ℕ) (h : d < c .sizes .
       (choice-length at diff (w .pages) b ∙ m .lengths .pages)
       (λ x. mask b (share at diff x))
       (λ x _. choice-word at diff (w .pages) b x (omega (arith, m .lengths .pages, f .width-eq)))
-      (change-less e))
+      (change-less e) (change-well e))
 
   pub record-progress : (r : Decoded) → nextRecord c w d ≡ r
       → Progress (recordStep c w d r .core) (perform (recordStep c w d r .actions) w)
@@ -151,5 +174,5 @@ module _ (c : Core) (w : World) (m : Progress c w) (d : ℕ) (h : d < c .sizes .
       let f = found-close (c .sizes) (readDisk c w d) (tailOf (c .logs) d) e in
       moved c w m d next h (omega (arith, f .next-eq)) (f .next-le) (w .pages) (m .lengths .pages) (λ x. 0)
       (λ x _. sym (⊕-zero-r (getD (w .pages) x 0)))
-      (close-less e)
+      (close-less e) (close-well e)
   record-progress Malformed e = m

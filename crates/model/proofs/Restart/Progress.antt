@@ -1,7 +1,7 @@
 -- A restart under way: the pages so far and what the steps to come add make the image's pages. It holds after restart begin.
 use mathlib.Core.Path.{_≡_, refl, sym, ap, _∙_}
 use mathlib.Core.List.{List, []}
-use mathlib.Core.Bool.{true, false, cond}
+use mathlib.Core.Bool.{true, false, true≢false, cond}
 use Prim.Native.Nat.{ℕ, _-_, _≤_, _<_}
 use native.Mathlib.Omega.{arith}
 use lib.Dec.{leb, ltb, leb·zero}
@@ -11,16 +11,18 @@ use borrow.Author.Tests.{lt-ltb, ltb-false, not-false}
 use Rattle.model.specs.declared.Stage.the-variants.{Replaying}
 use Rattle.model.specs.declared.Sizes.{Sizes}
 use Rattle.model.specs.declared.Core.{Core}
+use Rattle.model.specs.declared.Fault.{Fault}
+use Rattle.model.specs.declared.Fault.the-variants.{Sound, BadRecord}
 use Rattle.model.specs.Below.{sumBelow}
 use Rattle.model.specs.Word.{_⊕_}
 use Rattle.model.specs.Sizes.{pageBase, total, sizesInBounds}
 use Rattle.model.specs.Anchor.{epochOn, sizesOn, startOn}
 use Rattle.model.specs.Decode.{readLog}
-use Rattle.model.specs.Scan.{Scan, scan}
+use Rattle.model.specs.Scan.{Scan, end, scan}
 use Rattle.model.specs.World.{World, perform, pages}
 use Rattle.model.specs.Memory.{lengthsRight}
 use Rattle.model.specs.State.{startOf, tailOf}
-use Rattle.model.specs.Causes.{sizesWrong, lengthsWrong, tailOn, tailWrong, wrongTail, retained}
+use Rattle.model.specs.Causes.{sizesWrong, lengthsWrong, tailOn, tailWrong, wrongTail, retained, faultRow}
 use Rattle.model.specs.Checkpoint.{perDisk}
 use Rattle.model.specs.Restart.{positionOf, readDisk, imageRows, restartBeginRows, restartBeginTask}
 use Rattle.model.specs.Reference.{taken, outcomeOf}
@@ -30,6 +32,8 @@ use Rattle.model.proofs.Ledger.Entry.{mask}
 use Rattle.model.proofs.Xor.{⊕-zero-l}
 use Rattle.model.proofs.Below.{first-before, getD-list, length-list}
 use Rattle.model.proofs.Decode.{or-false}
+use Rattle.model.proofs.Reading.{ending}
+use Rattle.model.proofs.Faults.{fault-none}
 use Rattle.model.proofs.Run.{perform-pages}
 use Rattle.model.proofs.Storeless.{nothing-stored}
 use Rattle.model.proofs.Restart.Words.{sets-in, withPages, xorBelow, xor-below-cong}
@@ -50,7 +54,8 @@ backupLeft c w x = mask (leb (pageBase (c .sizes) (c .replay .page)) x) (getD (i
 unfoldable pub logsLeft : Core → World → ℕ → ℕ
 logsLeft c w x = xorBelow (λ d. gain (c .sizes) (c .epoch) (logLeft c w d) x) (c .sizes .disks)
 
--- The state is that of the devices, and a word of the pages with what is left of the backup and of the logs is the image's word.
+-- The state is that of the devices, what is left of each log is well formed, and a word of the pages with what is left of the
+-- backup and of the logs is the image's word.
 pub record Progress (c : Core) (w : World) : Type 0 where
   pub stage : c .stage ≡ Replaying
   pub sizes : c .sizes ≡ sizesOn (w .anchor)
@@ -63,6 +68,7 @@ pub record Progress (c : Core) (w : World) : Type 0 where
   pub eight : length (c .logs .tails) ≡ 8
   pub room : c .sizes .disks ≤ length (c .replay .positions)
   pub positions : (d : ℕ) → d < c .sizes .disks → (startOf (c .logs) d ≤ positionOf c d) × (positionOf c d ≤ tailOf (c .logs) d)
+  pub clean : (d : ℕ) → d < c .sizes .disks → ending (logLeft c w d) ≡ end
   pub page : c .replay .page ≤ c .sizes .pages
   pub words : (x : ℕ) → x < total (c .sizes)
       → getD (w .pages) x 0 ⊕ (backupLeft c w x ⊕ logsLeft c w x) ≡ getD (restarted (imageOf w)) x 0
@@ -82,6 +88,7 @@ pub record Checked (w : World) : Type 0 where
   pub bounds : sizesInBounds (sizesOn (w .anchor)) ≡ true
   pub lengths : lengthsRight (sizesOn (w .anchor)) w ≡ true
   pub tails : (d : ℕ) → d < sizesOn (w .anchor) .disks → startOn (w .anchor) d ≤ tailOn (sizesOn (w .anchor)) w d
+  pub clean : (d : ℕ) → d < sizesOn (w .anchor) .disks → ending (retained (sizesOn (w .anchor)) w d) ≡ end
 
 tail-right : (s : Sizes) (w : World) → ltb (wrongTail s w) (s .disks) ≡ false → (d : ℕ) → d < s .disks
     → startOn (w .anchor) d ≤ tailOn s w d
@@ -90,6 +97,11 @@ tail-right s w e d h =
     let a = first-before (tailWrong s w) (s .disks) d (omega (arith, ltb-false (wrongTail s w) (s .disks) e)) in
     let b = or-false _ _ a in
     ltb-false _ _ (or-false _ _ (b .0) .0)
+
+-- row 7 applies to every fault
+sound-row : (f : Fault) → faultRow f .applies ≡ false → f ≡ Sound
+sound-row Sound e = refl
+sound-row (BadRecord disk p) e = absurd (true≢false e)
 
 pub begin-checked : (c : Core) (w : World) → Taken restartBegin c w → Checked w
 unfolding restartBeginRows imageRows sizesWrong lengthsWrong
@@ -100,10 +112,13 @@ begin-checked c w t =
     let f = accepted-row _ _ d in
     let g = accepted-row _ _ (f .1) in
     let h = accepted-row _ _ (g .1) in
+    let s : Sizes = sizesOn (w .anchor) in
+    let sound = sound-row _ (accepted-row _ _ (h .1) .0) in
     record {
       bounds = not-false _ (f .0);
       lengths = not-false _ (g .0);
-      tails = tail-right (sizesOn (w .anchor)) w (h .0);
+      tails = tail-right s w (h .0);
+      clean = λ d l. fault-none s w (s .disks) 0 sound d (omega arith) (omega arith);
     }
 
 -- at the start of its log, a disk's rest is the whole retained log
@@ -124,13 +139,16 @@ module _ (w : World) (k : Checked w) where
   eight : sizesOn (w .anchor) .disks ≤ 8
   eight = disks-le (sizesOn (w .anchor)) (k .bounds)
 
-  begun-log : (d : ℕ) → d < sizesOn (w .anchor) .disks → (l : List ℕ)
-      → logLeft (restartBeginTask w .core) (withPages w l) d ≡ logOf (imageOf w) d
+  begun-retained : (d : ℕ) → d < sizesOn (w .anchor) .disks → (l : List ℕ)
+      → logLeft (restartBeginTask w .core) (withPages w l) d ≡ retained (sizesOn (w .anchor)) w d
   unfolding restartBeginTask tailOf positionOf tailOn retained
-  begun-log d h l =
+  begun-retained d h l =
       left-retained (restartBeginTask w .core) (withPages w l) d (getD-per-disk (sizesOn (w .anchor)) (tailOn (sizesOn (w .anchor)) w) d eight h)
       (getD-per-disk (sizesOn (w .anchor)) (startOn (w .anchor)) d eight h)
-      ∙ sym (image-log w d h (k .tails d h))
+
+  begun-log : (d : ℕ) → d < sizesOn (w .anchor) .disks → (l : List ℕ)
+      → logLeft (restartBeginTask w .core) (withPages w l) d ≡ logOf (imageOf w) d
+  begun-log d h l = begun-retained d h l ∙ sym (image-log w d h (k .tails d h))
 
   begun-logs : (x : ℕ) (l : List ℕ) → logsLeft (restartBeginTask w .core) (withPages w l) x ≡ gains (imageOf w) (sizesOn (w .anchor) .disks) x
   unfolding restartBeginTask logsLeft gains imageOf
@@ -173,6 +191,7 @@ module _ (w : World) (k : Checked w) where
             let f = getD-per-disk s (tailOn s w) d eight h in
             let g = k .tails d h in
             (omega arith, omega arith);
+        clean = λ d h. ap ending (begun-retained d h (sets (w .pages) 0 zeros)) ∙ k .clean d h;
         page = omega arith;
         words = λ x h.
             rw (zeroed x h, begun-backup x (sets (w .pages) 0 zeros), begun-logs x (sets (w .pages) 0 zeros))

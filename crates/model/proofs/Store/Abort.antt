@@ -1,6 +1,6 @@
 -- The abort keeps what holds of an open store; cut anywhere, it leaves devices that restart to what was committed.
 use mathlib.Core.Path.{_≡_, refl, sym, ap, _∙_}
-use mathlib.Core.List.{List, _++_}
+use mathlib.Core.List.{List, _++_, append-assoc}
 use mathlib.Core.Bool.{Bool, true, false}
 use Prim.Native.Nat.{ℕ, _+_, _-_, _≤_, _<_}
 use native.Mathlib.Omega.{arith}
@@ -11,13 +11,14 @@ use Rattle.model.specs.Word.{_⊕_}
 use Rattle.model.specs.Sizes.{ringOf}
 use Rattle.model.specs.Scan.{Update, updateWords}
 use Rattle.model.specs.World.{World, perform, stores, run, finishes}
-use Rattle.model.specs.State.{startOf, endOf, withLog, placeOf, hasUpdate}
+use Rattle.model.specs.State.{limit, startOf, endOf, withLog, placeOf, hasUpdate}
 use Rattle.model.specs.Refusal.{accepted, verdict}
 use Rattle.model.specs.Append.{Appended}
 use Rattle.model.specs.Transaction.{diskOf}
 use Rattle.model.specs.Abort.{updatesLeft, undoAll, abortRows, abortTask}
 use Rattle.model.specs.Call.{abort}
 use Rattle.model.specs.Reference.{Reference, afterTaken}
+use Rattle.model.specs.History.{Put, putBy}
 use Rattle.model.proofs.Xor.{⊕-self}
 use Rattle.model.proofs.Run.{perform-append, stores-append, run-append, run-cut}
 use Rattle.model.proofs.Places.{open-place}
@@ -28,13 +29,13 @@ use Rattle.model.proofs.Ledger.Good.{good-exempt}
 use Rattle.model.proofs.Link.Abort.{sumUpdates}
 use Rattle.model.proofs.Store.View.{Kept, Serving, Served}
 use Rattle.model.proofs.Store.Compensate.{Compensated}
-use Rattle.model.proofs.Store.Undo.{none-undone, undone}
+use Rattle.model.proofs.Store.Undo.{compensations, none-undone, undone}
 use Rattle.model.proofs.Store.Left.{MayAbort, may-abort, none-left, none-logged, left-slotted, left-sum}
 use Rattle.model.proofs.Store.CloseAbort.{closing, closed, closing-cut}
 
 -- an abort of transaction t may begin
-pub abort-begins : {home : ℕ → ℕ} {c : Core} {w : World} {r : Reference} {F B : List Entry} (t : ℕ) → Serving 0 home c w r F B
-    → Serving t home c w r F B
+pub abort-begins : {home : ℕ → ℕ} {puts : List Put} {c : Core} {w : World} {r : Reference} {F B : List Entry} (t : ℕ) → Serving 0 home puts c w r F B
+    → Serving t home puts c w r F B
 abort-begins {F = F} {B = B} t g =
     record {
       stage = g .stage;
@@ -45,6 +46,7 @@ abort-begins {F = F} {B = B} t g =
             link = g .safe .link;
             ordered = g .safe .ordered;
             fit = g .safe .fit;
+            ends = g .safe .ends;
             sizes = g .safe .sizes;
             shaped = g .safe .shaped;
           };
@@ -57,14 +59,20 @@ abort-begins {F = F} {B = B} t g =
                 all-map (λ q h n. record { has = h n .has; first = h n .first; kind = λ z. h n .kind (open-place _ u o .0) }) (F ++ B)
                 (g .accounts .own u o);
             firsts = g .accounts .firsts;
+            disks = g .accounts .disks;
+            started = g .accounts .started;
+            reserved = λ u o ne. g .accounts .reserved u o (open-place _ u o .0);
             settled = g .accounts .settled;
             numbered = g .accounts .numbered;
           };
       epochs = g .epochs;
       sets = g .sets;
+      owners = g .owners;
+      told = g .told;
     }
 
-module _ {home : ℕ → ℕ} {c : Core} {w : World} {r : Reference} {F B : List Entry} (g : Serving 0 home c w r F B) (t : ℕ) (may : MayAbort c w t) where
+module _ {home : ℕ → ℕ} {puts : List Put} {c : Core} {w : World} {r : Reference} {F B : List Entry} (g : Serving 0 home puts c w r F B) (t : ℕ)
+    (may : MayAbort c w t) where
   abbrev d : ℕ
   d = diskOf c t
 
@@ -74,10 +82,13 @@ module _ {home : ℕ → ℕ} {c : Core} {w : World} {r : Reference} {F B : List
   abbrev undo : Appended
   undo = undoAll (c .sizes) (c .logs) w t d us
 
+  abbrev told : List Put
+  told = puts ++ compensations c w t us
+
   -- the updates taken back: what their compensations add is what the transaction's entries add
   record Cancelled : Type 0 where
     more : ℕ → ℕ
-    work : Compensated t home c w r F B d (updateWords us) more undo
+    work : Compensated t home told c w r F B d (updateWords us) more undo
     same : (i : ℕ) → more i ≡ ofTxn i t (F ++ B)
 
   cancelled : Cancelled
@@ -90,7 +101,7 @@ module _ {home : ℕ → ℕ} {c : Core} {w : World} {r : Reference} {F B : List
             more = λ i. sumUpdates (c .sizes) i us;
             work =
                 undone (abort-begins t g) (may .opened) has (may .below) (may .small) us (left-slotted g t (may .opened) (may .below) has)
-                (omega (arith, may .room));
+                (omega (arith, may .room)) (omega (arith, may .in-limit));
             same = left-sum g t (may .opened) (may .below) has;
           }
       go false none =
@@ -100,7 +111,7 @@ module _ {home : ℕ → ℕ} {c : Core} {w : World} {r : Reference} {F B : List
             same = λ i. sym (none-logged g t (may .opened) (may .below) none i);
           }
 
-  work : Compensated t home c w r F B d (updateWords us) (cancelled .more) undo
+  work : Compensated t home told c w r F B d (updateWords us) (cancelled .more) undo
   work = cancelled .work
 
   -- so together they cancel
@@ -118,34 +129,39 @@ module _ {home : ℕ → ℕ} {c : Core} {w : World} {r : Reference} {F B : List
   unfolding withLog
   room = omega (arith, work .ends, work .starts d, may .room)
 
-  abort-served : Served (abortTask c w t .core) (perform (abortTask c w t .actions) w) (afterTaken (abort t 0) 0 r)
+  in-limit : endOf (c1 .logs) d + 2 ≤ limit
+  unfolding withLog
+  in-limit = omega (arith, work .ends, may .in-limit)
+
+  abort-served : Served (puts ++ putBy (abort t 0) c w) (abortTask c w t .core) (perform (abortTask c w t .actions) w) (afterTaken (abort t 0) 0 r)
   unfolding abortTask withLog diskOf
   abort-served =
-      rw (perform-append (undo .actions) _ w) (closed (work .serving) (may .opened) (may .below) (work .small) room cancels)
+      rw (perform-append (undo .actions) _ w, ← append-assoc puts (compensations c w t us) _)
+      (closed (work .serving) (may .opened) (may .below) (work .small) room in-limit cancels)
 
   abort-kept : (budget : ℕ) → budget < stores (abortTask c w t .actions) → Kept (run budget (abortTask c w t .actions) w) r
   unfolding abortTask withLog diskOf
   abort-kept budget h = go (decLt budget (stores (undo .actions)))
     where
       last : Appended
-      last = closing (work .serving) (may .opened) (may .below) (work .small) room cancels
+      last = closing (work .serving) (may .opened) (may .below) (work .small) room in-limit cancels
 
       go : Dec (budget < stores (undo .actions)) → Kept (run budget (undo .actions ++ last .actions) w) r
       go (yes less) = rw (run-cut budget (undo .actions) (last .actions) w less) (work .cut budget less)
       go (no more) =
           rw (run-append budget (undo .actions) (last .actions) w (omega arith))
-          (closing-cut (work .serving) (may .opened) (may .below) (work .small) room cancels (budget - stores (undo .actions))
+          (closing-cut (work .serving) (may .opened) (may .below) (work .small) room in-limit cancels (budget - stores (undo .actions))
           (omega (arith, stores-append (undo .actions) (last .actions))))
 
 -- An accepted abort leaves a store that serves, without the transaction.
-pub abort-serves : {c : Core} {w : World} {r : Reference} → Served c w r → (number budget n : ℕ)
+pub abort-serves : {puts : List Put} {c : Core} {w : World} {r : Reference} → Served puts c w r → (number budget n : ℕ)
     → verdict (abortRows c w number) ≡ accepted
-    → Served (abortTask c w number .core) (perform (abortTask c w number .actions) w) (afterTaken (abort number budget) n r)
-abort-serves {c} {w} g number budget n v = abort-served (g .serving) number (may-abort c w number v)
+    → Served (puts ++ putBy (abort number budget) c w) (abortTask c w number .core) (perform (abortTask c w number .actions) w) (afterTaken (abort number budget) n r)
+abort-serves {c = c} {w = w} g number budget n v = abort-served (g .serving) number (may-abort c w number v)
 
 -- Cut, it leaves devices that restart to what was committed.
-pub abort-cut : {c : Core} {w : World} {r : Reference} → Served c w r → (number budget : ℕ)
+pub abort-cut : {puts : List Put} {c : Core} {w : World} {r : Reference} → Served puts c w r → (number budget : ℕ)
     → verdict (abortRows c w number) ≡ accepted → finishes budget (abortTask c w number .actions) ≡ false
     → Kept (run budget (abortTask c w number .actions) w) r
 unfolding finishes
-abort-cut {c} {w} g number budget v f = abort-kept (g .serving) number (may-abort c w number v) budget (leb-false _ _ f)
+abort-cut {c = c} {w = w} g number budget v f = abort-kept (g .serving) number (may-abort c w number v) budget (leb-false _ _ f)

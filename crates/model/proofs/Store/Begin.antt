@@ -1,8 +1,9 @@
 -- Begin: a new transaction with no record and no write, on the lowest free place of the table.
 use mathlib.Core.Path.{_≡_, refl, sym, ap, _∙_}
-use mathlib.Core.List.{List, [], _++_, map}
-use mathlib.Core.Bool.{Bool, true, false, cond, _||_}
-use Prim.Native.Nat.{ℕ, _<_}
+use mathlib.Core.List.{List, [], _∷_, _++_, map}
+use mathlib.Core.Logic.{inl, inr}
+use mathlib.Core.Bool.{Bool, true, false, cond, _&&_, _||_}
+use Prim.Native.Nat.{ℕ, _+_, _≤_, _<_}
 use native.Mathlib.Omega.{arith}
 use lib.Dec.{eqb}
 use borrow.Author.Tests.{leb-false, eqb-true, eq-eqb, ne-eqb}
@@ -10,43 +11,61 @@ use Rattle.model.specs.declared.Table.{Table}
 use Rattle.model.specs.declared.Core.{Core}
 use Rattle.model.specs.Sizes.{total}
 use Rattle.model.specs.World.{World}
-use Rattle.model.specs.State.{places, startOf, numberAt, diskAtPlace, firstAt, placeOf, isOpen, withPlace, hasUpdate}
-use Rattle.model.specs.Room.{idlest}
+use Rattle.model.specs.Memory.{ownerOf}
+use Rattle.model.specs.State.{places, startOf, numberAt, diskAtPlace, firstAt, reservedAt, placeOf, isOpen, withPlace, hasUpdate}
+use Rattle.model.specs.Room.{noDisk, hasRoom, loadOf, idlest}
 use Rattle.model.specs.Refusal.{accepted, verdict}
 use Rattle.model.specs.Causes.{tableFull}
 use Rattle.model.specs.Transaction.{diskOf, beginRows, begun, beginTask}
 use Rattle.model.specs.Call.{begin}
 use Rattle.model.specs.Reference.{Reference, writesOf, afterTaken}
+use Rattle.model.specs.History.{Put}
+use Rattle.model.proofs.Meaning.{Chosen, idlest-of}
 use Rattle.model.proofs.Slots.{patchOf}
 use Rattle.model.proofs.WriteSets.{distinct-front, front-writes, front-has}
 use Rattle.model.proofs.Places.{Tabled, place-holds, open-place, other-disk, other-first, other-reserved, put-disk, put-reserved, begin-place, begin-other, begin-open, begin-tabled}
-use Rattle.model.proofs.Ledger.Entry.{Entry, All}
+use Rattle.model.proofs.Ledger.Entry.{Entry, some as someEntry, All}
 use Rattle.model.proofs.Ledger.State.{Same, begun as begunLedger}
 use Rattle.model.proofs.Ledger.Order.{on, boundary}
 use Rattle.model.proofs.Ledger.Sums.{true-false, all-map, all-zip}
 use Rattle.model.proofs.Ledger.Picks.{or-false}
 use Rattle.model.proofs.Ledger.Good.{good-same, begin-good}
-use Rattle.model.proofs.Store.View.{view, before, Safe, Own, Accounts, Epochs, Sets, Serving, Served}
+use Rattle.model.proofs.Store.View.{view, before, Safe, Own, wordsFor, Accounts, Epochs, Sets, Owners, Serving, Served}
 use Rattle.model.proofs.Store.Rows.{row-passed}
 use Rattle.model.proofs.Store.Same.{devices-same}
 
--- a begin that is accepted finds a free place
-free-place : (c : Core) (w : World) → verdict (beginRows c w) ≡ accepted → placeOf (c .table) 0 < places
+-- a begin that is accepted finds a free place, and a disk with room
+free-place : (c : Core) (w : World) → c .sizes .disks ≤ 8 → verdict (beginRows c w) ≡ accepted
+    → (placeOf (c .table) 0 < places) × (idlest c 2 < c .sizes .disks)
 unfolding beginRows tableFull
-free-place c w ok =
+free-place c w eight ok =
     let stage = row-passed _ _ ok in
     let anchor = row-passed _ _ (stage .1) in
     let lengths = row-passed _ _ (anchor .1) in
     let full = row-passed _ _ (lengths .1) in
-    leb-false _ _ (full .0)
+    let room = row-passed _ _ (row-passed _ _ (full .1) .1) in
+    (leb-false _ _ (full .0), go (leb-false _ _ (room .0)) (idlest-of c 2 eight))
+  where
+    go : idlest c 2 < noDisk → Chosen (hasRoom c 2) (loadOf (c .logs)) (c .sizes .disks) (idlest c 2) → idlest c 2 < c .sizes .disks
+    go l (inl d) = d .below
+    go l (inr d) = absurd (omega (arith, d .eight))
 
-module _ {home : ℕ → ℕ} {c : Core} {w : World} {r : Reference} {F B : List Entry}
-    (ok : verdict (beginRows c w) ≡ accepted) (v : Serving 0 home c w r F B) where
+-- a number that the entries do not have has no words among them
+words-for-none : (t : ℕ) (l : List Entry) → All (λ e. e .number < t) l → wordsFor t l ≡ 0
+unfolding wordsFor
+words-for-none t [] h = refl
+words-for-none t (e ∷ l) h = rw (ne-eqb (e .number) t (λ x. omega (arith, h .0)), words-for-none t l (h .1))
+
+module _ {home : ℕ → ℕ} {puts : List Put} {c : Core} {w : World} {r : Reference} {F B : List Entry}
+    (ok : verdict (beginRows c w) ≡ accepted) (v : Serving 0 home puts c w r F B) where
   abbrev place : ℕ
   place = placeOf (c .table) 0
 
+  found : (place < places) × (idlest c 2 < c .sizes .disks)
+  found = free-place c w (v .safe .devices .bounds .disks-max) ok
+
   at : place < places
-  at = free-place c w ok
+  at = found .0
 
   tabled : Tabled (c .table)
   tabled = v .accounts .tabled
@@ -100,15 +119,23 @@ module _ {home : ℕ → ℕ} {c : Core} {w : World} {r : Reference} {F B : List
     same-first : firstAt T (placeOf T t) ≡ firstAt (c .table) (placeOf (c .table) t)
     same-first = rw same-place (other-first (c .table) tabled place (c .next) (idlest c 2) 0 2 at (placeOf (c .table) t) apart)
 
+    same-reserved : reservedAt T (placeOf T t) ≡ reservedAt (c .table) (placeOf (c .table) t)
+    same-reserved = rw same-place (other-reserved (c .table) tabled place (c .next) (idlest c 2) 0 2 at (placeOf (c .table) t) apart)
+
     same-update : hasUpdate T (placeOf T t) ≡ hasUpdate (c .table) (placeOf (c .table) t)
     unfolding hasUpdate
-    same-update =
-        rw (same-place, other-reserved (c .table) tabled place (c .next) (idlest c 2) 0 2 at (placeOf (c .table) t) apart)
+    same-update = rw same-reserved
 
-  -- the new one has no update
+  -- the new one has its disk, the words of its closing record, and no update
+  new-disk : diskAtPlace T (placeOf T (c .next)) ≡ idlest c 2
+  new-disk = rw new-place (put-disk (c .table) tabled place (c .next) (idlest c 2) 0 2 at)
+
+  new-reserved : reservedAt T (placeOf T (c .next)) ≡ 2
+  new-reserved = rw new-place (put-reserved (c .table) tabled place (c .next) (idlest c 2) 0 2 at)
+
   no-update : hasUpdate T (placeOf T (c .next)) ≡ false
   unfolding hasUpdate
-  no-update = rw (new-place, put-reserved (c .table) tabled place (c .next) (idlest c 2) 0 2 at)
+  no-update = rw new-reserved
 
   abbrev R : Reference
   R = afterTaken begin (c .next) r
@@ -130,6 +157,7 @@ module _ {home : ℕ → ℕ} {c : Core} {w : World} {r : Reference} {F B : List
           last = v .safe .ordered .last;
         };
         fit = v .safe .fit;
+        ends = v .safe .ends;
         sizes = v .safe .sizes;
         shaped = v .safe .shaped;
       }
@@ -164,7 +192,7 @@ module _ {home : ℕ → ℕ} {c : Core} {w : World} {r : Reference} {F B : List
         homes =
             λ t o.
             newly t (homes t ≡ diskAtPlace T (placeOf T t)) o
-            (λ e. rw (eq-eqb t (c .next) e, e, new-place) (sym (put-disk (c .table) tabled place (c .next) (idlest c 2) 0 2 at)))
+            (λ e. rw (eq-eqb t (c .next) e, e) (sym new-disk))
             (λ p. rw (ne-eqb t (c .next) (old t p)) (v .accounts .homes t p ∙ sym (same-disk t p)));
         own =
             λ t o.
@@ -176,6 +204,21 @@ module _ {home : ℕ → ℕ} {c : Core} {w : World} {r : Reference} {F B : List
             newly t (boundary (firstAt T (placeOf T t)) (startOf (c .logs) (diskAtPlace T (placeOf T t))) (on (diskAtPlace T (placeOf T t)) F ++ on (diskAtPlace T (placeOf T t)) B) ≡ true) o
             (λ q. true-false u (rw q no-update))
             (λ p. rw (same-first t p, same-disk t p) (v .accounts .firsts t p (sym (same-update t p) ∙ u)));
+        disks =
+            λ t o.
+            newly t (diskAtPlace T (placeOf T t) < c .sizes .disks) o
+            (λ q. rw (q, new-disk) (found .1))
+            (λ p. rw (same-disk t p) (v .accounts .disks t p));
+        started =
+            λ t o u.
+            newly t (someEntry (λ e. eqb (e .number) t && eqb (e .position) (firstAt T (placeOf T t))) (F ++ B) ≡ true) o
+            (λ q. true-false u (rw q no-update))
+            (λ p. rw (same-first t p) (v .accounts .started t p (sym (same-update t p) ∙ u)));
+        reserved =
+            λ t o ne.
+            newly t (reservedAt T (placeOf T t) ≡ 2 + wordsFor t (F ++ B)) o
+            (λ q. rw (q, new-reserved, words-for-none (c .next) (F ++ B) (v .accounts .numbered)))
+            (λ p. same-reserved t p ∙ v .accounts .reserved t p ne);
         settled = all-map (λ e h s. h (or-false _ _ (sym (open-after (e .number)) ∙ s) .0)) (F ++ B) (v .accounts .settled);
         numbered = all-map (λ e l. omega arith) (F ++ B) (v .accounts .numbered);
       }
@@ -187,13 +230,8 @@ module _ {home : ℕ → ℕ} {c : Core} {w : World} {r : Reference} {F B : List
   epochs : Epochs (begun c) w F B
   unfolding begun before
   epochs =
-      record {
-        copied = v .epochs .copied;
-        pages = v .epochs .pages;
-        capped = v .epochs .capped;
-        early = v .epochs .early;
-        ends = v .epochs .ends;
-      }
+      let h = v .epochs in
+      record { copied = h .copied; pages = h .pages; capped = h .capped; early = h .early; ends = h .ends }
 
   sets : Sets (begun c) R
   unfolding begun
@@ -204,13 +242,27 @@ module _ {home : ℕ → ℕ} {c : Core} {w : World} {r : Reference} {F B : List
         fits = (tt, v .sets .fits);
       }
 
-  begin-serving : Serving 0 homes (begun c) w R F B
+  -- a slot's owner is an older one, and its write set is as before
+  owners : Owners (begun c) w R
   unfolding begun
-  begin-serving = record { stage = v .stage; safe = safe; accounts = accounts; epochs = epochs; sets = sets }
+  owners =
+      record {
+        below = λ page slot p q. omega (arith, v .owners .below page slot p q);
+        written =
+            λ page slot p q o.
+            let t : ℕ = ownerOf (c .sizes) (w .work) page slot in
+            let less = v .owners .below page slot p q in
+            rw (front-writes (c .next) (r .writeSets) t, ne-eqb t (c .next) (λ e. omega arith))
+            (v .owners .written page slot p q (newly t (isOpen (c .table) t ≡ true) o (λ e. absurd (omega arith)) (λ h. h)));
+      }
+
+  begin-serving : Serving 0 homes puts (begun c) w R F B
+  unfolding begun
+  begin-serving = record { stage = v .stage; safe = safe; accounts = accounts; epochs = epochs; sets = sets; owners = owners; told = v .told }
 
 -- begin keeps what holds of an open store, with the reference's new, empty write set
-pub begin-serves : {c : Core} {w : World} {r : Reference} → Served c w r → verdict (beginRows c w) ≡ accepted
-    → Served (beginTask c w .core) w (afterTaken begin (c .next) r)
+pub begin-serves : {puts : List Put} {c : Core} {w : World} {r : Reference} → Served puts c w r → verdict (beginRows c w) ≡ accepted
+    → Served puts (beginTask c w .core) w (afterTaken begin (c .next) r)
 unfolding beginTask
 begin-serves s ok =
     record {

@@ -11,10 +11,11 @@ use Rattle.model.specs.Sizes.{total, ringOf}
 use Rattle.model.specs.Record.{close, encode, abortKind}
 use Rattle.model.specs.World.{World, perform, stores, run}
 use Rattle.model.specs.Memory.{epochAt, epochOf}
-use Rattle.model.specs.State.{startOf, endOf, withLog, isOpen, without}
+use Rattle.model.specs.State.{limit, startOf, endOf, withLog, isOpen, without}
 use Rattle.model.specs.Append.{Appended, append}
 use Rattle.model.specs.Transaction.{diskOf}
 use Rattle.model.specs.Reference.{Reference, removed, withSets}
+use Rattle.model.specs.History.{Put}
 use Rattle.model.proofs.Geometry.{slotStart, slot-in}
 use Rattle.model.proofs.Slots.{patchOf}
 use Rattle.model.proofs.WriteSets.{writes-removed-other}
@@ -31,12 +32,13 @@ use Rattle.model.proofs.Link.Words.{Fit}
 use Rattle.model.proofs.Link.Buffered.{Small, InBuffer, owners-same, epochs-same}
 use Rattle.model.proofs.Store.View.{Kept, view, Accounts, Serving, Served}
 use Rattle.model.proofs.Store.Logged.{Written, all-more, boundary-logged}
-use Rattle.model.proofs.Store.Closed.{sets-closed, accounts-closed}
-use Rattle.model.proofs.Store.Put.{open-used, MayPut, put-longer, put-in-buffer, F1, B1, made-sums, made-good, made-accounts, put-safe, put-epochs, put-cut}
+use Rattle.model.proofs.Store.Closed.{sets-closed, owners-closed, accounts-closed, found-more, words-for-other}
+use Rattle.model.proofs.Store.Put.{open-used, MayPut, put-longer, put-in-buffer, F1, B1, made-sums, made-good, made-accounts, put-safe, put-epochs, put-told, put-cut}
 
-module _ {t : ℕ} {home : ℕ → ℕ} {c : Core} {w : World} {r : Reference} {F B : List Entry} (g : Serving t home c w r F B)
+module _ {t : ℕ} {home : ℕ → ℕ} {puts : List Put} {c : Core} {w : World} {r : Reference} {F B : List Entry} (g : Serving t home puts c w r F B)
     (opened : isOpen (c .table) t ≡ true) (below : diskOf c t < c .sizes .disks) (small : Small (c .sizes) (c .logs))
     (room : endOf (c .logs) (diskOf c t) + 2 ≤ startOf (c .logs) (diskOf c t) + ringOf (c .sizes) (diskOf c t))
+    (in-limit : endOf (c .logs) (diskOf c t) + 2 ≤ limit)
     (cancels : (i : ℕ) → ofTxn i t (F ++ B) ≡ 0) where
   abbrev s : Sizes
   s = c .sizes
@@ -83,7 +85,8 @@ module _ {t : ℕ} {home : ℕ → ℕ} {c : Core} {w : World} {r : Reference} {
         small = small;
         short = omega (arith, size);
         at-end = refl;
-        room = omega arith;
+        in-ring = rw size room;
+        in-limit = rw size in-limit;
         fit = fit;
       }
 
@@ -144,7 +147,7 @@ module _ {t : ℕ} {home : ℕ → ℕ} {c : Core} {w : World} {r : Reference} {
   accounts =
       accounts-closed (made-accounts g e may) e F' B' opened closes (λ u ne o. ne) (λ P h p. all-more P F' (B1 g e may) e h p) closed-now
       (λ q p k h. boundary-logged q p k F' (B1 g e may) e h) (closing .logs) (put-longer g e may .start-same)
-      (open-used (g .safe) t opened .1)
+      (open-used (g .safe) t opened .1) (found-more F' (B1 g e may) e) (words-for-other F' (B1 g e may) e)
 
   written : Written s w1 w1
   written =
@@ -156,7 +159,7 @@ module _ {t : ℕ} {home : ℕ → ℕ} {c : Core} {w : World} {r : Reference} {
         buffers-same = λ i h k. refl;
       }
 
-  pub closed : Served (withLog c (closing .logs) (without (c .table) t)) (perform (closing .actions) w) (withSets r (removed t (r .writeSets)))
+  pub closed : Served (puts ++ record { disk = diskOf c t; content = close abortKind t } ∷ []) (withLog c (closing .logs) (without (c .table) t)) (perform (closing .actions) w) (withSets r (removed t (r .writeSets)))
   unfolding withLog recordOf isClose
   closed =
       record {
@@ -170,6 +173,10 @@ module _ {t : ℕ} {home : ℕ → ℕ} {c : Core} {w : World} {r : Reference} {
               accounts = accounts;
               epochs = put-epochs g e may written (λ i h. refl) (λ h. true-false closes h) (λ h k. true-false closes k) (without (c .table) t);
               sets = sets-closed (g .accounts .tabled) t opened (g .sets) (closing .logs) reference refl;
+              owners =
+                  owners-closed (g .accounts .tabled) t opened (g .safe .devices .bounds) (g .owners) (owners-same buffer) (closing .logs)
+                  reference refl;
+              told = put-told g e may (record { disk = d; content = close abortKind t }) refl refl;
             };
       }
 

@@ -2,29 +2,37 @@
 use mathlib.Core.Path.{_≡_, refl, sym, ap, _∙_}
 use mathlib.Core.List.{List, [], _∷_, _++_, append-assoc}
 use mathlib.Core.Bool.{Bool, true, false, cond, not, _&&_, _||_, or-true, and-true}
-use Prim.Native.Nat.{ℕ, _≤_, _<_}
+use Prim.Native.Nat.{ℕ, _+_, _≤_, _<_}
+use native.Mathlib.Nat.{add-zero}
 use native.Mathlib.Decide.{ℕ-discrete}
 use lib.Dec.{eqb}
+use lib.ListN.{getD}
 use borrow.Author.Tests.{eq-eqb, ne-eqb}
 use Rattle.model.specs.declared.Table.{Table}
 use Rattle.model.specs.declared.Logs.{Logs}
 use Rattle.model.specs.declared.Core.{Core}
+use Rattle.model.specs.Sizes.{total, slotsIn, slotBase}
+use Rattle.model.specs.World.{World}
+use Rattle.model.specs.Memory.{ownerAt, ownerOf}
 use Rattle.model.specs.State.{places, startOf, reservedAt, reservedOn, servedBy, numberAt, placeOf, diskAtPlace, firstAt, hasUpdate, isOpen, without, withLog}
 use Rattle.model.specs.Transaction.{diskOf}
-use Rattle.model.specs.Reference.{Reference, Write, WriteSet, writesOf, removed}
+use Rattle.model.specs.Reference.{Reference, Write, WriteSet, writesOf, writesSlot, removed}
+use Rattle.model.specs.History.{Put, recordsOn}
 use Rattle.model.proofs.Below.{term-le-sum}
-use Rattle.model.proofs.WriteSets.{hasSet, distinct-removed, removed-has}
+use Rattle.model.proofs.Bounds.{Bounded}
+use Rattle.model.proofs.WriteSets.{hasSet, distinct-removed, removed-has, writes-removed-other}
 use Rattle.model.proofs.Places.{Tabled, place-holds, open-place, close-other, close-open, close-tabled, other-disk, other-first, other-reserved}
-use Rattle.model.proofs.Ledger.Entry.{Entry, isClose, All, closedIn, onDisk}
+use Rattle.model.proofs.Ledger.Entry.{Entry, recordOf, isClose, some, All, closedIn, onDisk}
 use Rattle.model.proofs.Ledger.Order.{on, boundary}
 use Rattle.model.proofs.Ledger.Sums.{true-false, all-map}
-use Rattle.model.proofs.Ledger.Picks.{closed-append}
+use Rattle.model.proofs.Ledger.Picks.{some-append, closed-append}
 use Rattle.model.proofs.Ledger.Word.{kept-open}
-use Rattle.model.proofs.Ledger.Lists.{all-flush, closed-flush, on-flush, on-more, off-more}
+use Rattle.model.proofs.Ledger.Lists.{all-flush, some-halves, closed-flush, on-flush, on-more, off-more}
 use Rattle.model.proofs.Ledger.Close.{closes-one}
-use Rattle.model.proofs.Store.View.{Accounts, Sets}
-use Rattle.model.proofs.Store.Flush.{left}
-use Rattle.model.proofs.Store.Logged.{all-more, boundary-logged}
+use Rattle.model.proofs.Store.View.{wordsFor, Accounts, Sets, Owners, Since}
+use Rattle.model.proofs.Store.Same.{slot-lt}
+use Rattle.model.proofs.Store.Flush.{left, words-for-flush}
+use Rattle.model.proofs.Store.Logged.{all-more, words-for-more, told-more, boundary-logged}
 
 -- an open transaction's reserved words count among its disk's
 pub reserved-on : (c : Core) (n : ℕ) → isOpen (c .table) n ≡ true → reservedAt (c .table) (placeOf (c .table) n) ≤ reservedOn (c .table) (diskOf c n)
@@ -36,7 +44,7 @@ reserved-on c n o =
     rw (here, ne-eqb n 0 (at .0), eq-eqb (diskOf c n) (diskOf c n) refl) at
     (term-le-sum (λ i. cond (servedBy t (diskOf c n) i) (reservedAt t i) 0) places (placeOf t n) (at .1))
 
--- Another open transaction has its place, its disk, its updates and its first record as before.
+-- Another open transaction has its place, its disk, its updates, its first record and its reserved words as before.
 module _ (t : Table) (ok : Tabled t) (n : ℕ) (opened : isOpen t n ≡ true) (u : ℕ) (also : isOpen t u ≡ true) (ne : u ≡ n → ⊥) where
   place-same : placeOf (without t n) u ≡ placeOf t u
   place-same = close-other t ok n opened u ne (open-place t u also .0)
@@ -52,6 +60,10 @@ module _ (t : Table) (ok : Tabled t) (n : ℕ) (opened : isOpen t n ≡ true) (u
   pub first-kept : firstAt (without t n) (placeOf (without t n) u) ≡ firstAt t (placeOf t u)
   unfolding without
   first-kept = rw place-same (other-first t ok (placeOf t n) 0 0 0 0 (open-place t n opened .1) (placeOf t u) apart)
+
+  pub reserved-kept : reservedAt (without t n) (placeOf (without t n) u) ≡ reservedAt t (placeOf t u)
+  unfolding without
+  reserved-kept = rw place-same (other-reserved t ok (placeOf t n) 0 0 0 0 (open-place t n opened .1) (placeOf t u) apart)
 
   pub has-kept : hasUpdate (without t n) (placeOf (without t n) u) ≡ hasUpdate t (placeOf t u)
   unfolding hasUpdate without
@@ -95,6 +107,26 @@ sets-closed {c} {r} ok n opened h l q e =
       fits = rw e (all-removed _ n (r .writeSets) (h .fits));
     }
 
+-- The owners stay: of those that are still open, none is the closed transaction, and their sets are kept.
+pub owners-closed : {c : Core} {w v : World} {r : Reference} → Tabled (c .table) → (n : ℕ) → isOpen (c .table) n ≡ true → Bounded (c .sizes)
+    → Owners c w r → ((i : ℕ) → i < total (c .sizes) → getD (v .work) i 0 ≡ getD (w .work) i 0) → (l : Logs) (q : Reference)
+    → q .writeSets ≡ removed n (r .writeSets) → Owners (withLog c l (without (c .table) n)) v q
+unfolding withLog ownerOf ownerAt
+owners-closed {c} {w} {v} {r} ok n opened b h same l q e =
+    record {
+      below = λ page slot p k. rw (word page slot p k) (h .below page slot p k);
+      written = λ page slot p k. rw (word page slot p k) (λ o. still page slot (was-open (c .table) ok n opened _ o) (h .written page slot p k));
+    }
+  where
+    word : (page slot : ℕ) → page < c .sizes .pages → slot < slotsIn (c .sizes) page
+        → getD (v .work) (slotBase (c .sizes) page slot) 0 ≡ getD (w .work) (slotBase (c .sizes) page slot) 0
+    word page slot p k = same _ (slot-lt (c .sizes) b page slot p k)
+
+    still : (page slot : ℕ) {u : ℕ} → (isOpen (c .table) u ≡ true) × (u ≡ n → ⊥)
+        → (isOpen (c .table) u ≡ true → writesSlot page slot (writesOf u (r .writeSets)) ≡ true)
+        → writesSlot page slot (writesOf u (q .writeSets)) ≡ true
+    still page slot {u} k has = rw (e, writes-removed-other n (r .writeSets) u (k .1)) (has (k .0))
+
 -- A closing record e added to the log: F and B become L and M, which have the same entries and e.
 module _ {x : ℕ} {home : ℕ → ℕ} {c : Core} {F B : List Entry} (a : Accounts x home c F B) (e : Entry) (L M : List Entry)
     (opened : isOpen (c .table) (e .number) ≡ true) (closes : isClose e ≡ true)
@@ -102,7 +134,9 @@ module _ {x : ℕ} {home : ℕ → ℕ} {c : Core} {F B : List Entry} (a : Accou
     (moved : (P : Entry → Type 0) → All P (F ++ B) → P e → All P (L ++ M))
     (closed : (t : ℕ) → closedIn (L ++ M) t ≡ (closedIn (F ++ B) t || eqb (e .number) t))
     (bounds : (q p d : ℕ) → boundary q p (on d F ++ on d B) ≡ true → boundary q p (on d L ++ on d M) ≡ true)
-    (l : Logs) (start-same : (d : ℕ) → startOf l d ≡ startOf (c .logs) d) (known : e .number < c .next) where
+    (l : Logs) (start-same : (d : ℕ) → startOf l d ≡ startOf (c .logs) d) (known : e .number < c .next)
+    (found : (p : Entry → Bool) → some p (F ++ B) ≡ true → some p (L ++ M) ≡ true)
+    (words : (t : ℕ) → (t ≡ e .number → ⊥) → wordsFor t (L ++ M) ≡ wordsFor t (F ++ B)) where
   abbrev table : Table
   table = without (c .table) (e .number)
 
@@ -118,6 +152,9 @@ module _ {x : ℕ} {home : ℕ → ℕ} {c : Core} {F B : List Entry} (a : Accou
 
   has-same : (u : ℕ) → isOpen table u ≡ true → hasUpdate table (placeOf table u) ≡ hasUpdate (c .table) (placeOf (c .table) u)
   has-same u o = has-kept (c .table) (a .tabled) (e .number) opened u (open-before u o .0) (open-before u o .1)
+
+  reserved-same : (u : ℕ) → isOpen table u ≡ true → reservedAt table (placeOf table u) ≡ reservedAt (c .table) (placeOf (c .table) u)
+  reserved-same u o = reserved-kept (c .table) (a .tabled) (e .number) opened u (open-before u o .0) (open-before u o .1)
 
   -- a transaction that is not open is closed in the log, now also this one
   settled : (t : ℕ) → (isOpen (c .table) t ≡ false → closedIn (F ++ B) t ≡ true) → isOpen table t ≡ false → closedIn (L ++ M) t ≡ true
@@ -145,10 +182,23 @@ module _ {x : ℕ} {home : ℕ → ℕ} {c : Core} {F B : List Entry} (a : Accou
         firsts =
             λ u o h. rw (first-same u o, disk-same u o, start-same)
             (bounds _ _ (diskOf c u) (a .firsts u (open-before u o .0) (sym (has-same u o) ∙ h)));
+        disks = λ u o. rw (disk-same u o) (a .disks u (open-before u o .0));
+        started = λ u o h. rw (first-same u o) (found _ (a .started u (open-before u o .0) (sym (has-same u o) ∙ h)));
+        reserved =
+            λ u o z. let k = open-before u o in
+            reserved-same u o ∙ a .reserved u (k .0) (exempt u (k .1) (k .0)) ∙ ap (λ (n : ℕ). 2 + n) (sym (words u (k .1)));
         settled =
             moved _ (all-map (λ q h. settled (q .number) h) (F ++ B) (a .settled)) (settled (e .number) (λ o. true-false opened o));
         numbered = moved _ (a .numbered) known;
       }
+
+-- One entry more: what the log had, it has, and the words of other transactions are as many.
+module _ (F B : List Entry) (e : Entry) where
+  pub found-more : (p : Entry → Bool) → some p (F ++ B) ≡ true → some p (F ++ (B ++ e ∷ [])) ≡ true
+  found-more p h = rw (← append-assoc F B (e ∷ []), some-append p (F ++ B) (e ∷ []), h)
+
+  pub words-for-other : (t : ℕ) → (t ≡ e .number → ⊥) → wordsFor t (F ++ (B ++ e ∷ [])) ≡ wordsFor t (F ++ B)
+  words-for-other t ne = words-for-more F B e t ∙ rw (ne-eqb (e .number) t (λ z. ne (sym z))) (add-zero (wordsFor t (F ++ B)))
 
 -- A commit's lists: the closing record behind the buffered entries of its disk, and all of these flushed.
 module _ (F B : List Entry) (e : Entry) where
@@ -175,3 +225,21 @@ module _ (F B : List Entry) (e : Entry) where
   bounds q p d h =
       lists (λ L M. boundary q p (on d L ++ on d M) ≡ true)
       (rw (on-flush (e .disk) F (B ++ e ∷ []) d) (boundary-logged q p d F B e h))
+
+  pub found : (p : Entry → Bool) → some p (F ++ B) ≡ true → some p (committedLog ++ left (e .disk) B) ≡ true
+  unfolding on
+  found p h =
+      lists (λ L M. some p (L ++ M) ≡ true) (simp (append-assoc, some-append, some-halves) (simp some-append at (found-more F B e p h)))
+
+  pub words : (t : ℕ) → (t ≡ e .number → ⊥) → wordsFor t (committedLog ++ left (e .disk) B) ≡ wordsFor t (F ++ B)
+  unfolding on
+  words t ne =
+      lists (λ L M. wordsFor t (L ++ M) ≡ wordsFor t (F ++ B))
+      (words-for-flush t (onDisk (e .disk)) F (B ++ e ∷ []) ∙ words-for-other F B e t ne)
+
+  -- the call put the closing record
+  pub told : (puts : List Put) (d : ℕ) → Since (recordsOn d puts) (on d F ++ on d B)
+      → Since (recordsOn d (puts ++ record { disk = e .disk; content = recordOf e } ∷ [])) (on d committedLog ++ on d (left (e .disk) B))
+  told puts d k =
+      lists (λ L M. Since (recordsOn d (puts ++ record { disk = e .disk; content = recordOf e } ∷ [])) (on d L ++ on d M))
+      (rw (on-flush (e .disk) F (B ++ e ∷ []) d) (told-more puts F B e (record { disk = e .disk; content = recordOf e }) refl refl d k))

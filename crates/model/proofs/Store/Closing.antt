@@ -5,7 +5,7 @@ use mathlib.Core.List.{List, [], _∷_, _++_, map}
 use mathlib.Core.Bool.{true, false}
 use Prim.Native.Nat.{ℕ, _+_, _≤_, _<_}
 use native.Mathlib.Omega.{arith}
-use native.Mathlib.Decide.{decLt}
+use native.Mathlib.Decide.{decLt, ℕ-discrete}
 use lib.ListN.{getD}
 use Rattle.model.specs.declared.Sizes.{Sizes}
 use Rattle.model.specs.declared.Core.{Core}
@@ -14,12 +14,13 @@ use Rattle.model.specs.Record.{encode}
 use Rattle.model.specs.Anchor.{backupAt}
 use Rattle.model.specs.World.{World, Action, perform, stores, run}
 use Rattle.model.specs.Memory.{bufferAt, epochAt, epochOf}
-use Rattle.model.specs.State.{startOf, fillOf, endOf, flushed, withLog, without, isOpen}
+use Rattle.model.specs.State.{limit, startOf, tailOf, fillOf, endOf, flushed, withLog, without, isOpen}
 use Rattle.model.specs.Append.{Appended, append, flush}
 use Rattle.model.specs.Transaction.{diskOf}
 use Rattle.model.specs.Reference.{Reference, writesOf, removed, applied, wordsIn}
+use Rattle.model.specs.History.{Put}
 use Rattle.model.proofs.Lengths.{Lengths, lengths-right}
-use Rattle.model.proofs.Run.{SameLengths, same-lengths-trans, perform-lengths}
+use Rattle.model.proofs.Run.{SameLengths, same-lengths-trans, perform-lengths, run-lengths}
 use Rattle.model.proofs.Flush.{OnlyLogs}
 use Rattle.model.proofs.Geometry.{pageOf, slotStart, slot-in}
 use Rattle.model.proofs.Slots.{patchOf, Shaped, words-applied, applied-shaped}
@@ -34,14 +35,13 @@ use Rattle.model.proofs.Ledger.Ordered.{ordered-commit}
 use Rattle.model.proofs.Ledger.Good.{Good, good-same}
 use Rattle.model.proofs.Ledger.Close.{commit-good}
 use Rattle.model.proofs.Link.Words.{Fit, Link, lengths-perform}
-use Rattle.model.proofs.Link.Flush.{flush-link, flush-only, flush-cut, cut-only, arrays-flushed, start-flushed}
+use Rattle.model.proofs.Link.Flush.{flush-link, flush-only, flush-cut, cut-only, arrays-flushed, start-flushed, ends-flushed}
 use Rattle.model.proofs.Link.Buffered.{Small, Longer, InBuffer, owners-same, epochs-same}
 use Rattle.model.proofs.Store.View.{Kept, view, Devices, Safe, Accounts, Epochs, Serving, before}
-use Rattle.model.proofs.Store.Crash.{kept}
 use Rattle.model.proofs.Store.Flush.{devices-kept, left}
 use Rattle.model.proofs.Store.Logged.{longer, in-buffer, link-logged, ordered-logged, logged-stores}
 use Rattle.model.proofs.Store.Linked.{kept-linked}
-use Rattle.model.proofs.Store.Closed.{all-writes, sets-closed, accounts-closed, committedLog, lists, moved, closed, bounds}
+use Rattle.model.proofs.Store.Closed.{all-writes, sets-closed, owners-closed, accounts-closed, committedLog, lists, moved, closed, bounds, found, words, told}
 
 -- the reference after the commit of a transaction
 abbrev pub committedReference : Reference → ℕ → Reference
@@ -49,11 +49,12 @@ committedReference r n =
     record { sizes = r .sizes; committed = applied (r .sizes) (writesOf n (r .writeSets)) (r .committed); writeSets = removed n (r .writeSets) }
 
 -- The closing record e of an open transaction, appended where the buffer has room, and its disk flushed.
-module _ {home : ℕ → ℕ} {c : Core} {w : World} {r : Reference} {F B : List Entry} (g : Serving 0 home c w r F B) (e : Entry)
+module _ {home : ℕ → ℕ} {puts : List Put} {c : Core} {w : World} {r : Reference} {F B : List Entry} (g : Serving 0 home puts c w r F B) (e : Entry)
     (opened : isOpen (c .table) (e .number) ≡ true) (closes : isClose e ≡ true) (there : e .disk ≡ diskOf c (e .number))
     (below : e .disk < c .sizes .disks) (small : Small (c .sizes) (c .logs)) (room : fillOf (c .logs) (e .disk) + sizeOf e ≤ 64)
     (at-end : e .position ≡ endOf (c .logs) (e .disk)) (fit : Fit (c .sizes) e)
-    (space : endOf (c .logs) (e .disk) + sizeOf e ≤ startOf (c .logs) (e .disk) + ringOf (c .sizes) (e .disk)) where
+    (space : endOf (c .logs) (e .disk) + sizeOf e ≤ startOf (c .logs) (e .disk) + ringOf (c .sizes) (e .disk))
+    (in-limit : endOf (c .logs) (e .disk) + sizeOf e ≤ limit) where
   abbrev added : Appended
   added = append (c .sizes) (c .logs) (w .work) (e .disk) (encode (recordOf e))
 
@@ -86,13 +87,13 @@ module _ {home : ℕ → ℕ} {c : Core} {w : World} {r : Reference} {F B : List
   unclosed = g .safe .good .unclosed (e .number) opened
 
   more : Longer (c .sizes) (e .disk) (sizeOf e) (c .logs) (added .logs)
-  more = longer (g .safe) e below here small room at-end unclosed fit
+  more = longer (g .safe) e below here small room at-end unclosed fit space in-limit
 
   buffer : InBuffer (c .sizes) (e .disk) w addedWorld
-  buffer = in-buffer (g .safe) e below here small room at-end unclosed fit
+  buffer = in-buffer (g .safe) e below here small room at-end unclosed fit space in-limit
 
   linked : Link (c .sizes) (added .logs) addedWorld F (B ++ e ∷ [])
-  linked = link-logged (g .safe) e below here small room at-end unclosed fit
+  linked = link-logged (g .safe) e below here small room at-end unclosed fit space in-limit
 
   right : Lengths (c .sizes) addedWorld
   right = lengths-perform (added .actions) (lengths-right (c .sizes) w (g .safe .devices .lengths))
@@ -105,15 +106,15 @@ module _ {home : ℕ → ℕ} {c : Core} {w : World} {r : Reference} {F B : List
 
   -- the append stores nothing
   pub closing-append : stores (added .actions) ≡ 0
-  closing-append = logged-stores (g .safe) e below here small room at-end unclosed fit
+  closing-append = logged-stores (g .safe) e below here small room at-end unclosed fit space in-limit
 
   -- cut inside that flush, nothing is lost
   pub closing-cut : (k : ℕ) → k < stores flushing → Kept (run k flushing addedWorld) r
   closing-cut k h =
       let part-way = cut-only (c .sizes) (added .logs) addedWorld (e .disk) k h in
-      kept-linked (g .safe .link) (flush-cut linked right (more .arrays) (e .disk) below ring-room k h) (g .safe .devices .sizes)
-      (part-way .anchor-same ∙ buffer .anchor-same) (part-way .backups-same ∙ buffer .backups-same) (g .safe .devices .starts) (more .start-same)
-      (kept (g .safe))
+      kept-linked (g .safe) (flush-cut linked right (more .arrays) (e .disk) below ring-room k h)
+      (part-way .anchor-same ∙ buffer .anchor-same) (part-way .backups-same ∙ buffer .backups-same)
+      (same-lengths-trans (run-lengths k flushing addedWorld) (perform-lengths (added .actions) w)) (more .start-same)
 
   lengths : SameLengths doneWorld w
   lengths = same-lengths-trans (perform-lengths flushing addedWorld) (perform-lengths (added .actions) w)
@@ -126,7 +127,17 @@ module _ {home : ℕ → ℕ} {c : Core} {w : World} {r : Reference} {F B : List
       devices-kept (g .safe .devices) (flushed (added .logs) (e .disk)) (without (c .table) (e .number)) doneWorld start-same
       (arrays-flushed (c .sizes) (added .logs) (e .disk) (more .arrays) below) (only .anchor-same ∙ buffer .anchor-same) lengths
 
-  -- the copy epochs stay
+  -- each log's end is where it was, on the commit's disk behind the closing record
+  ends : (d : ℕ) → d < c .sizes .disks → Dec (d ≡ e .disk)
+      → (endOf (added .logs) d ≤ startOf (added .logs) d + ringOf (c .sizes) d) × (endOf (added .logs) d ≤ limit)
+  unfolding endOf
+  ends d h (yes at) = rw at (ring-room, omega (arith, more .end-longer))
+  ends d h (no ne) = rw (more .start-same d, more .tail-same d ne, more .fill-same d ne) (g .safe .ends d h)
+
+  -- the owners and the copy epochs stay
+  owner-same : (i : ℕ) → i < total (c .sizes) → getD (doneWorld .work) i 0 ≡ getD (w .work) i 0
+  owner-same i h = ap (λ (m : List ℕ). getD m i 0) (only .work-same) ∙ owners-same buffer i h
+
   epoch-same : (p : ℕ) → epochOf (c .sizes) (doneWorld .work) p ≡ epochOf (c .sizes) (w .work) p
   unfolding epochOf epochAt
   epoch-same p =
@@ -151,10 +162,7 @@ module _ {home : ℕ → ℕ} {c : Core} {w : World} {r : Reference} {F B : List
         current = λ i h. ap (λ (m : List ℕ). getD m (backupAt (c .sizes) (c .epoch) + i) 0) (sym (only .backups-same ∙ buffer .backups-same));
         other = λ i h. ap (λ (m : List ℕ). getD m (backupAt (c .sizes) (c .epoch + 1) + i) 0) (sym (only .backups-same ∙ buffer .backups-same));
         epochs = λ i h. sym (epoch-same (pageOf (c .sizes) i));
-        owners =
-            λ i h. sym
-            (ap (λ (m : List ℕ). getD m (slotStart (c .sizes) i) 0) (only .work-same)
-            ∙ owners-same buffer (slotStart (c .sizes) i) (slot-in (c .sizes) i h .start-lt));
+        owners = λ i h. sym (owner-same (slotStart (c .sizes) i) (slot-in (c .sizes) i h .start-lt));
         committed = λ i h. sym (words-committed i);
         writes =
             λ u o. ap (map (patchOf (c .sizes)))
@@ -180,8 +188,11 @@ module _ {home : ℕ → ℕ} {c : Core} {w : World} {r : Reference} {F B : List
         ordered =
             subst (λ (start : ℕ → ℕ). Ordered (c .sizes .disks) start home gone rest)
             (fun-ext (λ d. sym (start-flushed (added .logs) (e .disk) d)))
-            (ordered-commit B e (ordered-logged (g .safe) e below here small room at-end unclosed fit));
+            (ordered-commit B e (ordered-logged (g .safe) e below here small room at-end unclosed fit space in-limit));
         fit = moved F B e (Fit (c .sizes)) (g .safe .fit) fit;
+        ends =
+            λ d h. rw (start-flushed (added .logs) (e .disk) d, ends-flushed (c .sizes) (added .logs) (e .disk) (more .arrays) below d)
+            (ends d h (ℕ-discrete d (e .disk)));
         sizes = g .safe .sizes;
         shaped =
             subst (λ (s : Sizes). Shaped (c .sizes) (applied s (writesOf (e .number) (r .writeSets)) (r .committed))) (sym (g .safe .sizes))
@@ -200,7 +211,7 @@ module _ {home : ℕ → ℕ} {c : Core} {w : World} {r : Reference} {F B : List
   accounts : Accounts 0 home doneCore gone rest
   accounts =
       accounts-closed (g .accounts) e gone rest opened closes (λ u ne o z. open-place (c .table) u o .0 z) (moved F B e) (closed F B e closes) (bounds F B e)
-      (flushed (added .logs) (e .disk)) start-same known
+      (flushed (added .logs) (e .disk)) start-same known (found F B e) (words F B e)
 
   not-change : {X : Type 0} → isClose e ≡ false → X
   not-change o = true-false closes o
@@ -217,7 +228,7 @@ module _ {home : ℕ → ℕ} {c : Core} {w : World} {r : Reference} {F B : List
       }
 
   -- whole, the transaction is committed
-  pub closing-serves : Serving 0 home doneCore doneWorld doneReference gone rest
+  pub closing-serves : Serving 0 home (puts ++ record { disk = e .disk; content = recordOf e } ∷ []) doneCore doneWorld doneReference gone rest
   unfolding withLog
   closing-serves =
       record {
@@ -226,4 +237,8 @@ module _ {home : ℕ → ℕ} {c : Core} {w : World} {r : Reference} {F B : List
         accounts = accounts;
         epochs = epochs;
         sets = sets-closed (g .accounts .tabled) (e .number) opened (g .sets) (flushed (added .logs) (e .disk)) doneReference refl;
+        owners =
+            owners-closed (g .accounts .tabled) (e .number) opened (g .safe .devices .bounds) (g .owners) owner-same
+            (flushed (added .logs) (e .disk)) doneReference refl;
+        told = λ d h. told F B e puts d (g .told d h);
       }

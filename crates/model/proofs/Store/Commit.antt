@@ -1,7 +1,7 @@
 -- Commit: its closing record is appended, after a flush if the buffer is full, and its disk is flushed. An accepted commit leaves
 -- an open store with the transaction's writes committed; one that is cut loses nothing that was committed before.
 use mathlib.Core.Path.{_≡_, refl, sym, ap, _∙_}
-use mathlib.Core.List.{List, [], _++_, append-assoc}
+use mathlib.Core.List.{List, [], _∷_, _++_, append-assoc}
 use mathlib.Core.Bool.{true, false}
 use Prim.Native.Nat.{ℕ, _+_, _-_, _≤_, _<_}
 use native.Mathlib.Omega.{arith}
@@ -12,13 +12,14 @@ use Rattle.model.specs.declared.Core.{Core}
 use Rattle.model.specs.Sizes.{ringOf}
 use Rattle.model.specs.Record.{encode, close, commitKind}
 use Rattle.model.specs.World.{World, Action, perform, stores, run, finishes}
-use Rattle.model.specs.State.{startOf, fillOf, endOf, flushed, withLog, without, placeOf, isOpen}
+use Rattle.model.specs.State.{limit, startOf, fillOf, endOf, flushed, withLog, without, placeOf, isOpen}
 use Rattle.model.specs.Refusal.{accepted, verdict}
 use Rattle.model.specs.Causes.{notOpen}
 use Rattle.model.specs.Append.{Appended, append, flush}
 use Rattle.model.specs.Transaction.{diskOf, commitRows, commitTask}
 use Rattle.model.specs.Call.{commit}
 use Rattle.model.specs.Reference.{Reference, afterTaken}
+use Rattle.model.specs.History.{Put, putBy}
 use Rattle.model.proofs.Run.{perform-append, stores-append, run-append, run-cut}
 use Rattle.model.proofs.Places.{open-place, place-holds}
 use Rattle.model.proofs.Ledger.Entry.{Entry, recordOf, isClose}
@@ -38,6 +39,7 @@ record Allowed (c : Core) (n : ℕ) : Type 0 where
   below : diskOf c n < c .sizes .disks
   small : Small (c .sizes) (c .logs)
   space : endOf (c .logs) (diskOf c n) + 2 ≤ startOf (c .logs) (diskOf c n) + ringOf (c .sizes) (diskOf c n)
+  in-limit : endOf (c .logs) (diskOf c n) + 2 ≤ limit
 
 allowed : (c : Core) (w : World) (n : ℕ) → verdict (commitRows c w n) ≡ accepted → Allowed c n
 unfolding commitRows notOpen diskOf endOf
@@ -57,6 +59,7 @@ allowed c w n e =
       below = place .disk;
       small = λ d h. disk-sound c d sound h .fill;
       space = omega (arith, disk .room, disk .ordered, place .reserved, reserved-on c n o);
+      in-limit = omega (arith, disk .limit, place .reserved, reserved-on c n o);
     }
 
 -- the closing record of transaction n at position p of disk d
@@ -80,9 +83,9 @@ module _ (d p n : ℕ) where
         slotted = λ z. true-false refl z;
       }
 
-module _ {c : Core} {w : World} {r : Reference} (g : Served c w r) (n : ℕ) (a : Allowed c n) where
-  start : Ready 0 (g .home) c w r (diskOf c n) 2
-  start = ready (g .serving) (diskOf c n) 2 (a .below) (a .small) (omega (arith, a .space)) (omega arith)
+module _ {puts : List Put} {c : Core} {w : World} {r : Reference} (g : Served puts c w r) (n : ℕ) (a : Allowed c n) where
+  start : Ready 0 (g .home) puts c w r (diskOf c n) 2
+  start = ready (g .serving) (diskOf c n) 2 (a .below) (a .small) (omega arith)
 
   abbrev e : Entry
   e = closing (diskOf c n) (endOf (start .logs) (diskOf c n)) n
@@ -127,30 +130,33 @@ module _ {c : Core} {w : World} {r : Reference} (g : Served c w r) (n : ℕ) (a 
   space =
       omega (arith, start .ends, start .starts (diskOf c n), a .space, closing-size (diskOf c n) (endOf (start .logs) (diskOf c n)) n)
 
+  in-limit : endOf (start .logs) (diskOf c n) + sizeOf e ≤ limit
+  in-limit = omega (arith, start .ends, a .in-limit, closing-size (diskOf c n) (endOf (start .logs) (diskOf c n)) n)
+
   abbrev closes : isClose e ≡ true
   closes = closing-closes (diskOf c n) (endOf (start .logs) (diskOf c n)) n
 
   abbrev fit : Fit (c .sizes) e
   fit = closing-fit (diskOf c n) (endOf (start .logs) (diskOf c n)) n (c .sizes) some
 
-  serves : Served (withLog c (flushed (added .logs) (diskOf c n)) (without (c .table) n)) (perform flushing (perform (added .actions) world))
-      (committedReference r n)
-  unfolding withLog diskOf
+  serves : Served (puts ++ record { disk = diskOf c n; content = close commitKind n } ∷ []) (withLog c (flushed (added .logs) (diskOf c n)) (without (c .table) n))
+      (perform flushing (perform (added .actions) world)) (committedReference r n)
+  unfolding withLog diskOf recordOf isClose
   serves =
       record {
         home = g .home;
         flushed = _;
         buffered = _;
-        serving = closing-serves (start .serving) e (a .opened) closes refl (a .below) (start .small) room refl fit space;
+        serving = closing-serves (start .serving) e (a .opened) closes refl (a .below) (start .small) room refl fit space in-limit;
       }
 
   cut : (k : ℕ) → k < stores flushing → Kept (run k flushing (perform (added .actions) world)) r
   unfolding withLog diskOf
-  cut k h = closing-cut (start .serving) e (a .opened) closes refl (a .below) (start .small) room refl fit space k h
+  cut k h = closing-cut (start .serving) e (a .opened) closes refl (a .below) (start .small) room refl fit space in-limit k h
 
   no-stores : stores (added .actions) ≡ 0
   unfolding withLog diskOf
-  no-stores = closing-append (start .serving) e (a .opened) closes refl (a .below) (start .small) room refl fit space
+  no-stores = closing-append (start .serving) e (a .opened) closes refl (a .below) (start .small) room refl fit space in-limit
 
   -- the list cut before its end: inside the first flush, or inside the second
   cut-anywhere : (k : ℕ) → k < stores (start .flushing ++ (added .actions ++ flushing))
@@ -169,15 +175,15 @@ module _ {c : Core} {w : World} {r : Reference} (g : Served c w r) (n : ℕ) (a 
           (cut (k - stores (start .flushing) - stores (added .actions)) (omega (arith, no-stores)))
 
 -- An accepted commit keeps the store open, and commits the transaction.
-pub commit-serves : {c : Core} {w : World} {r : Reference} → Served c w r → (number budget n : ℕ)
+pub commit-serves : {puts : List Put} {c : Core} {w : World} {r : Reference} → Served puts c w r → (number budget n : ℕ)
     → verdict (commitRows c w number) ≡ accepted
-    → Served (commitTask c w number .core) (perform (commitTask c w number .actions) w) (afterTaken (commit number budget) n r)
+    → Served (puts ++ putBy (commit number budget) c w) (commitTask c w number .core) (perform (commitTask c w number .actions) w) (afterTaken (commit number budget) n r)
 commit-serves {c} {w} g number budget n v =
     let a = allowed c w number v in
     rw (task g number a, perform-append, perform-append) (serves g number a)
 
 -- Cut, it leaves what was committed before it.
-pub commit-cut : {c : Core} {w : World} {r : Reference} → Served c w r → (number budget : ℕ)
+pub commit-cut : {puts : List Put} {c : Core} {w : World} {r : Reference} → Served puts c w r → (number budget : ℕ)
     → verdict (commitRows c w number) ≡ accepted → finishes budget (commitTask c w number .actions) ≡ false
     → Kept (run budget (commitTask c w number .actions) w) r
 unfolding finishes

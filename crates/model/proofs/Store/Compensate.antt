@@ -15,12 +15,13 @@ use Rattle.model.specs.Record.{encode, compensationKind}
 use Rattle.model.specs.Scan.{Update}
 use Rattle.model.specs.World.{World, Action, pages, perform, stores, run}
 use Rattle.model.specs.Memory.{epochAt, epochOf}
-use Rattle.model.specs.State.{startOf, endOf, withLog, isOpen, placeOf, hasUpdate}
+use Rattle.model.specs.State.{limit, startOf, endOf, withLog, isOpen, placeOf, hasUpdate}
 use Rattle.model.specs.Append.{Appended}
 use Rattle.model.specs.Transaction.{diskOf}
 use Rattle.model.specs.Abort.{xorIn, compensate}
 use Rattle.model.specs.Image.{xorAt}
 use Rattle.model.specs.Reference.{Reference}
+use Rattle.model.specs.History.{Put, compensation}
 use Rattle.model.proofs.Run.{perform-append, stores-written}
 use Rattle.model.proofs.Lengths.{lengths-right}
 use Rattle.model.proofs.Geometry.{pageOf, slotStart, slot-start, slot-in, slot-end-total}
@@ -34,9 +35,10 @@ use Rattle.model.proofs.Ledger.Update.{compensate-good}
 use Rattle.model.proofs.Link.Words.{Fit}
 use Rattle.model.proofs.Link.Buffered.{Small, InBuffer, owners-same, epochs-same}
 use Rattle.model.proofs.Store.View.{Kept, view, Serving}
+use Rattle.model.proofs.Store.Same.{owners-same as owners-kept}
 use Rattle.model.proofs.Store.Logged.{Written}
 use Rattle.model.proofs.Store.LogEnd.{capped, early}
-use Rattle.model.proofs.Store.Put.{open-used, MayPut, put, put-longer, put-in-buffer, F1, B1, made-good, put-sums, put-safe, put-epochs, put-own, put-cut}
+use Rattle.model.proofs.Store.Put.{open-used, MayPut, put, put-longer, put-in-buffer, F1, B1, made-good, put-sums, put-safe, put-epochs, put-own, put-told, put-cut}
 
 -- An update as an abort reads it names a slot and has its width.
 pub record Slotted (s : Sizes) (u : Update) : Type 0 where
@@ -44,22 +46,25 @@ pub record Slotted (s : Sizes) (u : Update) : Type 0 where
   pub slot-in : u .slot < slotsIn s (u .page)
   pub width : length (u .diff) ≡ widthIn s (u .page)
 
--- What some compensations leave: the log of disk d has n words more, and the transaction's entries add `more` besides.
-pub record Compensated (t : ℕ) (home : ℕ → ℕ) (c : Core) (w : World) (r : Reference) (F B : List Entry) (d n : ℕ) (more : ℕ → ℕ) (done : Appended) : Type 0 where
+-- What some compensations leave: the log of disk d has n words more, and the transaction's entries add `more` besides;
+-- `after` is what is then told of the logs.
+pub record Compensated (t : ℕ) (home : ℕ → ℕ) (after : List Put) (c : Core) (w : World) (r : Reference) (F B : List Entry) (d n : ℕ) (more : ℕ → ℕ) (done : Appended) : Type 0 where
   pub flushed : List Entry
   pub buffered : List Entry
-  pub serving : Serving t home (withLog c (done .logs) (c .table)) (perform (done .actions) w) r flushed buffered
+  pub serving : Serving t home after (withLog c (done .logs) (c .table)) (perform (done .actions) w) r flushed buffered
   pub sums : (i : ℕ) → ofTxn i t (flushed ++ buffered) ≡ ofTxn i t (F ++ B) ⊕ more i
   pub starts : (e : ℕ) → startOf (done .logs) e ≡ startOf (c .logs) e
   pub ends : endOf (done .logs) d ≡ endOf (c .logs) d + n
   pub small : Small (c .sizes) (done .logs)
+  pub epochs : (page : ℕ) → epochOf (c .sizes) (perform (done .actions) w .work) page ≡ epochOf (c .sizes) (w .work) page
   pub cut : (k : ℕ) → k < stores (done .actions) → Kept (run k (done .actions) w) r
 
 -- One update u of transaction t taken back, with room for its record.
-module _ {t : ℕ} {home : ℕ → ℕ} {c : Core} {w : World} {r : Reference} {F B : List Entry} (g : Serving t home c w r F B)
+module _ {t : ℕ} {home : ℕ → ℕ} {puts : List Put} {c : Core} {w : World} {r : Reference} {F B : List Entry} (g : Serving t home puts c w r F B)
     (opened : isOpen (c .table) t ≡ true) (has : hasUpdate (c .table) (placeOf (c .table) t) ≡ true) (below : diskOf c t < c .sizes .disks)
     (small : Small (c .sizes) (c .logs)) (u : Update) (slotted : Slotted (c .sizes) u)
-    (room : endOf (c .logs) (diskOf c t) + (3 + length (u .diff)) ≤ startOf (c .logs) (diskOf c t) + ringOf (c .sizes) (diskOf c t)) where
+    (room : endOf (c .logs) (diskOf c t) + (3 + length (u .diff)) ≤ startOf (c .logs) (diskOf c t) + ringOf (c .sizes) (diskOf c t))
+    (in-limit : endOf (c .logs) (diskOf c t) + (3 + length (u .diff)) ≤ limit) where
   abbrev s : Sizes
   s = c .sizes
 
@@ -119,7 +124,8 @@ module _ {t : ℕ} {home : ℕ → ℕ} {c : Core} {w : World} {r : Reference} {
         small = small;
         short = omega (arith, size, slotted .width, g .safe .devices .bounds .used (u .page) (slotted .page-in) .width-max);
         at-end = refl;
-        room = omega arith;
+        in-ring = rw size room;
+        in-limit = rw size in-limit;
         fit = fit;
       }
 
@@ -194,7 +200,15 @@ module _ {t : ℕ} {home : ℕ → ℕ} {c : Core} {w : World} {r : Reference} {
         buffers-same = λ i h k. refl;
       }
 
-  serving : Serving t home (withLog c (added .logs) (c .table)) w2 r F' B'
+  -- what is told of the logs, with its record
+  abbrev told : List Put
+  told = puts ++ record { disk = diskOf c t; content = compensation c w t u } ∷ []
+
+  is-told : compensation c w t u ≡ recordOf e
+  unfolding compensation recordOf isClose
+  is-told = refl
+
+  serving : Serving t home told (withLog c (added .logs) (c .table)) w2 r F' B'
   unfolding withLog
   serving =
       record {
@@ -205,6 +219,8 @@ module _ {t : ℕ} {home : ℕ → ℕ} {c : Core} {w : World} {r : Reference} {
             put-epochs g e may written (λ i h. refl) (λ h. capped g e (u .page) (slotted .page-in) refl)
             (λ h k. early g e (u .page) (slotted .page-in) refl below refl h) (c .table);
         sets = record { distinct = g .sets .distinct; has = g .sets .has; fits = g .sets .fits };
+        owners = owners-kept (g .safe .devices .bounds) refl refl refl (owners-same buffer) (g .owners);
+        told = put-told g e may (record { disk = d; content = compensation c w t u }) refl is-told;
       }
 
   -- the record put, then the slot's words
@@ -228,7 +244,7 @@ module _ {t : ℕ} {home : ℕ → ℕ} {c : Core} {w : World} {r : Reference} {
   unfolding adds isClose
   sums i = put-sums g e may (λ q. mask (eqb (q .number) t) (adds i q)) ∙ rw (eq-eqb t t refl)
 
-  pub compensated : Compensated t home c w r F B d (3 + length (u .diff)) (share at (u .diff)) (compensate s (c .logs) w t d u)
+  pub compensated : Compensated t home (puts ++ record { disk = diskOf c t; content = compensation c w t u } ∷ []) c w r F B d (3 + length (u .diff)) (share at (u .diff)) (compensate s (c .logs) w t d u)
   compensated =
       rw is-put
       (record {
@@ -239,5 +255,6 @@ module _ {t : ℕ} {home : ℕ → ℕ} {c : Core} {w : World} {r : Reference} {
         starts = put-longer g e may .start-same;
         ends = put-longer g e may .end-longer ∙ ap (λ (n : ℕ). endOf (c .logs) d + n) size;
         small = put-longer g e may .small;
+        epochs = λ page. rw world (sym (epochs-after page));
         cut = put-cut g e may slot-words storeless;
       })

@@ -13,15 +13,14 @@ use Rattle.model.specs.declared.Sizes.{Sizes}
 use Rattle.model.specs.declared.Logs.{Logs}
 use Rattle.model.specs.declared.Core.{Core}
 use Rattle.model.specs.Sizes.{pageBase, pageWords, total}
-use Rattle.model.specs.Anchor.{sizesOn}
 use Rattle.model.specs.World.{World, backups, work, store, write, perform, run, finishes, each}
 use Rattle.model.specs.Memory.{epochAt, epochOf, lengthsRight}
 use Rattle.model.specs.State.{startOf, fillOf, endOf}
 use Rattle.model.specs.Refusal.{accepted, verdict}
 use Rattle.model.specs.Causes.{whenOpen, tailOn}
 use Rattle.model.specs.Checkpoint.{perDisk, checkpointBeginRows, checkpointBeginTask, lowestToCopy, checkpointStepRows, copyPage, checkpointStepTask}
-use Rattle.model.specs.Image.{Image, imageOf, restarted}
 use Rattle.model.specs.Reference.{Reference}
+use Rattle.model.specs.History.{Put}
 use Rattle.model.proofs.Below.{getD-list}
 use Rattle.model.proofs.Geometry.{pageOf, page-of, page-in, slotStart, slot-in}
 use Rattle.model.proofs.Ledger.Entry.{Entry, All, spanning}
@@ -33,11 +32,12 @@ use Rattle.model.proofs.Ledger.Sums.{true-false, all-map}
 use Rattle.model.proofs.Ledger.Good.{Good, good-same}
 use Rattle.model.proofs.Ledger.Checkpoint.{copy-good}
 use Rattle.model.proofs.Link.Words.{Link}
-use Rattle.model.proofs.Restart.Aside.{Aside, image-kept-run, aside-append, aside-backup}
+use Rattle.model.proofs.Restart.Aside.{Aside, aside-append, aside-backup}
 use Rattle.model.proofs.Store.View.{Kept, view, before, Devices, Epochs, Serving, Served}
-use Rattle.model.proofs.Store.Rows.{row-passed, stage-row, copying-not-open, copying-serving, serving-sound, sizes-sound, disk-sound}
+use Rattle.model.proofs.Store.Rows.{row-passed, stage-row, copying-not-open, copying-serving, serving-sound, disk-sound}
 use Rattle.model.proofs.Store.Page.{at, words, after, covers, spans, copying, page-lt, page-first, stepped, fits, size-words, other-word, current-word, epoch-page, epoch-other, owner-word, buffer-words}
-use Rattle.model.proofs.Store.Same.{devices-same, accounts-same, sets-same}
+use Rattle.model.proofs.Store.Same.{devices-same, accounts-same, sets-same, owners-same}
+use Rattle.model.proofs.Store.Steady.{kept-aside}
 
 -- ---- checkpoint begin
 -- a number for each disk
@@ -51,8 +51,8 @@ pub log-end : {s : Sizes} {l : Logs} {w : World} {F B : List Entry} → Link s l
 unfolding endOf
 log-end {F = F} {B = B} k d h = omega (arith, k .tail d h, k .fill d h, length-words-append (on d F) (on d B))
 
-module _ {home : ℕ → ℕ} {c : Core} {w : World} {r : Reference} {F B : List Entry}
-    (ok : verdict (checkpointBeginRows c w) ≡ accepted) (v : Serving 0 home c w r F B) where
+module _ {home : ℕ → ℕ} {puts : List Put} {c : Core} {w : World} {r : Reference} {F B : List Entry}
+    (ok : verdict (checkpointBeginRows c w) ≡ accepted) (v : Serving 0 home puts c w r F B) where
   opened : whenOpen (c .stage) ≡ true
   unfolding checkpointBeginRows
   opened = stage-row whenOpen c (row-passed _ _ ok .0) .0
@@ -70,7 +70,7 @@ module _ {home : ℕ → ℕ} {c : Core} {w : World} {r : Reference} {F B : List
             (boundary-end (startOf (c .logs) d) (on d F ++ on d B));
       }
 
-  begin-serving : Serving 0 home (checkpointBeginTask c w .core) w r F B
+  begin-serving : Serving 0 home puts (checkpointBeginTask c w .core) w r F B
   unfolding checkpointBeginTask view
   begin-serving =
       record {
@@ -81,16 +81,19 @@ module _ {home : ℕ → ℕ} {c : Core} {w : World} {r : Reference} {F B : List
           link = v .safe .link;
           ordered = v .safe .ordered;
           fit = v .safe .fit;
+          ends = v .safe .ends;
           sizes = v .safe .sizes;
           shaped = v .safe .shaped;
         };
-        accounts = accounts-same refl refl refl (v .accounts);
+        accounts = accounts-same refl refl refl refl (v .accounts);
         epochs = remembering;
         sets = sets-same refl refl (v .sets);
+        owners = owners-same (v .safe .devices .bounds) refl refl refl (λ i h. refl) (v .owners);
+        told = v .told;
       }
 
-pub checkpoint-begin-serves : {c : Core} {w : World} {r : Reference} → Served c w r → verdict (checkpointBeginRows c w) ≡ accepted
-    → Served (checkpointBeginTask c w .core) w r
+pub checkpoint-begin-serves : {puts : List Put} {c : Core} {w : World} {r : Reference} → Served puts c w r → verdict (checkpointBeginRows c w) ≡ accepted
+    → Served puts (checkpointBeginTask c w .core) w r
 checkpoint-begin-serves s ok =
     record { home = s .home; flushed = s .flushed; buffered = s .buffered; serving = begin-serving ok (s .serving) }
 
@@ -103,8 +106,8 @@ ltb-other q k ne = go (ltb q k) refl
     go true e = sym (lt-ltb q (k + 1) (omega (arith, ltb-true q k e)))
     go false e = sym (le-ltb q (k + 1) (omega (arith, ltb-false q k e)))
 
-module _ {home : ℕ → ℕ} {c : Core} {w : World} {r : Reference} {F B : List Entry}
-    (ok : verdict (checkpointStepRows c w) ≡ accepted) (v : Serving 0 home c w r F B) where
+module _ {home : ℕ → ℕ} {puts : List Put} {c : Core} {w : World} {r : Reference} {F B : List Entry}
+    (ok : verdict (checkpointStepRows c w) ≡ accepted) (v : Serving 0 home puts c w r F B) where
   abbrev u : World
   u = after ok (v .safe .devices)
 
@@ -197,7 +200,7 @@ module _ {home : ℕ → ℕ} {c : Core} {w : World} {r : Reference} {F B : List
           epoch-other ok (v .safe .devices) q ne ∙ v .epochs .pages q h
           ∙ ap (λ (b : Bool). cond b (c .epoch + 1) (c .epoch)) (ltb-other q (c .checkpoint .copied) (λ e. ne (e ∙ sym first)))
 
-  step-serving : Serving 0 home (checkpointStepTask c w .core) u r F B
+  step-serving : Serving 0 home puts (checkpointStepTask c w .core) u r F B
   unfolding checkpointStepTask
   step-serving =
       record {
@@ -208,16 +211,19 @@ module _ {home : ℕ → ℕ} {c : Core} {w : World} {r : Reference} {F B : List
           link = stepped-link;
           ordered = v .safe .ordered;
           fit = v .safe .fit;
+          ends = v .safe .ends;
           sizes = v .safe .sizes;
           shaped = v .safe .shaped;
         };
-        accounts = accounts-same refl refl refl (v .accounts);
+        accounts = accounts-same refl refl refl refl (v .accounts);
         epochs = copy-epochs;
         sets = sets-same refl refl (v .sets);
+        owners = owners-same (v .safe .devices .bounds) refl refl refl (owner-word ok (v .safe .devices)) (v .owners);
+        told = v .told;
       }
 
-pub checkpoint-step-serves : {c : Core} {w : World} {r : Reference} → Served c w r → verdict (checkpointStepRows c w) ≡ accepted
-    → Served (checkpointStepTask c w .core) (perform (checkpointStepTask c w .actions) w) r
+pub checkpoint-step-serves : {puts : List Put} {c : Core} {w : World} {r : Reference} → Served puts c w r → verdict (checkpointStepRows c w) ≡ accepted
+    → Served puts (checkpointStepTask c w .core) (perform (checkpointStepTask c w .actions) w) r
 checkpoint-step-serves s ok =
     rw (stepped ok (s .serving .safe .devices))
     (record { home = s .home; flushed = s .flushed; buffered = s .buffered; serving = step-serving ok (s .serving) })
@@ -230,20 +236,8 @@ step-aside {c} {w} v ok =
     (write work (epochAt (c .sizes) (lowestToCopy c)) (c .epoch + 1) ∷ [])
     (aside-backup (c .sizes) (c .epoch) (at ok v) (words ok v) (omega arith) (omega (arith, size-words ok v, fits ok v))) (tt, tt)
 
-step-image : {c : Core} {w : World} (budget : ℕ) → Devices c w → verdict (checkpointStepRows c w) ≡ accepted
-    → imageOf (run budget (checkpointStepTask c w .actions) w) ≡ imageOf w
-step-image {c} {w} budget v ok =
-    let state = copying ok v in
-    image-kept-run budget (checkpointStepTask c w .actions) w
-    (rw (v .sizes) (sizes-sound c (serving-sound c (copying-serving c (state .0)) (state .1))))
-    (rw (v .sizes, v .epoch) (step-aside v ok))
-
-image-anchor : (x y : World) → imageOf x ≡ imageOf y → sizesOn (x .anchor) ≡ sizesOn (y .anchor)
-unfolding imageOf
-image-anchor x y e = ap (λ (i : Image). i .sizes) e
-
-pub checkpoint-step-cut : {c : Core} {w : World} {r : Reference} (budget : ℕ) → Served c w r → verdict (checkpointStepRows c w) ≡ accepted → Kept w r
+pub checkpoint-step-cut : {puts : List Put} {c : Core} {w : World} {r : Reference} (budget : ℕ) → Served puts c w r → verdict (checkpointStepRows c w) ≡ accepted → Kept w r
     → finishes budget (checkpointStepTask c w .actions) ≡ false → Kept (run budget (checkpointStepTask c w .actions) w) r
-checkpoint-step-cut budget s ok k cut =
-    let same = step-image budget (s .serving .safe .devices) ok in
-    record { sizes = image-anchor _ _ same ∙ k .sizes; shaped = k .shaped; image = ap restarted same ∙ k .image }
+checkpoint-step-cut {c = c} {w = w} budget s ok k cut =
+    let v : Devices c w = s .serving .safe .devices in
+    kept-aside budget (checkpointStepTask c w .actions) (rw (v .sizes, v .epoch) (step-aside v ok)) k

@@ -11,14 +11,17 @@ use borrow.Author.Tests.{ltb-true, ltb-false, eqb-true, eqb-false, lt-ltb, le-lt
 use Rattle.model.specs.declared.Sizes.{Sizes}
 use Rattle.model.specs.declared.Core.{Core}
 use Rattle.model.specs.Word.{_⊕_}
-use Rattle.model.specs.Sizes.{total}
+use Rattle.model.specs.Sizes.{total, ringOf}
 use Rattle.model.specs.Anchor.{sizesOn, epochOn, backupAt}
 use Rattle.model.specs.World.{World}
 use Rattle.model.specs.Memory.{lengthsRight}
-use Rattle.model.specs.State.{startOf}
+use Rattle.model.specs.Scan.{end}
+use Rattle.model.specs.State.{limit, startOf, tailOf, endOf}
 use Rattle.model.specs.Image.{Image, imageOf, logOf, restarted}
 use Rattle.model.specs.Reference.{Reference, wordsIn}
 use Rattle.model.proofs.Xor.{⊕-zero-l, ⊕-zero-r, ⊕-assoc, ⊕-comm}
+use Rattle.model.proofs.Bounds.{in-bounds}
+use Rattle.model.proofs.Reading.{ending}
 use Rattle.model.proofs.Slots.{words-length}
 use Rattle.model.proofs.Ledger.Entry.{Entry, isClose, adds, All, closedIn, chosen, mask, sum, pick, onDisk}
 use Rattle.model.proofs.Ledger.Order.{Ordered, on, Laid, entriesScan}
@@ -28,18 +31,24 @@ use Rattle.model.proofs.Ledger.Lists.{all-left}
 use Rattle.model.proofs.Ledger.Positions.{laid-append}
 use Rattle.model.proofs.Ledger.Ordered.{closed-same, closes-last, closesLast}
 use Rattle.model.proofs.Ledger.Good.{Good, recovers}
-use Rattle.model.proofs.Link.Words.{Fit, Link, image-log}
+use Rattle.model.proofs.Link.Words.{Fit, Link, image-log, retained-scan}
 use Rattle.model.proofs.Restart.Words.{xorBelow, xor-below-cong, getD-part}
 use Rattle.model.proofs.Restart.Gain.{gain, gains, restarted-word, length-restarted}
 use Rattle.model.proofs.Restart.Image.{length-backup}
 use Rattle.model.proofs.Restart.Entries.{gain-entries, ClosesLast}
 use Rattle.model.proofs.Restart.Disks.{sum-by-disk}
-use Rattle.model.proofs.Store.View.{Kept, view, Devices, Safe}
+use Rattle.model.proofs.Store.View.{Kept, Restartable, view, Devices, Safe}
 
 -- no entry behind a closing record has its number
 last-entries : (l : List Entry) → closesLast l → ClosesLast l
 last-entries [] h = tt
 last-entries (r ∷ l) h = ((λ e. all-map (λ q k. eqb-false (q .number) (r .number) k) l (h .0 e)), last-entries l (h .1))
+
+-- entries are read to their end
+entries-end : (l : List Entry) → ending (entriesScan l) ≡ end
+unfolding entriesScan ending
+entries-end [] = refl
+entries-end (r ∷ l) = entries-end l
 
 module _ {x : ℕ} {home : ℕ → ℕ} {c : Core} {w : World} {r : Reference} {F B : List Entry} (g : Safe x home c w r F B) where
   abbrev s : Sizes
@@ -52,10 +61,12 @@ module _ {x : ℕ} {home : ℕ → ℕ} {c : Core} {w : World} {r : Reference} {
   part-of : ℕ → Entry → ℕ
   part-of i e = mask (chosen (closedIn F) (c .epoch) e) (adds i e)
 
+  laid : (d : ℕ) → d < s .disks → Laid (startOf (c .logs) d) (on d F)
+  laid d h = laid-append (startOf (c .logs) d) (on d F) (on d B) (g .ordered .laid d h) .0
+
   log : (d : ℕ) → d < s .disks → logOf (imageOf w) d ≡ entriesScan (on d F)
   log d h =
-      image-log (g .link) d h (g .devices .sizes) (g .devices .starts d h) fit
-      (laid-append (startOf (c .logs) d) (on d F) (on d B) (g .ordered .laid d h) .0)
+      image-log (g .link) d h (g .devices .sizes) (g .devices .starts d h) fit (laid d h)
 
   log-gain : (i d : ℕ) → d < s .disks → gain s (c .epoch) (logOf (imageOf w) d) i ≡ sum (part-of i) (on d F)
   unfolding part-of on
@@ -94,6 +105,25 @@ module _ {x : ℕ} {home : ℕ → ℕ} {c : Core} {w : World} {r : Reference} {
       ∙ ap₂ (λ (a b : ℕ). a ⊕ b) (backup-word i h) (ap (λ (z : Sizes). gains (imageOf w) (z .disks) i) image-sizes ∙ all-gains i)
       ∙ recovers (g .good) i h
 
+  -- and no check of a restart applies
+  within-ring : (d : ℕ) → d < s .disks
+      → (startOf (c .logs) d ≤ tailOf (c .logs) d) × (tailOf (c .logs) d ≤ startOf (c .logs) d + ringOf s d) × (tailOf (c .logs) d ≤ limit)
+  unfolding endOf
+  within-ring d h =
+      let e = g .ends d h in
+      (omega (arith, g .link .tail d h), omega arith, omega arith)
+
+  restartable : Restartable w
+  restartable =
+      record {
+        anchor = g .devices .anchor;
+        bounds = rw (g .devices .sizes) (in-bounds s (g .devices .bounds));
+        lengths = rw (g .devices .sizes) (g .devices .lengths);
+        formatted = rw (g .devices .epoch) (g .devices .formatted);
+        tails = λ d. rw (g .devices .sizes) (λ h. rw (g .devices .starts d h, g .link .stored d h) (within-ring d h));
+        clean = λ d. rw (g .devices .sizes) (λ h. rw (retained-scan (g .link) d h (g .devices .starts d h) fit (laid d h)) (entries-end (on d F)));
+      }
+
   -- a restart from this moment on gives what is committed
   pub kept : Kept w r
   kept =
@@ -103,4 +133,5 @@ module _ {x : ℕ} {home : ℕ → ℕ} {c : Core} {w : World} {r : Reference} {
         image =
             ext-getD 0 _ _ (length-restarted (imageOf w) backup-long ∙ ap total image-sizes ∙ sym (words-length s (r .committed) (g .shaped)))
             (λ i h. word i (subst (λ (n : ℕ). i < n) (length-restarted (imageOf w) backup-long ∙ ap total image-sizes) h));
+        sound = restartable;
       }

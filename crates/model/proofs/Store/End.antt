@@ -1,13 +1,13 @@
 -- The end of a restart: taken, it leaves a fresh open store with the committed contents; cut, it leaves the image as it was.
 use mathlib.Core.Path.{_≡_, refl, sym, ap, _∙_}
 use mathlib.Core.List.{List, [], _∷_, _++_, append-assoc}
-use mathlib.Core.Bool.{true, false, _&&_}
-use Prim.Native.Nat.{ℕ, _+_, _<_}
+use mathlib.Core.Bool.{Bool, true, false, _&&_, and-eq-true-iff}
+use Prim.Native.Nat.{ℕ, _+_, _≤_, _<_}
 use native.Mathlib.Omega.{arith}
 use lib.Dec.{leb, ltb}
 use lib.ListN.{length, getD, set, replicate, length-set}
 use lib.Seq.{sets, getD-set-same, getD-set-other}
-use borrow.Author.Tests.{eqb-true, not-false, leb-false}
+use borrow.Author.Tests.{eqb-true, not-false, leb-true, leb-false}
 use Rattle.model.specs.declared.Stage.{Stage}
 use Rattle.model.specs.declared.Stage.the-variants.{Shut, Replaying, Open, Copying}
 use Rattle.model.specs.declared.Sizes.{Sizes}
@@ -22,8 +22,8 @@ use Rattle.model.specs.Refusal.{accepted, verdict}
 use Rattle.model.specs.Causes.{whenReplaying, anchorWrong, lengthsWrong, tailOn}
 use Rattle.model.specs.Format.{freshMemory}
 use Rattle.model.specs.Restart.{restartEndRows, restartEndTask}
-use Rattle.model.specs.Image.{Image, imageOf, restarted}
 use Rattle.model.specs.Reference.{Reference, wordsIn}
+use Rattle.model.proofs.Below.{all-each}
 use Rattle.model.proofs.Run.{perform-append, perform-backups, perform-work, stores-append, stores-stored}
 use Rattle.model.proofs.Counts.{stores-list, restart-end-stores}
 use Rattle.model.proofs.Bounds.{Bounded, bounded}
@@ -33,10 +33,11 @@ use Rattle.model.proofs.Ledger.Entry.{All}
 use Rattle.model.proofs.Ledger.Sums.{true-false}
 use Rattle.model.proofs.Link.Words.{lengths-perform}
 use Rattle.model.proofs.Restart.Image.{backup-within}
-use Rattle.model.proofs.Restart.Aside.{Aside, image-kept-run, aside-append, aside-backup, aside-starts}
+use Rattle.model.proofs.Restart.Aside.{Aside, aside-append, aside-backup, aside-starts}
 use Rattle.model.proofs.Store.Rows.{row-passed, stage-row}
 use Rattle.model.proofs.Store.View.{Kept, Served}
-use Rattle.model.proofs.Store.Puts.{setEach, length-set-each, set-each-other, set-each-in, perform-each-start, run-before, lengths-made, freshWork, run-word, fresh-epoch}
+use Rattle.model.proofs.Store.Steady.{kept-aside}
+use Rattle.model.proofs.Store.Puts.{setEach, length-set-each, set-each-other, set-each-in, perform-each-start, run-before, lengths-made, freshWork, run-word, fresh-epoch, fresh-owner}
 use Rattle.model.proofs.Store.Anchor.{sizes-same}
 use Rattle.model.proofs.Store.Fresh.{Freshly, fresh-serving}
 
@@ -54,20 +55,30 @@ pub record AtEnd (c : Core) (w : World) (r : Reference) : Type 0 where
 -- What a restart end that is accepted found.
 pub record EndFound (c : Core) (w : World) : Type 0 where
   pub bounds : sizesInBounds (c .sizes) ≡ true
+  pub short : (d : ℕ) → d < c .sizes .disks → tailOf (c .logs) d ≤ limit
   pub anchor : length (w .anchor) ≡ anchorWords
   pub lengths : Lengths (c .sizes) w
 
--- a sound state in stage replaying has its sizes in bounds
-replaying-sizes : (c : Core) → whenReplaying (c .stage) ≡ true → sound c ≡ true → sizesInBounds (c .sizes) ≡ true
+-- a sound state in stage replaying has its sizes in bounds, and its tails below the bound of positions
+replaying-sound : (c : Core) → whenReplaying (c .stage) ≡ true → sound c ≡ true
+    → (sizesInBounds (c .sizes) ≡ true) × ((d : ℕ) → d < c .sizes .disks → tailOf (c .logs) d ≤ limit)
 unfolding sound replaySound
-replaying-sizes c = go (c .stage)
+replaying-sound c = go (c .stage)
   where
-    go : (g : Stage) → whenReplaying g ≡ true → soundIn g c ≡ true → sizesInBounds (c .sizes) ≡ true
+    short : ℕ → Bool
+    short d = leb (tailOf (c .logs) d) limit
+
+    read : ℕ → Bool
+    read d = leb (getD (c .replay .positions) d 0) (tailOf (c .logs) d)
+
+    go : (g : Stage) → whenReplaying g ≡ true → soundIn g c ≡ true
+        → (sizesInBounds (c .sizes) ≡ true) × ((d : ℕ) → d < c .sizes .disks → tailOf (c .logs) d ≤ limit)
     go Shut e h = true-false refl (sym e)
     go Replaying e h =
+        let four =
         all-four (sizesInBounds (c .sizes)) (ltb (c .epoch) limit) (leb (c .replay .page) (c .sizes .pages))
-        (allBelow (λ d. leb (tailOf (c .logs) d) limit && leb (getD (c .replay .positions) d 0) (tailOf (c .logs) d)) (c .sizes .disks)) h
-        .0
+        (allBelow (λ d. short d && read d) (c .sizes .disks)) h in
+        (four .0, λ d l. leb-true _ _ (and-eq-true-iff (short d) (read d) .0 (all-each (λ d. short d && read d) (c .sizes .disks) (four .3) d l) .0))
     go Open e h = true-false refl (sym e)
     go Copying e h = true-false refl (sym e)
 
@@ -78,8 +89,10 @@ end-found c w e =
     let second = row-passed _ _ (first .1) in
     let third = row-passed _ _ (second .1) in
     let stage = stage-row whenReplaying c (first .0) in
+    let held = replaying-sound c (stage .0) (stage .1) in
     record {
-      bounds = replaying-sizes c (stage .0) (stage .1);
+      bounds = held .0;
+      short = held .1;
       anchor = eqb-true _ _ (not-false _ (second .0));
       lengths = lengths-right (c .sizes) w (not-false _ (third .0));
     }
@@ -161,14 +174,17 @@ module _ (c : Core) (w : World) (r : Reference) (m : AtEnd c w r) (found : EndFo
         eight = m .eight;
         sizes = end-sizes;
         epoch = end-epoch;
+        formatted = omega arith;
         starts = end-start;
         stored = λ d h. sym (m .tails d h);
+        short = found .short;
         backup =
             λ i h.
             run-word (w .backups) (backupAt s n) (w .pages) i (omega (arith, backup-within s n, found .lengths .pages, found .lengths .backups))
             (omega (arith, found .lengths .pages));
         pages = λ i h. ap (λ (l : List ℕ). getD l i 0) (m .pages);
         epochs = λ p h. fresh-epoch s n (w .work) (found .lengths .work) p (omega (arith, b .pages-max));
+        owners = fresh-owner s n (w .work) (found .lengths .work);
         reference = m .reference;
         shaped = m .shaped;
         none = m .none;
@@ -176,7 +192,7 @@ module _ (c : Core) (w : World) (r : Reference) (m : AtEnd c w r) (found : EndFo
 
 -- A restart end that is taken leaves an open store with the committed contents.
 pub restart-end-serves : {c : Core} {w : World} {r : Reference} → AtEnd c w r → verdict (restartEndRows c w) ≡ accepted
-    → Served (restartEndTask c w .core) (perform (restartEndTask c w .actions) w) r
+    → Served [] (restartEndTask c w .core) (perform (restartEndTask c w .actions) w) r
 unfolding restartEndTask
 restart-end-serves {c} {w} {r} m e =
     let found = end-found c w e in
@@ -213,21 +229,11 @@ module _ (c : Core) (w : World) (found : EndFound c w) where
       (aside-backup (c .sizes) (c .epoch) (backupAt (c .sizes) (c .epoch + 1)) (w .pages) (omega arith) (omega (arith, found .lengths .pages)))
       (aside-starts (c .sizes) (c .epoch) (tailOf (c .logs)) (c .sizes .disks) (bounded (c .sizes) (found .bounds) .disks-max))
 
-  early-image : (budget : ℕ) → c .sizes ≡ sizesOn (w .anchor) → c .epoch ≡ epochOn (w .anchor)
-      → imageOf (run budget (copies ++ tails) w) ≡ imageOf w
-  early-image budget sizes epoch =
-      image-kept-run budget (copies ++ tails) w (rw sizes at (found .bounds)) (rw (← sizes, ← epoch) early-aside)
-
-image-sizes : (v w : World) → imageOf v ≡ imageOf w → sizesOn (v .anchor) ≡ sizesOn (w .anchor)
-unfolding imageOf
-image-sizes v w e = ap (λ (i : Image). i .sizes) e
-
 -- A restart end that is cut leaves what a restart needs: the next restart makes the same pages.
 pub restart-end-cut : (c : Core) (w : World) {r : Reference} (budget : ℕ) → Kept w r → c .sizes ≡ sizesOn (w .anchor)
     → c .epoch ≡ epochOn (w .anchor) → verdict (restartEndRows c w) ≡ accepted
     → finishes budget (restartEndTask c w .actions) ≡ false → Kept (run budget (restartEndTask c w .actions) w) r
 restart-end-cut c w budget k sizes epoch e f =
     let found = end-found c w e in
-    let same : imageOf (run budget (restartEndTask c w .actions) w) ≡ imageOf w =
-    ap imageOf (early-only c w found budget f) ∙ early-image c w found budget sizes epoch in
-    record { sizes = image-sizes _ w same ∙ k .sizes; shaped = k .shaped; image = ap restarted same ∙ k .image }
+    rw (early-only c w found budget f)
+    (kept-aside budget (copies c w found ++ tails c w found) (rw (← sizes, ← epoch) (early-aside c w found)) k)

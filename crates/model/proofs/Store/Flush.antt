@@ -1,8 +1,11 @@
 -- The flush of a disk keeps what holds of an open store, also inside an abort.
 use mathlib.Core.Path.{_≡_, refl, sym, ap, _∙_}
 use mathlib.Core.List.{List, [], _∷_, _++_}
-use mathlib.Core.Bool.{Bool, true, false, not}
+use mathlib.Core.Bool.{Bool, true, false, cond, not, _&&_, _||_, or-assoc}
 use Prim.Native.Nat.{ℕ, _+_, _≤_, _<_}
+use native.Mathlib.Omega.{arith}
+use native.Mathlib.Nat.{zero-add, add-assoc}
+use lib.Dec.{eqb}
 use lib.ListN.{length, getD}
 use Rattle.model.specs.declared.Logs.{Logs}
 use Rattle.model.specs.declared.Sizes.{Sizes}
@@ -11,25 +14,28 @@ use Rattle.model.specs.declared.Core.{Core}
 use Rattle.model.specs.Sizes.{total, ringOf}
 use Rattle.model.specs.World.{World, perform, run, stores}
 use Rattle.model.specs.Memory.{epochOf, lengthsRight}
-use Rattle.model.specs.State.{startOf, fillOf, endOf, flushed, withLog, diskAtPlace, placeOf, isOpen}
+use Rattle.model.specs.State.{startOf, fillOf, endOf, flushed, withLog, diskAtPlace, placeOf, isOpen, firstAt}
 use Rattle.model.specs.Anchor.{sizesOn, epochOn, startOn}
 use Rattle.model.specs.Append.{flush}
 use Rattle.model.specs.Transaction.{diskOf}
 use Rattle.model.specs.Reference.{Reference}
+use Rattle.model.specs.History.{Put}
 use Rattle.model.proofs.Lengths.{Lengths, lengths-right}
 use Rattle.model.proofs.Run.{SameLengths, perform-lengths, run-lengths}
 use Rattle.model.proofs.Flush.{OnlyLogs}
-use Rattle.model.proofs.Ledger.Entry.{Entry, All, pick, onDisk, closedIn}
+use Rattle.model.proofs.Ledger.Entry.{Entry, All, some, pick, onDisk, closedIn}
 use Rattle.model.proofs.Ledger.State.{Ledger, flushedDisk, Same}
-use Rattle.model.proofs.Ledger.Order.{Ordered, on, boundary}
+use Rattle.model.proofs.Ledger.Order.{Ordered, on, sizeOf, boundary}
 use Rattle.model.proofs.Ledger.Sums.{all-map}
 use Rattle.model.proofs.Ledger.Good.{Good, good-same}
 use Rattle.model.proofs.Ledger.Flush.{flush-good}
-use Rattle.model.proofs.Ledger.Lists.{all-flush, closed-flush, on-flush}
+use Rattle.model.proofs.Ledger.Picks.{some-append}
+use Rattle.model.proofs.Ledger.Lists.{all-flush, closed-flush, on-flush, some-halves}
 use Rattle.model.proofs.Ledger.Ordered.{ordered-flush}
 use Rattle.model.proofs.Link.Words.{Fit, Arrays, Link}
-use Rattle.model.proofs.Link.Flush.{flush-link, flush-only, flush-cut, cut-only, arrays-flushed, start-flushed}
-use Rattle.model.proofs.Store.View.{view, Devices, Safe, Own, Accounts, Epochs, Sets, Serving, before}
+use Rattle.model.proofs.Link.Flush.{flush-link, flush-only, flush-cut, cut-only, arrays-flushed, start-flushed, ends-flushed}
+use Rattle.model.proofs.Store.View.{view, Devices, Safe, Own, wordsFor, Accounts, Epochs, Sets, Owners, Serving, before}
+use Rattle.model.proofs.Store.Same.{owners-same}
 
 -- lists of the same lengths are as right
 pub lengths-same : (s : Sizes) {v w : World} → SameLengths v w → lengthsRight s w ≡ true → lengthsRight s v ≡ true
@@ -48,6 +54,7 @@ devices-kept {c} g l t v starts arrays anchor lengths =
       lengths = lengths-same (c .sizes) lengths (g .lengths);
       sizes = ap sizesOn anchor ∙ g .sizes;
       epoch = ap epochOn anchor ∙ g .epoch;
+      formatted = g .formatted;
       starts = λ d h. ap (λ (a : List ℕ). startOn a d) anchor ∙ g .starts d h ∙ sym (starts d);
       arrays = arrays;
     }
@@ -60,9 +67,12 @@ abbrev pub left : ℕ → List Entry → List Entry
 left d B = pick (λ r. not (onDisk d r)) B
 
 module _ {x : ℕ} {home : ℕ → ℕ} {c : Core} {w : World} {r : Reference} {F B : List Entry} (g : Safe x home c w r F B)
-    (d : ℕ) (below : d < c .sizes .disks) (room : endOf (c .logs) d ≤ startOf (c .logs) d + ringOf (c .sizes) d) where
+    (d : ℕ) (below : d < c .sizes .disks) where
   abbrev pub flushedWorld : World
   flushedWorld = perform (flush (c .sizes) (c .logs) (w .work) d) w
+
+  room : endOf (c .logs) d ≤ startOf (c .logs) d + ringOf (c .sizes) d
+  room = g .ends d below .0
 
   right : Lengths (c .sizes) w
   right = lengths-right (c .sizes) w (g .devices .lengths)
@@ -99,6 +109,7 @@ module _ {x : ℕ} {home : ℕ → ℕ} {c : Core} {w : World} {r : Reference} {
         link = flush-link (g .link) right (g .devices .arrays) d below room;
         ordered = ordered-flush (g .ordered) d;
         fit = all-flush (Fit (c .sizes)) (onDisk d) F B (g .fit);
+        ends = λ e h. rw (ends-flushed (c .sizes) (c .logs) d (g .devices .arrays) below e) (g .ends e h);
         sizes = g .sizes;
         shaped = g .shaped;
       }
@@ -140,13 +151,43 @@ module _ {x : ℕ} {home : ℕ → ℕ} {c : Core} {w : World} {r : Reference} {
           link = flush-cut (g .link) right (g .devices .arrays) d below room n cut;
           ordered = g .ordered;
           fit = g .fit;
+          ends = g .ends;
           sizes = g .sizes;
           shaped = g .shaped;
         }
 
+-- the words of a transaction's entries, wherever they lie
+pub words-for-append : (t : ℕ) (l m : List Entry) → wordsFor t (l ++ m) ≡ wordsFor t l + wordsFor t m
+unfolding wordsFor
+words-for-append t [] m = sym (zero-add (wordsFor t m))
+words-for-append t (e ∷ l) m = rw (words-for-append t l m) (sym (add-assoc _ (wordsFor t l) (wordsFor t m)))
+
+words-for-halves : (t : ℕ) (p : Entry → Bool) (l : List Entry) → wordsFor t (pick p l) + wordsFor t (pick (λ r. not (p r)) l) ≡ wordsFor t l
+unfolding wordsFor pick
+words-for-halves t p [] = refl
+words-for-halves t p (e ∷ l) = go (p e) (words-for-halves t p l)
+  where
+    n : ℕ
+    n = cond (eqb (e .number) t) (sizeOf e) 0
+
+    go : (b : Bool) → wordsFor t (pick p l) + wordsFor t (pick (λ r. not (p r)) l) ≡ wordsFor t l
+        → wordsFor t (cond b (e ∷ pick p l) (pick p l)) + wordsFor t (cond (not b) (e ∷ pick (λ r. not (p r)) l) (pick (λ r. not (p r)) l)) ≡ n + wordsFor t l
+    go true h = omega arith
+    go false h = omega arith
+
+pub words-for-flush : (t : ℕ) (p : Entry → Bool) (F B : List Entry) → wordsFor t ((F ++ pick p B) ++ pick (λ r. not (p r)) B) ≡ wordsFor t (F ++ B)
+words-for-flush t p F B =
+    rw (words-for-append t (F ++ pick p B) (pick (λ r. not (p r)) B), words-for-append t F (pick p B), words-for-append t F B)
+    (omega (arith, words-for-halves t p B))
+
+some-flush : (q p : Entry → Bool) (F B : List Entry) → some q ((F ++ pick p B) ++ pick (λ r. not (p r)) B) ≡ some q (F ++ B)
+some-flush q p F B =
+    rw (some-append q (F ++ pick p B) (pick (λ r. not (p r)) B), some-append q F (pick p B), some-append q F B)
+    (or-assoc (some q F) (some q (pick p B)) (some q (pick (λ r. not (p r)) B)) ∙ ap (λ (b : Bool). some q F || b) (some-halves q p B))
+
 -- the table, the copy epochs and the write sets do not see where an entry of the log lies
-module _ {x : ℕ} {home : ℕ → ℕ} {c : Core} {w : World} {r : Reference} {F B : List Entry} (g : Serving x home c w r F B)
-    (d : ℕ) (below : d < c .sizes .disks) (room : endOf (c .logs) d ≤ startOf (c .logs) d + ringOf (c .sizes) d) where
+module _ {x : ℕ} {home : ℕ → ℕ} {puts : List Put} {c : Core} {w : World} {r : Reference} {F B : List Entry} (g : Serving x home puts c w r F B)
+    (d : ℕ) (below : d < c .sizes .disks) where
   moved : (P : Entry → Type 0) → All P (F ++ B) → All P ((F ++ on d B) ++ left d B)
   unfolding on
   moved P h = all-flush P (onDisk d) F B h
@@ -159,11 +200,14 @@ module _ {x : ℕ} {home : ℕ → ℕ} {c : Core} {w : World} {r : Reference} {
         homes = g .accounts .homes;
         own = λ t o. moved _ (all-map (λ e h same. let k = h same in record { has = k .has; first = k .first; kind = k .kind }) (F ++ B) (g .accounts .own t o));
         firsts = λ t o h. rw (on-flush d F B (diskOf c t)) (g .accounts .firsts t o h);
+        disks = g .accounts .disks;
+        started = λ t o h. some-flush (λ e. eqb (e .number) t && eqb (e .position) (firstAt (c .table) (placeOf (c .table) t))) (onDisk d) F B ∙ g .accounts .started t o h;
+        reserved = λ t o ne. g .accounts .reserved t o ne ∙ ap (λ (n : ℕ). 2 + n) (sym (words-for-flush t (onDisk d) F B));
         settled = moved _ (all-map (λ e h o. closed-flush (onDisk d) F B (e .number) ∙ h o) (F ++ B) (g .accounts .settled));
         numbered = moved _ (g .accounts .numbered);
       }
 
-  epochs : Epochs (flushedCore c d) (flushedWorld (g .safe) d below room) (F ++ on d B) (left d B)
+  epochs : Epochs (flushedCore c d) (flushedWorld (g .safe) d below) (F ++ on d B) (left d B)
   unfolding withLog on flushed startOf before epochOf
   epochs =
       record {
@@ -174,13 +218,15 @@ module _ {x : ℕ} {home : ℕ → ℕ} {c : Core} {w : World} {r : Reference} {
         ends = λ o e h. rw (on-flush d F B e) (g .epochs .ends o e h);
       }
 
-  pub flush-serving : Serving x home (flushedCore c d) (flushedWorld (g .safe) d below room) r (F ++ on d B) (left d B)
+  pub flush-serving : Serving x home puts (flushedCore c d) (flushedWorld (g .safe) d below) r (F ++ on d B) (left d B)
   unfolding withLog
   flush-serving =
       record {
         stage = g .stage;
-        safe = flush-safe (g .safe) d below room;
+        safe = flush-safe (g .safe) d below;
         accounts = accounts;
         epochs = epochs;
         sets = record { distinct = g .sets .distinct; has = g .sets .has; fits = g .sets .fits };
+        owners = owners-same (g .safe .devices .bounds) refl refl refl (λ i h. rw (flush-only (c .sizes) (c .logs) w d .work-same)) (g .owners);
+        told = λ e h. rw (on-flush d F B e) (g .told e h);
       }

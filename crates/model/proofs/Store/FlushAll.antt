@@ -2,7 +2,7 @@
 use mathlib.Core.Path.{_≡_, refl, subst, _∙_}
 use mathlib.Core.List.{List, [], _∷_, _++_}
 use mathlib.Core.Bool.{Bool, true, false}
-use Prim.Native.Nat.{ℕ, zero, suc, _+_, _-_, _≤_, _<_}
+use Prim.Native.Nat.{ℕ, zero, suc, _-_, _≤_, _<_}
 use native.Mathlib.Omega.{arith}
 use native.Mathlib.Decide.{ℕ-discrete}
 use lib.Dec.{ltb}
@@ -10,11 +10,11 @@ use borrow.Author.Tests.{ltb-true, ltb-false, eq-eqb}
 use Rattle.model.specs.declared.Logs.{Logs}
 use Rattle.model.specs.declared.Core.{Core}
 use Rattle.model.specs.Below.{joinBelow}
-use Rattle.model.specs.Sizes.{ringOf}
 use Rattle.model.specs.World.{World, Action, perform, run, stores}
-use Rattle.model.specs.State.{startOf, tailOf, fillOf, endOf, flushed, withLog}
+use Rattle.model.specs.State.{tailOf, fillOf, endOf, flushed, withLog}
 use Rattle.model.specs.Append.{flush}
 use Rattle.model.specs.Reference.{Reference}
+use Rattle.model.specs.History.{Put}
 use Rattle.model.proofs.Below.{below-suc}
 use Rattle.model.proofs.Run.{perform-append, stores-append, run-append, run-cut}
 use Rattle.model.proofs.Ledger.Entry.{Entry, All, pick, onDisk}
@@ -22,7 +22,7 @@ use Rattle.model.proofs.Ledger.Order.{on}
 use Rattle.model.proofs.Ledger.Sums.{all-right}
 use Rattle.model.proofs.Ledger.Lists.{on-emptied, on-other-kept}
 use Rattle.model.proofs.Link.Words.{Arrays}
-use Rattle.model.proofs.Link.Flush.{flush-only, end-flushed, start-flushed, tail-flushed-other, fill-flushed-other}
+use Rattle.model.proofs.Link.Flush.{flush-only, end-flushed, tail-flushed-other, fill-flushed-other}
 use Rattle.model.proofs.Store.View.{Kept, Serving}
 use Rattle.model.proofs.Store.Crash.{kept}
 use Rattle.model.proofs.Store.Flush.{left, flush-serving, cut-safe}
@@ -42,12 +42,11 @@ abbrev pub flushes : Core → World → ℕ → List Action
 flushes c w n = joinBelow (flush (c .sizes) (c .logs) (w .work)) n
 
 -- The store with the disks below n flushed.
-pub record Emptied (x : ℕ) (home : ℕ → ℕ) (c : Core) (w : World) (r : Reference) (n : ℕ) : Type 0 where
+pub record Emptied (x : ℕ) (home : ℕ → ℕ) (puts : List Put) (c : Core) (w : World) (r : Reference) (n : ℕ) : Type 0 where
   pub logs : Logs
   pub flushed : List Entry
   pub buffered : List Entry
-  pub serving : Serving x home (withLog c logs (c .table)) (perform (flushes c w n) w) r flushed buffered
-  pub starts : (d : ℕ) → startOf logs d ≡ startOf (c .logs) d
+  pub serving : Serving x home puts (withLog c logs (c .table)) (perform (flushes c w n) w) r flushed buffered
   pub ends : (d : ℕ) → d < c .sizes .disks → endOf logs d ≡ endOf (c .logs) d
   pub tails : (d : ℕ) → n ≤ d → tailOf logs d ≡ tailOf (c .logs) d
   pub fills : (d : ℕ) → n ≤ d → fillOf logs d ≡ fillOf (c .logs) d
@@ -56,15 +55,15 @@ pub record Emptied (x : ℕ) (home : ℕ → ℕ) (c : Core) (w : World) (r : Re
   pub cut : (k : ℕ) → k < stores (flushes c w n) → Kept (run k (flushes c w n) w) r
 
 -- with all disks flushed nothing is buffered
-pub none-buffered : {x : ℕ} {home : ℕ → ℕ} {c : Core} {w : World} {r : Reference} (e : Emptied x home c w r (c .sizes .disks))
+pub none-buffered : {x : ℕ} {home : ℕ → ℕ} {puts : List Put} {c : Core} {w : World} {r : Reference} (e : Emptied x home puts c w r (c .sizes .disks))
     → e .buffered ≡ []
 unfolding withLog
 none-buffered {c = c} e =
     none-left (c .sizes .disks) (e .buffered) (all-right _ (e .flushed) (e .buffered) (e .serving .safe .ordered .inside)) (e .none)
 
-module _ {x : ℕ} {home : ℕ → ℕ} {c : Core} {w : World} {r : Reference} {F B : List Entry} (g : Serving x home c w r F B)
-    (room : (d : ℕ) → d < c .sizes .disks → endOf (c .logs) d ≤ startOf (c .logs) d + ringOf (c .sizes) d) where
-  start : Emptied x home c w r 0
+module _ {x : ℕ} {home : ℕ → ℕ} {puts : List Put} {c : Core} {w : World} {r : Reference} {F B : List Entry}
+    (g : Serving x home puts c w r F B) where
+  start : Emptied x home puts c w r 0
   unfolding withLog joinBelow perform stores
   start =
       record {
@@ -72,7 +71,6 @@ module _ {x : ℕ} {home : ℕ → ℕ} {c : Core} {w : World} {r : Reference} {
         flushed = F;
         buffered = B;
         serving = g;
-        starts = λ d. refl;
         ends = λ d h. refl;
         tails = λ d h. refl;
         fills = λ d h. refl;
@@ -82,7 +80,7 @@ module _ {x : ℕ} {home : ℕ → ℕ} {c : Core} {w : World} {r : Reference} {
       }
 
   -- one disk more
-  module _ (n : ℕ) (below : n < c .sizes .disks) (e : Emptied x home c w r n) where
+  module _ (n : ℕ) (below : n < c .sizes .disks) (e : Emptied x home puts c w r n) where
     abbrev now : World
     now = perform (flushes c w n) w
 
@@ -94,22 +92,19 @@ module _ {x : ℕ} {home : ℕ → ℕ} {c : Core} {w : World} {r : Reference} {
     unfolding flush
     same = rw (e .tails n (omega arith), e .fills n (omega arith), e .memory)
 
-    fits : endOf (e .logs) n ≤ startOf (e .logs) n + ringOf (c .sizes) n
-    fits = omega (arith, room n below, e .ends n below, e .starts n)
-
     Done : List Action → Type 0
     Done l =
-        Serving x home (withLog c (flushed (e .logs) n) (c .table)) (perform l now) r (e .flushed ++ on n (e .buffered)) (left n (e .buffered))
+        Serving x home puts (withLog c (flushed (e .logs) n) (c .table)) (perform l now) r (e .flushed ++ on n (e .buffered)) (left n (e .buffered))
 
     whole : Done one
     unfolding Done withLog
-    whole = subst Done same (flush-serving (e .serving) n below fits)
+    whole = subst Done same (flush-serving (e .serving) n below)
 
     part-way : (k : ℕ) → k < stores one → Kept (run k one now) r
     unfolding withLog
     part-way k h =
         subst (λ (l : List Action). k < stores l → Kept (run k l now) r) same
-        (λ less. kept (cut-safe (e .serving .safe) n below fits k less)) h
+        (λ less. kept (cut-safe (e .serving .safe) n below k less)) h
 
     cut-more : (k : ℕ) → k < stores (flushes c w n ++ one) → Kept (run k (flushes c w n ++ one) w) r
     cut-more k h = go (ltb k (stores (flushes c w n))) refl
@@ -142,7 +137,7 @@ module _ {x : ℕ} {home : ℕ → ℕ} {c : Core} {w : World} {r : Reference} {
         (λ d h. on-other-kept n (e .flushed) (e .buffered) d (λ z. omega arith) ∙ e .none d h)
         (on-emptied n (e .flushed) (e .buffered))
 
-    step : Emptied x home c w r (suc n)
+    step : Emptied x home puts c w r (suc n)
     unfolding joinBelow Done
     step =
         record {
@@ -150,7 +145,6 @@ module _ {x : ℕ} {home : ℕ → ℕ} {c : Core} {w : World} {r : Reference} {
           flushed = e .flushed ++ on n (e .buffered);
           buffered = left n (e .buffered);
           serving = rw (perform-append (flushes c w n) one w) whole;
-          starts = λ d. start-flushed (e .logs) n d ∙ e .starts d;
           ends = ends-more;
           tails = λ d h. tail-flushed-other (e .logs) n d (λ z. omega arith) ∙ e .tails d (omega arith);
           fills = λ d h. fill-flushed-other (e .logs) n d (λ z. omega arith) ∙ e .fills d (omega arith);
@@ -160,6 +154,6 @@ module _ {x : ℕ} {home : ℕ → ℕ} {c : Core} {w : World} {r : Reference} {
         }
 
   -- the disks below n flushed
-  pub flush-below : (n : ℕ) → n ≤ c .sizes .disks → Emptied x home c w r n
+  pub flush-below : (n : ℕ) → n ≤ c .sizes .disks → Emptied x home puts c w r n
   flush-below zero h = start
   flush-below (suc n) h = step n (omega arith) (flush-below n (omega arith))

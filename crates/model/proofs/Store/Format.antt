@@ -29,7 +29,7 @@ use Rattle.model.proofs.Restart.Image.{backup-within}
 use Rattle.model.proofs.Link.Words.{lengths-perform}
 use Rattle.model.proofs.Store.Rows.{row-passed}
 use Rattle.model.proofs.Store.View.{Served}
-use Rattle.model.proofs.Store.Puts.{setEach, set-each-in, perform-each-log, lengths-made, freshWork, same-word, fresh-epoch}
+use Rattle.model.proofs.Store.Puts.{setEach, set-each-in, perform-each-log, lengths-made, freshWork, same-word, fresh-epoch, fresh-owner}
 use Rattle.model.proofs.Store.Anchor.{laidAnchor, Laid, laid-anchor}
 use Rattle.model.proofs.Store.Fresh.{Freshly, fresh-serving}
 
@@ -129,14 +129,17 @@ module _ (s : Sizes) (w : World) (b : Bounded s) (long : length (w .anchor) ≡ 
         eight = refl;
         sizes = format-sizes;
         epoch = words .epoch;
+        formatted = omega arith;
         starts = λ d h. format-start d h ∙ eight d h;
         stored = λ d h. format-tail d h ∙ eight d h;
+        short = λ d h. rw (sym (eight d h)) (omega arith);
         backup =
             λ i h.
             same-word (w .backups) (backupAt s 1) (total s) 0 i (omega (arith, backup-within s 1, right .backups)) h
             ∙ sym (zero-page i h);
         pages = λ i h. zero-page i h ∙ sym (ap (λ (l : List ℕ). getD l i 0) (blank-words s) ∙ getD-replicate (total s) i 0 0 h);
         epochs = λ p h. fresh-epoch s 1 (w .work) (right .work) p (omega (arith, b .pages-max));
+        owners = fresh-owner s 1 (w .work) (right .work);
         reference = refl;
         shaped = blank-shaped s;
         none = refl;
@@ -155,7 +158,7 @@ format-rows c w s e =
 
 -- A format that is taken leaves an open store with the blank reference.
 pub format-serves : (c : Core) (w : World) (s : Sizes) → verdict (formatRows c w s) ≡ accepted
-    → Served (formatTask s .core) (perform (formatTask s .actions) w) (blank s)
+    → Served [] (formatTask s .core) (perform (formatTask s .actions) w) (blank s)
 unfolding formatTask
 format-serves c w s v =
     let rows = format-rows c w s v in

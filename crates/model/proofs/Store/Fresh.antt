@@ -3,20 +3,21 @@
 use mathlib.Core.Path.{_≡_, refl, sym, _∙_}
 use mathlib.Core.List.{List, []}
 use mathlib.Core.Bool.{Bool, true, false, true≢false}
-use Prim.Native.Nat.{ℕ, _+_, _<_}
+use Prim.Native.Nat.{ℕ, _+_, _≤_, _<_}
 use native.Mathlib.Omega.{arith}
 use lib.ListN.{length, getD, getD-replicate}
 use borrow.Author.Tests.{le-ltb}
 use Rattle.model.specs.declared.Sizes.{Sizes}
 use Rattle.model.specs.Word.{part}
-use Rattle.model.specs.Sizes.{total}
+use Rattle.model.specs.Sizes.{total, slotsIn, ringOf}
 use Rattle.model.specs.Anchor.{anchorWords, epochOn, sizesOn, startOn, backupAt}
 use Rattle.model.specs.Record.{encodeAll}
 use Rattle.model.specs.World.{World}
-use Rattle.model.specs.Memory.{bufferOf, epochOf, lengthsRight}
-use Rattle.model.specs.State.{places, noTable, emptyLogs, openCore, startOf, tailOf, fillOf, numberAt, placeOf, isOpen}
+use Rattle.model.specs.Memory.{ownerAt, ownerOf, bufferOf, epochOf, lengthsRight}
+use Rattle.model.specs.State.{limit, places, noTable, emptyLogs, openCore, startOf, tailOf, fillOf, endOf, numberAt, placeOf, isOpen}
 use Rattle.model.specs.Causes.{tailOn}
 use Rattle.model.specs.Reference.{Reference, wordsIn}
+use Rattle.model.specs.History.{recordsOn}
 use Rattle.model.proofs.Bounds.{Bounded}
 use Rattle.model.proofs.Geometry.{pageOf, slotStart, page-in}
 use Rattle.model.proofs.Slots.{Shaped}
@@ -27,7 +28,8 @@ use Rattle.model.proofs.Ledger.State.{fresh}
 use Rattle.model.proofs.Ledger.Order.{Ordered, on, wordsOf}
 use Rattle.model.proofs.Ledger.Good.{Good, fresh-good, good-same}
 use Rattle.model.proofs.Link.Words.{Link}
-use Rattle.model.proofs.Store.View.{view, Devices, Safe, Accounts, Epochs, Sets, Served}
+use Rattle.model.proofs.Store.View.{view, Devices, Safe, Accounts, Epochs, Sets, Owners, Served}
+use Rattle.model.proofs.Store.Same.{slot-lt}
 
 -- What the devices, the memories and the reference are, where the store is openCore s n tails.
 pub record Freshly (s : Sizes) (n : ℕ) (tails : List ℕ) (v : World) (r : Reference) : Type 0 where
@@ -36,17 +38,20 @@ pub record Freshly (s : Sizes) (n : ℕ) (tails : List ℕ) (v : World) (r : Ref
   pub anchor : length (v .anchor) ≡ anchorWords
   pub lengths : lengthsRight s v ≡ true
   pub eight : length tails ≡ 8
-  -- the anchor says the sizes and checkpoint n
+  -- the anchor says the sizes and checkpoint n, at least 1
   pub sizes : sizesOn (v .anchor) ≡ s
   pub epoch : epochOn (v .anchor) ≡ n
-  -- every log is empty: it starts at its tail
+  pub formatted : 1 ≤ n
+  -- every log is empty: it starts at its tail, below the bound of positions
   pub starts : (d : ℕ) → d < s .disks → startOn (v .anchor) d ≡ getD tails d 0
   pub stored : (d : ℕ) → d < s .disks → tailOn s v d ≡ getD tails d 0
+  pub short : (d : ℕ) → d < s .disks → getD tails d 0 ≤ limit
   -- the current backup and the pages have the committed words
   pub backup : (i : ℕ) → i < total s → getD (v .backups) (backupAt s n + i) 0 ≡ getD (v .pages) i 0
   pub pages : (i : ℕ) → i < total s → getD (v .pages) i 0 ≡ getD (wordsIn (r .committed)) i 0
-  -- every page has copy epoch n
+  -- every page has copy epoch n, and no slot an owner
   pub epochs : (p : ℕ) → p < s .pages → epochOf s (v .work) p ≡ n
+  pub owners : (i : ℕ) → i < total s → getD (v .work) i 0 ≡ 0
   -- the reference has these sizes and no write set
   pub reference : r .sizes ≡ s
   pub shaped : Shaped s (r .committed)
@@ -83,6 +88,7 @@ module _ {s : Sizes} {n : ℕ} {tails : List ℕ} {v : World} {r : Reference} (f
         lengths = f .lengths;
         sizes = f .sizes;
         epoch = f .epoch;
+        formatted = f .formatted;
         starts = f .starts;
         arrays = record { starts = f .eight; tails = f .eight; fills = refl; disks = f .bounds .disks-max; ring = omega (arith, f .bounds .ring-min) };
       }
@@ -124,6 +130,13 @@ module _ {s : Sizes} {n : ℕ} {tails : List ℕ} {v : World} {r : Reference} (f
         fill = λ d h. none-buffered d (omega (arith, f .bounds .disks-max));
       }
 
+  fresh-ends : (d : ℕ) → d < s .disks
+      → (endOf (emptyLogs tails) d ≤ startOf (emptyLogs tails) d + ringOf s d) × (endOf (emptyLogs tails) d ≤ limit)
+  unfolding endOf tailOf startOf
+  fresh-ends d h =
+      let none : fillOf (emptyLogs tails) d ≡ 0 = none-buffered d (omega (arith, f .bounds .disks-max)) in
+      (omega arith, omega (arith, f .short d h))
+
   fresh-ordered : Ordered (s .disks) (startOf (emptyLogs tails)) (λ t. 0) [] []
   unfolding on pick
   fresh-ordered = record { laid = λ d h. tt; inside = tt; homed = tt; last = tt }
@@ -137,6 +150,7 @@ module _ {s : Sizes} {n : ℕ} {tails : List ℕ} {v : World} {r : Reference} (f
         link = fresh-link;
         ordered = fresh-ordered;
         fit = tt;
+        ends = fresh-ends;
         sizes = f .reference;
         shaped = f .shaped;
       }
@@ -149,6 +163,9 @@ module _ {s : Sizes} {n : ℕ} {tails : List ℕ} {v : World} {r : Reference} (f
         homes = λ t o. never t o;
         own = λ t o. tt;
         firsts = λ t o. never t o;
+        disks = λ t o. never t o;
+        started = λ t o. never t o;
+        reserved = λ t o. never t o;
         settled = tt;
         numbered = tt;
       }
@@ -168,13 +185,34 @@ module _ {s : Sizes} {n : ℕ} {tails : List ℕ} {v : World} {r : Reference} (f
   unfolding openCore hasSet
   fresh-sets = record { distinct = rw (f .none) tt; has = λ t. rw (f .none) (none-open t); fits = rw (f .none) tt }
 
+  -- the owner of every slot is 0, which is never open
+  fresh-owners : Owners (openCore s n tails) v r
+  unfolding openCore ownerOf ownerAt
+  fresh-owners =
+      record {
+        below = λ page slot p q. rw (unowned page slot p q) (omega arith);
+        written = λ page slot p q o. never (ownerOf s (v .work) page slot) o;
+      }
+    where
+      unowned : (page slot : ℕ) → page < s .pages → slot < slotsIn s page → ownerOf s (v .work) page slot ≡ 0
+      unowned page slot p q = f .owners _ (slot-lt s (f .bounds) page slot p q)
+
   -- what holds of an open store between two calls holds of a fresh one
-  pub fresh-serving : Served (openCore s n tails) v r
-  unfolding openCore
+  pub fresh-serving : Served [] (openCore s n tails) v r
+  unfolding openCore recordsOn on pick
   fresh-serving =
       record {
         home = λ t. 0;
         flushed = [];
         buffered = [];
-        serving = record { stage = refl; safe = fresh-safe; accounts = fresh-accounts; epochs = fresh-epochs; sets = fresh-sets };
+        serving =
+            record {
+              stage = refl;
+              safe = fresh-safe;
+              accounts = fresh-accounts;
+              epochs = fresh-epochs;
+              sets = fresh-sets;
+              owners = fresh-owners;
+              told = λ d h. record { old = []; all = refl };
+            };
       }

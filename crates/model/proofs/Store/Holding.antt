@@ -13,8 +13,9 @@ use Rattle.model.specs.State.{newCore}
 use Rattle.model.specs.Refusal.{Row, Result, Task, verdict, accepted, row}
 use Rattle.model.specs.Causes.{whenShut, whenReplaying, whenOpen, whenCopying, whenServing, stageForbids}
 use Rattle.model.specs.Call.{Call, rowsOf, taskOf, budgetOf, resultOf}
-use Rattle.model.specs.Reference.{Reference, WriteSet, withSets, isBegin, afterTaken, heard, hear}
-use Rattle.model.specs.Machine.{Machine, Event, call, result, after, referred}
+use Rattle.model.specs.Reference.{Reference, WriteSet, withSets, taken, outcomeOf, isBegin, afterTaken, heard, hear}
+use Rattle.model.specs.Machine.{Machine, Event, call, result, outcome, after, referred}
+use Rattle.model.specs.History.{Put, toldBy, told}
 use Rattle.model.proofs.Run.{finished-run}
 use Rattle.model.proofs.Ledger.Sums.{true-false}
 use Rattle.model.proofs.Restart.Progress.{Progress}
@@ -23,16 +24,16 @@ use Rattle.model.proofs.Store.Cases.{call-cases, finishedBy, cutBy, ref
 use Rattle.model.proofs.Store.Rows.{row-passed, stage-row}
 
 -- A shut store has devices that restart to the committed contents, a replaying one too, and how far it got; an open one serves.
-pub data Holding (m : Machine) (r : Reference) : Type 0 where
-  shut : m .core .stage ≡ Shut → Kept (m .world) r → r .writeSets ≡ [] → Holding m r
-  replaying : Progress (m .core) (m .world) → Kept (m .world) r → r .writeSets ≡ [] → Holding m r
-  serving : Served (m .core) (m .world) r → Holding m r
+pub data Holding (puts : List Put) (m : Machine) (r : Reference) : Type 0 where
+  shut : m .core .stage ≡ Shut → Kept (m .world) r → r .writeSets ≡ [] → Holding puts m r
+  replaying : Progress (m .core) (m .world) → Kept (m .world) r → r .writeSets ≡ [] → Holding puts m r
+  serving : Served puts (m .core) (m .world) r → Holding puts m r
 
 -- the committed contents do not hang on the write sets
 pub kept-sets : {w : World} {r : Reference} → Kept w r → (sets : List WriteSet) → Kept w (withSets r sets)
-kept-sets k sets = record { sizes = k .sizes; shaped = k .shaped; image = k .image }
+kept-sets k sets = record { sizes = k .sizes; shaped = k .shaped; image = k .image; sound = k .sound }
 
-module _ (k : Call) (m : Machine) (r : Reference) where
+module _ (k : Call) (puts : List Put) (m : Machine) (r : Reference) where
   abbrev task : Task
   task = taskOf k (m .core) (m .world)
 
@@ -43,13 +44,15 @@ module _ (k : Call) (m : Machine) (r : Reference) where
   abbrev pub takenMachine : Machine
   takenMachine = record { core = task .core; world = perform (task .actions) (m .world) }
 
-  pub call-keeps : Holding m r
-      → (verdict (rowsOf k (m .core) (m .world)) ≡ accepted → finishes (budgetOf k) (task .actions) ≡ true → Holding takenMachine (afterTaken k heardNumber r))
+  pub call-keeps : Holding puts m r
+      → (verdict (rowsOf k (m .core) (m .world)) ≡ accepted → finishes (budgetOf k) (task .actions) ≡ true
+      → Holding (toldBy taken k (m .core) (m .world) puts) takenMachine (afterTaken k heardNumber r))
       → (verdict (rowsOf k (m .core) (m .world)) ≡ accepted → finishes (budgetOf k) (task .actions) ≡ false → Kept (run (budgetOf k) (task .actions) (m .world)) r)
-      → Holding (after m (call k)) (referred m (call k) r)
-  unfolding result hear newCore
-  call-keeps h taken cut =
-      call-cases (λ (x : Result). Holding (record { core = x .core; world = x .world }) (hear (heard k (x .answer)) r)) k (m .core) (m .world)
+      → Holding (told m (call k) puts) (after m (call k)) (referred m (call k) r)
+  unfolding result outcome hear newCore
+  call-keeps h done cut =
+      call-cases (λ (x : Result). Holding (toldBy (outcomeOf (x .answer)) k (m .core) (m .world) puts) (record { core = x .core; world = x .world }) (hear (heard k (x .answer)) r))
+      k (m .core) (m .world)
       (λ number first second v. h)
-      (λ v f. rw (finished-run (budgetOf k) (task .actions) (m .world) f) (taken v f))
+      (λ v f. rw (finished-run (budgetOf k) (task .actions) (m .world) f) (done v f))
       (λ v f. shut refl (kept-sets (cut v f) []) refl)

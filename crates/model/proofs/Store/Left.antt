@@ -15,12 +15,13 @@ use Rattle.model.specs.Sizes.{ringOf}
 use Rattle.model.specs.Record.{Record, change, close, updateKind}
 use Rattle.model.specs.Scan.{Scan, end, bad, item, faultIn, updatesIn, updateWords}
 use Rattle.model.specs.World.{World}
-use Rattle.model.specs.State.{startOf, endOf, isOpen, placeOf, firstAt, reservedAt, hasUpdate, servingSound}
+use Rattle.model.specs.State.{limit, startOf, endOf, isOpen, placeOf, firstAt, reservedAt, hasUpdate, servingSound}
 use Rattle.model.specs.Refusal.{accepted, verdict}
 use Rattle.model.specs.Causes.{notOpen, faultRow}
 use Rattle.model.specs.Transaction.{diskOf}
 use Rattle.model.specs.Abort.{abortScan, updatesLeft, abortFault, abortRows}
 use Rattle.model.specs.Reference.{Reference}
+use Rattle.model.specs.History.{Put}
 use Rattle.model.proofs.RoundTrip.{WellFormed}
 use Rattle.model.proofs.Places.{open-place, place-holds}
 use Rattle.model.proofs.Xor.{⊕-zero-l}
@@ -33,7 +34,7 @@ use Rattle.model.proofs.Ledger.Word.{ofTxn}
 use Rattle.model.proofs.Link.Words.{Fit}
 use Rattle.model.proofs.Link.Buffered.{Small}
 use Rattle.model.proofs.Link.Abort.{sumUpdates, abort-scan, updates-add}
-use Rattle.model.proofs.Store.View.{Own, Serving}
+use Rattle.model.proofs.Store.View.{Serving}
 use Rattle.model.proofs.Store.Rows.{row-passed, serving-row, serving-sound, disk-sound, place-sound}
 use Rattle.model.proofs.Store.Closed.{reserved-on}
 use Rattle.model.proofs.Store.Compensate.{Slotted}
@@ -66,7 +67,7 @@ updates-slotted s t [] h = tt
 updates-slotted s t (q ∷ l) h = update-slotted s t (q .position) (recordOf q) (entriesScan l) (h .0 .formed) (updates-slotted s t l (h .1))
 
 -- The updates that an abort of an open transaction reads.
-module _ {home : ℕ → ℕ} {c : Core} {w : World} {r : Reference} {F B : List Entry} (g : Serving 0 home c w r F B)
+module _ {home : ℕ → ℕ} {puts : List Put} {c : Core} {w : World} {r : Reference} {F B : List Entry} (g : Serving 0 home puts c w r F B)
     (t : ℕ) (opened : isOpen (c .table) t ≡ true) (below : diskOf c t < c .sizes .disks) where
   abbrev s : Sizes
   s = c .sizes
@@ -78,18 +79,29 @@ module _ {home : ℕ → ℕ} {c : Core} {w : World} {r : Reference} {F B : List
   place = placeOf (c .table) t
 
   -- the entries of its disk, and of these the ones from its first on
-  abbrev there : List Entry
+  abbrev pub there : List Entry
   there = on d F ++ on d B
 
-  abbrev from : List Entry
+  abbrev pub from : List Entry
   from = pick (λ q. leb (firstAt (c .table) place) (q .position)) there
 
-  all-there : (P : Entry → Type 0) → All P (F ++ B) → All P there
+  pub all-there : (P : Entry → Type 0) → All P (F ++ B) → All P there
   unfolding on
   all-there P h = rw (← on-append d F B) (all-pick P (onDisk d) (F ++ B) h)
 
-  all-from : (P : Entry → Type 0) → All P (F ++ B) → All P from
+  pub all-from : (P : Entry → Type 0) → All P (F ++ B) → All P from
   all-from P h = all-pick P _ there (all-there P h)
+
+  -- what lies before its first entry, or on another disk, is of others
+  pub early : All (λ q. leb (firstAt (c .table) (placeOf (c .table) t)) (q .position) ≡ false → eqb (q .number) t ≡ false) (F ++ B)
+  early =
+      all-map (λ q h k. ne-eqb (q .number) t (λ e. true-false (le-leb _ _ (h e .first)) k)) (F ++ B) (g .accounts .own t opened)
+
+  pub away : All (λ q. onDisk (diskOf c t) q ≡ false → eqb (q .number) t ≡ false) (F ++ B)
+  unfolding onDisk
+  away =
+      all-map (λ q h k. ne-eqb (q .number) t (λ e. eqb-false (q .disk) d k (h ∙ ap home e ∙ g .accounts .homes t opened))) (F ++ B)
+      (g .safe .ordered .homed)
 
   -- a transaction without an update has no entry, and nothing to take back
   module _ (none : hasUpdate (c .table) place ≡ false) where
@@ -104,7 +116,7 @@ module _ {home : ℕ → ℕ} {c : Core} {w : World} {r : Reference} {F B : List
 
   -- else they are the updates among its entries, and add what these add
   module _ (has : hasUpdate (c .table) place ≡ true) where
-    scanned : abortScan c w t ≡ entriesScan from
+    pub scanned : abortScan c w t ≡ entriesScan from
     scanned =
         abort-scan c w t d (firstAt (c .table) place) (g .safe .link) opened has refl refl below (g .safe .fit) (g .safe .ordered .laid d below)
         (g .accounts .firsts t opened has)
@@ -114,19 +126,14 @@ module _ {home : ℕ → ℕ} {c : Core} {w : World} {r : Reference} {F B : List
     left-slotted = rw scanned (updates-slotted s t from (all-from (Fit s) (g .safe .fit)))
 
     same-sum : (i : ℕ) → ofTxn i t from ≡ ofTxn i t (F ++ B)
-    unfolding on onDisk
+    unfolding on
     same-sum i =
-        sum-picked _ _ there (all-there _ (all-map early (F ++ B) (g .accounts .own t opened)))
+        sum-picked _ _ there (all-there _ (all-map (λ q h k. other q (h k)) (F ++ B) early))
         ∙ ap (ofTxn i t) (sym (on-append d F B))
-        ∙ sum-picked _ _ (F ++ B) (all-map away (F ++ B) (g .safe .ordered .homed))
+        ∙ sum-picked _ _ (F ++ B) (all-map (λ q h k. other q (h k)) (F ++ B) away)
       where
-        early : (q : Entry) → (q .number ≡ t → Own 0 c t q) → leb (firstAt (c .table) place) (q .position) ≡ false
-            → mask (eqb (q .number) t) (adds i q) ≡ 0
-        early q h k = rw (ne-eqb (q .number) t (λ e. true-false (le-leb _ _ (h e .first)) k))
-
-        away : (q : Entry) → q .disk ≡ home (q .number) → onDisk d q ≡ false → mask (eqb (q .number) t) (adds i q) ≡ 0
-        away q h k =
-            rw (ne-eqb (q .number) t (λ e. eqb-false (q .disk) d k (h ∙ ap home e ∙ g .accounts .homes t opened)))
+        other : (q : Entry) → eqb (q .number) t ≡ false → mask (eqb (q .number) t) (adds i q) ≡ 0
+        other q h = rw h
 
     pub left-sum : (i : ℕ) → sumUpdates s i (updatesLeft c w t) ≡ ofTxn i t (F ++ B)
     unfolding updatesLeft
@@ -141,8 +148,9 @@ pub record MayAbort (c : Core) (w : World) (t : ℕ) : Type 0 where
   pub opened : isOpen (c .table) t ≡ true
   pub below : diskOf c t < c .sizes .disks
   pub small : Small (c .sizes) (c .logs)
-  -- the compensations and the closing record fit the ring
+  -- the compensations and the closing record fit the ring and the bound of positions
   pub room : endOf (c .logs) (diskOf c t) + (updateWords (updatesLeft c w t) + 2) ≤ startOf (c .logs) (diskOf c t) + ringOf (c .sizes) (diskOf c t)
+  pub in-limit : endOf (c .logs) (diskOf c t) + (updateWords (updatesLeft c w t) + 2) ≤ limit
 
 no-fault : (f : Fault) → faultRow f .applies ≡ false → f ≡ Sound
 no-fault Sound h = refl
@@ -185,4 +193,5 @@ may-abort c w t v =
       below = at .disk;
       small = λ e h. disk-sound c e fine h .fill;
       room = omega (arith, disk .room, disk .ordered, at .reserved, reserved-on c t opened, fault-words c w t (r7 .0));
+      in-limit = omega (arith, disk .limit, at .reserved, reserved-on c t opened, fault-words c w t (r7 .0));
     }

@@ -2,35 +2,86 @@
 use mathlib.Core.Path.{_≡_, sym, ap, _∙_}
 use mathlib.Core.List.{List}
 use Prim.Native.Nat.{ℕ, _<_}
+use native.Mathlib.Omega.{arith}
 use Rattle.model.specs.declared.Sizes.{Sizes}
 use Rattle.model.specs.declared.Logs.{Logs}
+use Rattle.model.specs.declared.Core.{Core}
 use Rattle.model.specs.Word.{part}
 use Rattle.model.specs.Sizes.{total}
 use Rattle.model.specs.Anchor.{sizesOn, epochOn, startOn, backupAt}
 use Rattle.model.specs.World.{World}
 use Rattle.model.specs.State.{startOf}
+use Rattle.model.specs.Causes.{tailOn, retained as retainedScan}
 use Rattle.model.specs.Image.{imageOf, retainedWords, restarted}
 use Rattle.model.specs.Reference.{Reference}
-use Rattle.model.proofs.Ledger.Entry.{Entry}
-use Rattle.model.proofs.Link.Words.{Link, retained}
+use Rattle.model.proofs.Run.{SameLengths}
+use Rattle.model.proofs.Reading.{ending}
+use Rattle.model.proofs.Ledger.Entry.{Entry, All}
+use Rattle.model.proofs.Ledger.Order.{on, Laid}
+use Rattle.model.proofs.Ledger.Lists.{all-left}
+use Rattle.model.proofs.Ledger.Positions.{laid-append}
+use Rattle.model.proofs.Link.Words.{Fit, Link, retained, retained-scan}
 use Rattle.model.proofs.Restart.Image.{image-same}
-use Rattle.model.proofs.Store.View.{Kept}
+use Rattle.model.proofs.Store.View.{Restartable, Kept, Safe}
+use Rattle.model.proofs.Store.Crash.{kept}
+use Rattle.model.proofs.Store.Flush.{lengths-same}
 
-module _ {s : Sizes} {l m : Logs} {w v : World} {F B D : List Entry} (k : Link s l w F B) (j : Link s m v F D)
-    (sizes : sizesOn (w .anchor) ≡ s) (anchor : v .anchor ≡ w .anchor) (backups : v .backups ≡ w .backups)
-    (starts : (d : ℕ) → d < s .disks → startOn (w .anchor) d ≡ startOf l d) (same : (d : ℕ) → startOf m d ≡ startOf l d) where
+-- w is the world of an open store, v another one with its flushed entries, its anchor and its backups.
+module _ {x : ℕ} {home : ℕ → ℕ} {c : Core} {m : Logs} {w v : World} {r : Reference} {F B D : List Entry} (g : Safe x home c w r F B)
+    (j : Link (c .sizes) m v F D) (anchor : v .anchor ≡ w .anchor) (backups : v .backups ≡ w .backups) (lengths : SameLengths v w)
+    (same : (d : ℕ) → startOf m d ≡ startOf (c .logs) d) where
+  abbrev s : Sizes
+  s = c .sizes
+
+  sizes : sizesOn (v .anchor) ≡ s
+  sizes = ap sizesOn anchor ∙ g .devices .sizes
+
+  start : (d : ℕ) → d < s .disks → startOn (v .anchor) d ≡ startOf m d
+  start d h = ap (λ (a : List ℕ). startOn a d) anchor ∙ g .devices .starts d h ∙ sym (same d)
+
   words : (d : ℕ) → d < s .disks → retainedWords s v d ≡ retainedWords s w d
-  words d h =
-      retained j d h (ap (λ (a : List ℕ). startOn a d) anchor ∙ starts d h ∙ sym (same d)) ∙ sym (retained k d h (starts d h))
+  words d h = retained j d h (start d h) ∙ sym (retained (g .link) d h (g .devices .starts d h))
 
   pub image-linked : imageOf v ≡ imageOf w
   image-linked =
       image-same v w (ap sizesOn anchor) (ap epochOn anchor)
       (ap (part (backupAt (sizesOn (w .anchor)) (epochOn (w .anchor))) (total (sizesOn (w .anchor)))) backups)
       (λ d h. ap (λ (a : List ℕ). startOn a d) anchor)
-      (rw sizes words)
+      (rw (g .devices .sizes) words)
+
+  tail-linked : (d : ℕ) → d < s .disks → tailOn s v d ≡ tailOn s w d
+  tail-linked d h = omega (arith, j .stored d h, j .tail d h, same d, g .link .stored d h, g .link .tail d h)
+
+  laid : (d : ℕ) → d < s .disks → Laid (startOf (c .logs) d) (on d F)
+  laid d h = laid-append (startOf (c .logs) d) (on d F) (on d B) (g .ordered .laid d h) .0
+
+  scan-linked : (d : ℕ) → d < s .disks → retainedScan s v d ≡ retainedScan s w d
+  scan-linked d h =
+      let fit = all-left (Fit s) F B (g .fit) in
+      retained-scan j d h (start d h) fit (rw (same d) (laid d h)) ∙ sym (retained-scan (g .link) d h (g .devices .starts d h) fit (laid d h))
+
+  restartable-linked : Restartable w → Restartable v
+  restartable-linked h =
+      record {
+        anchor = lengths .anchor ∙ h .anchor;
+        bounds = rw anchor (h .bounds);
+        lengths = rw sizes (lengths-same s lengths (g .devices .lengths));
+        formatted = rw anchor (h .formatted);
+        tails =
+            let was = rw (g .devices .sizes) at (h .tails) in
+            λ d. rw (sizes, ap (λ (a : List ℕ). startOn a d) anchor) (λ l. rw (tail-linked d l) (was d l));
+        clean =
+            let was = rw (g .devices .sizes) at (h .clean) in
+            λ d. rw sizes (λ l. ap ending (scan-linked d l) ∙ was d l);
+      }
 
   -- so what one of them keeps, the other keeps
-  pub kept-linked : {r : Reference} → Kept w r → Kept v r
-  kept-linked h =
-      record { sizes = ap sizesOn anchor ∙ h .sizes; shaped = h .shaped; image = ap restarted image-linked ∙ h .image }
+  pub kept-linked : Kept v r
+  kept-linked =
+      let h = kept g in
+      record {
+        sizes = ap sizesOn anchor ∙ h .sizes;
+        shaped = h .shaped;
+        image = ap restarted image-linked ∙ h .image;
+        sound = restartable-linked (h .sound);
+      }

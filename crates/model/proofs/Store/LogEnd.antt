@@ -15,6 +15,7 @@ use Rattle.model.specs.Memory.{epochOf}
 use Rattle.model.specs.State.{startOf, endOf}
 use Rattle.model.specs.Causes.{whenOpen}
 use Rattle.model.specs.Reference.{Reference}
+use Rattle.model.specs.History.{Put}
 use Rattle.model.proofs.Ledger.Entry.{Entry}
 use Rattle.model.proofs.Ledger.Order.{sizeOf, wordsOf, on, boundary}
 use Rattle.model.proofs.Ledger.Lists.{length-words, length-words-append}
@@ -39,7 +40,7 @@ unfolding endOf
 log-end {F = F} {B = B} k d below = omega (arith, k .tail d below, k .fill d below, length-words-append (on d F) (on d B))
 
 -- An entry at the end of its disk's log, with the copy epoch of its page.
-module _ {x : ℕ} {home : ℕ → ℕ} {c : Core} {w : World} {r : Reference} {F B : List Entry} (g : Serving x home c w r F B)
+module _ {x : ℕ} {home : ℕ → ℕ} {puts : List Put} {c : Core} {w : World} {r : Reference} {F B : List Entry} (g : Serving x home puts c w r F B)
     (e : Entry) (page : ℕ) (page-lt : page < c .sizes .pages) (copy : e .epoch ≡ epochOf (c .sizes) (w .work) page) where
   page-epoch : e .epoch ≡ cond (ltb page (c .checkpoint .copied)) (c .epoch + 1) (c .epoch)
   page-epoch = copy ∙ g .epochs .pages page page-lt

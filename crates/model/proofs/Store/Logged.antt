@@ -1,34 +1,36 @@
 -- A record appended where the buffer has room for it, and words of the memories written after it.
 use mathlib.Core.Path.{_≡_, refl, sym, ap, subst, fun-ext, _∙_}
-use mathlib.Core.List.{List, [], _∷_, _++_, append-assoc}
-use mathlib.Core.Bool.{Bool, true, false, not, cond, _||_}
+use mathlib.Core.List.{List, [], _∷_, _++_, map, append-assoc, append-nil}
+use mathlib.Core.Bool.{Bool, true, false, not, cond, _&&_, _||_}
 use Prim.Native.Nat.{ℕ, _+_, _≤_, _<_}
 use native.Mathlib.Omega.{arith}
+use native.Mathlib.Nat.{add-zero}
 use native.Mathlib.Decide.{ℕ-discrete}
 use lib.Dec.{ltb, eqb}
 use lib.ListN.{length, getD}
-use borrow.Author.Tests.{ltb-true, ltb-false, le-ltb}
+use borrow.Author.Tests.{eqb-true, eqb-false, eq-eqb, ne-eqb}
 use Rattle.model.specs.declared.Sizes.{Sizes}
 use Rattle.model.specs.declared.Table.{Table}
 use Rattle.model.specs.declared.Logs.{Logs}
 use Rattle.model.specs.declared.Core.{Core}
-use Rattle.model.specs.Sizes.{total}
-use Rattle.model.specs.Record.{encode}
+use Rattle.model.specs.Sizes.{total, ringOf}
+use Rattle.model.specs.Record.{Record, encode}
 use Rattle.model.specs.World.{World, perform, stores}
 use Rattle.model.specs.Memory.{bufferAt, epochAt, epochOf}
-use Rattle.model.specs.State.{startOf, tailOf, fillOf, endOf, withLog, placeOf, isOpen, firstAt, hasUpdate, diskAtPlace}
+use Rattle.model.specs.State.{limit, startOf, tailOf, fillOf, endOf, withLog, placeOf, isOpen, firstAt, reservedAt, hasUpdate, diskAtPlace}
 use Rattle.model.specs.Causes.{whenOpen, whenServing}
 use Rattle.model.specs.Append.{Appended, append}
 use Rattle.model.specs.Transaction.{diskOf}
 use Rattle.model.specs.Reference.{Reference}
+use Rattle.model.specs.History.{Put, recordsOn}
 use Rattle.model.proofs.Lengths.{Lengths, lengths-right}
 use Rattle.model.proofs.Run.{SameLengths, same-lengths-trans, perform-lengths}
 use Rattle.model.proofs.Slots.{Shaped}
 use Rattle.model.proofs.Places.{Tabled}
-use Rattle.model.proofs.Ledger.Entry.{Entry, recordOf, isClose, All, closedIn}
+use Rattle.model.proofs.Ledger.Entry.{Entry, recordOf, isClose, some, All, closedIn}
 use Rattle.model.proofs.Ledger.Order.{Ordered, sizeOf, wordsOf, on, boundary}
 use Rattle.model.proofs.Ledger.Sums.{true-false, all-append, all-map, all-zip}
-use Rattle.model.proofs.Ledger.Picks.{closed-append}
+use Rattle.model.proofs.Ledger.Picks.{some-append, closed-append}
 use Rattle.model.proofs.Ledger.Lists.{on-more, on-less, length-words-append}
 use Rattle.model.proofs.Ledger.Positions.{boundary-more}
 use Rattle.model.proofs.Ledger.Ordered.{ordered-append}
@@ -36,8 +38,8 @@ use Rattle.model.proofs.Ledger.Good.{Good}
 use Rattle.model.proofs.Link.Words.{Fit, Arrays, Link, lengths-perform}
 use Rattle.model.proofs.Link.Buffered.{Small, Longer, InBuffer, epochs-same, link-frame}
 use Rattle.model.proofs.Link.Append.{append-longer, append-in-buffer, append-room, room-logs, room-stores}
-use Rattle.model.proofs.Store.View.{view, Devices, Safe, Own, Accounts, Epochs, before}
-use Rattle.model.proofs.Store.Flush.{lengths-same, devices-kept}
+use Rattle.model.proofs.Store.View.{view, Devices, Safe, Own, wordsFor, Accounts, Epochs, Since, before}
+use Rattle.model.proofs.Store.Flush.{lengths-same, devices-kept, words-for-append}
 
 -- After v only words of the memories were written, none of them a buffer's.
 pub record Written (s : Sizes) (v u : World) : Type 0 where
@@ -50,6 +52,40 @@ pub record Written (s : Sizes) (v u : World) : Type 0 where
 -- all of a list with one more at the end of its second part
 pub all-more : {A : Type 0} (P : A → Type 0) (F B : List A) (e : A) → All P (F ++ B) → P e → All P (F ++ (B ++ e ∷ []))
 all-more P F B e h p = subst (All P) (append-assoc F B (e ∷ [])) (all-append P (F ++ B) (e ∷ []) h (p, tt))
+
+-- the words of a transaction's entries, with one entry more
+pub words-for-more : (F B : List Entry) (e : Entry) (t : ℕ)
+    → wordsFor t (F ++ (B ++ e ∷ [])) ≡ wordsFor t (F ++ B) + cond (eqb (e .number) t) (sizeOf e) 0
+unfolding wordsFor
+words-for-more F B e t = rw (← append-assoc F B (e ∷ []), words-for-append t (F ++ B) (e ∷ []), add-zero)
+
+-- what the calls put, with one record more
+pub records-append : (d : ℕ) (a b : List Put) → recordsOn d (a ++ b) ≡ recordsOn d a ++ recordsOn d b
+unfolding recordsOn
+records-append d [] b = refl
+records-append d (p ∷ a) b = go (eqb (p .disk) d) (records-append d a b)
+  where
+    go : (t : Bool) → recordsOn d (a ++ b) ≡ recordsOn d a ++ recordsOn d b
+        → cond t (p .content ∷ recordsOn d (a ++ b)) (recordsOn d (a ++ b)) ≡ cond t (p .content ∷ recordsOn d a) (recordsOn d a) ++ recordsOn d b
+    go true e = ap (λ (l : List Record). p .content ∷ l) e
+    go false e = e
+
+map-append : (l m : List Entry) → map recordOf (l ++ m) ≡ map recordOf l ++ map recordOf m
+map-append [] m = refl
+map-append (e ∷ l) m = ap (λ (r : List Record). recordOf e ∷ r) (map-append l m)
+
+pub told-more : (puts : List Put) (F B : List Entry) (e : Entry) (p : Put) → p .disk ≡ e .disk → p .content ≡ recordOf e
+    → (d : ℕ) → Since (recordsOn d puts) (on d F ++ on d B) → Since (recordsOn d (puts ++ p ∷ [])) (on d F ++ on d (B ++ e ∷ []))
+unfolding recordsOn
+told-more puts F B e p disk content d k = record { old = k .old; all = go (ℕ-discrete (e .disk) d) }
+  where
+    go : Dec (e .disk ≡ d) → recordsOn d (puts ++ p ∷ []) ≡ k .old ++ map recordOf (on d F ++ on d (B ++ e ∷ []))
+    go (yes same) =
+        rw (records-append d puts (p ∷ []), on-more d B e same, eq-eqb (p .disk) d (disk ∙ same), content, k .all)
+        (append-assoc (k .old) _ (recordOf e ∷ [])
+        ∙ ap (λ (l : List Record). k .old ++ l) (sym (map-append (on d F ++ on d B) (e ∷ [])) ∙ ap (map recordOf) (append-assoc (on d F) (on d B) (e ∷ []))))
+    go (no ne) =
+        rw (records-append d puts (p ∷ []), on-less d B e ne, ne-eqb (p .disk) d (λ z. ne (sym disk ∙ z)), append-nil (recordsOn d puts)) (k .all)
 
 -- a boundary of a disk's log is one of the log with a record more
 pub boundary-logged : (q p d : ℕ) (F B : List Entry) (e : Entry) → boundary q p (on d F ++ on d B) ≡ true
@@ -64,7 +100,9 @@ boundary-logged q p d F B e h = go (ℕ-discrete (e .disk) d)
 module _ {x : ℕ} {home : ℕ → ℕ} {c : Core} {w : World} {r : Reference} {F B : List Entry} (g : Safe x home c w r F B) (e : Entry)
     (below : e .disk < c .sizes .disks) (here : e .disk ≡ home (e .number)) (small : Small (c .sizes) (c .logs))
     (room : fillOf (c .logs) (e .disk) + sizeOf e ≤ 64) (at-end : e .position ≡ endOf (c .logs) (e .disk))
-    (unclosed : closedIn (F ++ B) (e .number) ≡ false) (fit : Fit (c .sizes) e) where
+    (unclosed : closedIn (F ++ B) (e .number) ≡ false) (fit : Fit (c .sizes) e)
+    (in-ring : endOf (c .logs) (e .disk) + sizeOf e ≤ startOf (c .logs) (e .disk) + ringOf (c .sizes) (e .disk))
+    (in-limit : endOf (c .logs) (e .disk) + sizeOf e ≤ limit) where
   abbrev pub logged : Appended
   logged = append (c .sizes) (c .logs) (w .work) (e .disk) (encode (recordOf e))
 
@@ -98,6 +136,12 @@ module _ {x : ℕ} {home : ℕ → ℕ} {c : Core} {w : World} {r : Reference} {
   ordered-logged =
       rw (fun-ext (longer .start-same)) (ordered-append (g .ordered) e below here unclosed position)
 
+  end-logged : (d : ℕ) → d < c .sizes .disks → Dec (d ≡ e .disk)
+      → (endOf (logged .logs) d ≤ startOf (logged .logs) d + ringOf (c .sizes) d) × (endOf (logged .logs) d ≤ limit)
+  unfolding endOf
+  end-logged d h (yes same) = rw (same, longer .start-same) (omega (arith, longer .end-longer), omega (arith, longer .end-longer))
+  end-logged d h (no ne) = rw (longer .start-same d, longer .tail-same d ne, longer .fill-same d ne) (g .ends d h)
+
   module _ {u : World} (k : Written (c .sizes) loggedWorld u) where
     lengths-written : SameLengths u w
     lengths-written = same-lengths-trans (k .lengths) (perform-lengths _ w)
@@ -125,6 +169,7 @@ module _ {x : ℕ} {home : ℕ → ℕ} {c : Core} {w : World} {r : Reference} {
           link = link-written;
           ordered = ordered-logged;
           fit = all-more (Fit (c .sizes)) F B e (g .fit) fit;
+          ends = λ d h. end-logged d h (ℕ-discrete d (e .disk));
           sizes = sizes;
           shaped = shaped;
         }
@@ -151,10 +196,13 @@ module _ {x : ℕ} {home : ℕ → ℕ} {c : Core} {w : World} {r : Reference} {
     pub others : (u : ℕ) → isOpen (c .table) u ≡ true → (u ≡ e .number → ⊥)
         → (hasUpdate t (placeOf t u) ≡ hasUpdate (c .table) (placeOf (c .table) u))
         × (firstAt t (placeOf t u) ≡ firstAt (c .table) (placeOf (c .table) u))
+        × (reservedAt t (placeOf t u) ≡ reservedAt (c .table) (placeOf (c .table) u))
     pub has : hasUpdate t (placeOf t (e .number)) ≡ true
     pub first : firstAt t (placeOf t (e .number)) ≤ e .position
     pub firsts : All (λ q. q .number ≡ e .number → firstAt t (placeOf t (e .number)) ≤ q .position) (F ++ B)
     pub at : boundary (firstAt t (placeOf t (e .number))) (startOf (c .logs) (e .disk)) (on (e .disk) F ++ on (e .disk) (B ++ e ∷ [])) ≡ true
+    pub started : some (λ q. eqb (q .number) (e .number) && eqb (q .position) (firstAt t (placeOf t (e .number)))) (F ++ (B ++ e ∷ [])) ≡ true
+    pub reserved : (e .number ≡ x → ⊥) → reservedAt t (placeOf t (e .number)) ≡ 2 + (wordsFor (e .number) (F ++ B) + sizeOf e)
     pub kind : (e .number ≡ x → ⊥) → e .kind ≡ 0
     pub open? : isOpen (c .table) (e .number) ≡ true
 
@@ -167,6 +215,9 @@ module _ {x : ℕ} {home : ℕ → ℕ} {c : Core} {w : World} {r : Reference} {
         homes = λ u o. a .homes u (was u o) ∙ sym (k .disks u (was u o));
         own = λ u o. all-more _ F B e (old u (was u o) (ℕ-discrete u (e .number))) (new u);
         firsts = λ u o h. at u (was u o) h (ℕ-discrete u (e .number));
+        disks = λ u o. rw (k .disks u (was u o)) (a .disks u (was u o));
+        started = λ u o h. begun u (was u o) h (ℕ-discrete u (e .number));
+        reserved = λ u o n. kept u (was u o) n (ℕ-discrete u (e .number));
         settled = all-more _ F B e (all-map (λ q h o. more q (h (sym (k .opened (q .number)) ∙ o))) (F ++ B) (a .settled)) (λ o. true-false (k .open?) (sym (k .opened (e .number)) ∙ o));
         numbered = all-more _ F B e (a .numbered) less;
       }
@@ -198,3 +249,15 @@ module _ {x : ℕ} {home : ℕ → ℕ} {c : Core} {w : World} {r : Reference} {
       at u o h (no ne) =
           rw (k .others u o ne .1, k .disks u o, longer .start-same)
           (boundary-logged _ _ (diskOf c u) F B e (a .firsts u o (sym (k .others u o ne .0) ∙ h)))
+
+      begun : (u : ℕ) → isOpen (c .table) u ≡ true → hasUpdate t (placeOf t u) ≡ true → Dec (u ≡ e .number)
+          → some (λ q. eqb (q .number) u && eqb (q .position) (firstAt t (placeOf t u))) (F ++ (B ++ e ∷ [])) ≡ true
+      begun u o h (yes same) = rw same (k .started)
+      begun u o h (no ne) =
+          rw (k .others u o ne .1, ← append-assoc F B (e ∷ []), some-append _ (F ++ B) (e ∷ []), a .started u o (sym (k .others u o ne .0) ∙ h))
+
+      kept : (u : ℕ) → isOpen (c .table) u ≡ true → (u ≡ x → ⊥) → Dec (u ≡ e .number)
+          → reservedAt t (placeOf t u) ≡ 2 + wordsFor u (F ++ (B ++ e ∷ []))
+      kept u o n (yes same) = rw (same, words-for-more F B e (e .number), eq-eqb (e .number) (e .number) refl) (k .reserved (λ z. n (same ∙ z)))
+      kept u o n (no ne) =
+          rw (k .others u o ne .2, words-for-more F B e u, ne-eqb (e .number) u (λ z. ne (sym z)), add-zero (wordsFor u (F ++ B))) (a .reserved u o n)

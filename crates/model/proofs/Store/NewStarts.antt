@@ -1,10 +1,11 @@
 -- The new starts of a checkpoint: each is a boundary of its disk's log, and nobody needs what lies before them.
-use mathlib.Core.Path.{_≡_, refl, sym, _∙_}
+use mathlib.Core.Path.{_≡_, refl, sym, ap, _∙_}
 use mathlib.Core.Logic.{_⊎_, inl, inr}
-use mathlib.Core.List.{List, [], _∷_, _++_, append-nil}
-use mathlib.Core.Bool.{Bool, true, false, not, _&&_, _||_}
+use mathlib.Core.List.{List, [], _∷_, _++_, map, map-append, append-assoc, append-nil}
+use mathlib.Core.Bool.{Bool, true, false, cond, not, _&&_, _||_, and-eq-true-iff}
 use Prim.Native.Nat.{ℕ, _+_, _≤_, _<_}
 use native.Mathlib.Omega.{arith}
+use native.Mathlib.Nat.{zero-add}
 use lib.Dec.{leb, eqb}
 use lib.ListN.{getD}
 use borrow.Author.Tests.{lt-ltb, le-leb, lt-leb, eqb-true, eqb-false, eq-eqb, ne-eqb}
@@ -12,24 +13,26 @@ use Rattle.model.specs.declared.Table.{Table}
 use Rattle.model.specs.declared.Core.{Core}
 use Rattle.model.specs.Sizes.{total}
 use Rattle.model.specs.World.{World}
+use Rattle.model.specs.Record.{Record}
 use Rattle.model.specs.Memory.{epochOf}
-use Rattle.model.specs.State.{places, startOf, numberAt, diskAtPlace, firstAt, hasUpdate, servedBy, placeOf, isOpen}
+use Rattle.model.specs.State.{places, startOf, numberAt, diskAtPlace, firstAt, reservedAt, hasUpdate, servedBy, placeOf, isOpen}
 use Rattle.model.specs.Causes.{whenOpen}
 use Rattle.model.specs.Checkpoint.{newStart}
 use Rattle.model.specs.Transaction.{diskOf}
 use Rattle.model.specs.Reference.{Reference}
+use Rattle.model.specs.History.{Put}
 use Rattle.model.proofs.Meaning.{Holds, new-start}
 use Rattle.model.proofs.Geometry.{pageOf, page-in}
 use Rattle.model.proofs.Places.{open-place, place-open, place-holds}
-use Rattle.model.proofs.Ledger.Entry.{Entry, All, pick, onDisk}
+use Rattle.model.proofs.Ledger.Entry.{Entry, recordOf, some, All, pick, onDisk}
 use Rattle.model.proofs.Ledger.Order.{Ordered, sizeOf, on, Laid, boundary}
 use Rattle.model.proofs.Ledger.Sums.{true-false, all-map, all-zip}
-use Rattle.model.proofs.Ledger.Lists.{all-left, pick-swap, pick-whole}
+use Rattle.model.proofs.Ledger.Lists.{all-left, pick-swap, pick-whole, some-pick}
 use Rattle.model.proofs.Ledger.Positions.{size-ge, laid-append, laid-from, boundary-from}
 use Rattle.model.proofs.Ledger.Ordered.{keptFrom}
 use Rattle.model.proofs.Ledger.Checkpoint.{MaySwitch}
 use Rattle.model.proofs.Ledger.Switch.{Placed, switch-old, switch-closed, switch-last}
-use Rattle.model.proofs.Store.View.{view, Own, Serving, before}
+use Rattle.model.proofs.Store.View.{view, Own, wordsFor, Since, Serving, before}
 
 -- a boundary from s on is one of the entries from s on
 boundary-kept : (p s q : ℕ) (l : List Entry) → Laid p l → boundary s p l ≡ true → boundary q p l ≡ true → s ≤ q
@@ -60,6 +63,57 @@ boundary-later {start = start} {F = F} o start' d q h cut b m =
     rw (pick-swap (onDisk d) (keptFrom start') (λ e. leb (start' d) (e .position)) (λ e x. rw (eqb-true (e .disk) d x)) F)
     (boundary-kept (start d) (start' d) q (on d F) (laid-append (start d) (on d F) (on d []) (o .laid d h) .0) cut b m)
 
+-- a boundary splits the entries into those before it and those from it on
+split-at : (p s : ℕ) (l : List Entry) → Laid p l → boundary s p l ≡ true
+    → (gone : List Entry) × (l ≡ gone ++ pick (λ r. leb s (r .position)) l)
+unfolding boundary pick
+split-at p s [] h b = ([], refl)
+split-at p s (r ∷ l) h b = go (eqb s p) refl b (split-at (p + sizeOf r) s l (h .1))
+  where
+    go : (t : Bool) → eqb s p ≡ t → t || boundary s (p + sizeOf r) l ≡ true
+        → (boundary s (p + sizeOf r) l ≡ true → (gone : List Entry) × (l ≡ gone ++ pick (λ r. leb s (r .position)) l))
+        → (gone : List Entry) × (r ∷ l ≡ gone ++ pick (λ r. leb s (r .position)) (r ∷ l))
+    go true e x ih =
+        let same : s ≡ p = eqb-true s p e in
+        let all = all-map (λ r y. le-leb p (r .position) y) (r ∷ l) (laid-from p (r ∷ l) h) in
+        ([], rw same (sym (pick-whole (λ r. leb p (r .position)) (r ∷ l) all)))
+    go false e x ih =
+        let late : p + sizeOf r ≤ s = boundary-from s (p + sizeOf r) l x in
+        let two = size-ge r in
+        let rest = ih x in
+        (r ∷ rest .0, rw (lt-leb s (r .position) (omega (arith, h .0))) (ap (λ (m : List Entry). r ∷ m) (rest .1)))
+
+-- so what is kept of a disk's log is still the last of what was put there
+pub since-later : {disks : ℕ} {start home : ℕ → ℕ} {F : List Entry} → Ordered disks start home F [] → (start' : ℕ → ℕ) (d : ℕ)
+    → d < disks → boundary (start' d) (start d) (on d F) ≡ true → {puts : List Record} → Since puts (on d F)
+    → Since puts (on d (pick (keptFrom start') F))
+unfolding on onDisk
+since-later {start = start} {F = F} o start' d h cut k =
+    let l : List Entry = on d F in
+    let m : List Entry = pick (λ e. leb (start' d) (e .position)) l in
+    let s = split-at (start d) (start' d) l (laid-append (start d) (on d F) (on d []) (o .laid d h) .0) cut in
+    rw (pick-swap (onDisk d) (keptFrom start') (λ e. leb (start' d) (e .position)) (λ e x. rw (eqb-true (e .disk) d x)) F)
+    (record {
+      old = k .old ++ map recordOf (s .0);
+      all =
+          k .all ∙ ap (λ (x : List Entry). k .old ++ map recordOf x) (s .1)
+          ∙ ap (λ (x : List Record). k .old ++ x) (map-append recordOf (s .0) m)
+          ∙ sym (append-assoc (k .old) (map recordOf (s .0)) (map recordOf m));
+    })
+
+-- a test that a transaction's entries pass keeps their words
+words-kept : (t : ℕ) (p : Entry → Bool) (l : List Entry) → All (λ e. e .number ≡ t → p e ≡ true) l
+    → wordsFor t (pick p l) ≡ wordsFor t l
+unfolding wordsFor pick
+words-kept t p [] h = refl
+words-kept t p (e ∷ l) h = go (p e) (eqb (e .number) t) refl refl (words-kept t p l (h .1))
+  where
+    go : (a b : Bool) → p e ≡ a → eqb (e .number) t ≡ b → wordsFor t (pick p l) ≡ wordsFor t l
+        → wordsFor t (cond a (e ∷ pick p l) (pick p l)) ≡ cond b (sizeOf e) 0 + wordsFor t l
+    go true b x y same = rw (y, same)
+    go false true x y same = true-false (h .0 (eqb-true (e .number) t y)) x
+    go false false x y same = same ∙ sym (zero-add (wordsFor t l))
+
 -- what holds of each open transaction's entries, as a property of all entries
 open-entries : (O : ℕ → Bool) (P : ℕ → Entry → Type 0) (l : List Entry)
     → ((t : ℕ) → O t ≡ true → All (λ e. e .number ≡ t → P t e) l) → All (λ e. O (e .number) ≡ true → P (e .number) e) l
@@ -88,7 +142,7 @@ firstOf c t = firstAt (c .table) (placeOf (c .table) t)
 abbrev pub markOf : Core → ℕ → ℕ
 markOf c d = getD (c .checkpoint .ends) d 0
 
-module _ {home : ℕ → ℕ} {c : Core} {w : World} {r : Reference} {F : List Entry} (g : Serving 0 home c w r F [])
+module _ {home : ℕ → ℕ} {puts : List Put} {c : Core} {w : World} {r : Reference} {F : List Entry} (g : Serving 0 home puts c w r F [])
     (copying : whenOpen (c .stage) ≡ false) (copied : c .sizes .pages ≤ c .checkpoint .copied) where
   flat : (P : Entry → Type 0) → All P (F ++ []) → All P F
   flat P h = all-left P F [] h
@@ -138,6 +192,32 @@ module _ {home : ℕ → ℕ} {c : Core} {w : World} {r : Reference} {F : List E
       one : (e : Entry) → (isOpen (c .table) (e .number) ≡ true → Own 0 c (e .number) e) → e .disk ≡ home (e .number)
           → isOpen (c .table) (e .number) ≡ true → newStart c (e .disk) ≤ firstOf c (e .number)
       one e own at o = rw (at ∙ g .accounts .homes (e .number) o) (start-early (e .number) o (own o .has))
+
+  -- so the entries of an open transaction are all kept
+  open-kept : (t : ℕ) → isOpen (c .table) t ≡ true → All (λ e. e .number ≡ t → keptFrom (newStart c) e ≡ true) F
+  open-kept t o = all-zip one F own-entries reach
+    where
+      one : (e : Entry) → (isOpen (c .table) (e .number) ≡ true → Own 0 c (e .number) e)
+          → (isOpen (c .table) (e .number) ≡ true → newStart c (e .disk) ≤ firstOf c (e .number))
+          → e .number ≡ t → keptFrom (newStart c) e ≡ true
+      one e own low same =
+          let here : isOpen (c .table) (e .number) ≡ true = rw same o in
+          le-leb (newStart c (e .disk)) (e .position) (omega (arith, own here .first, low here))
+
+  -- its first one among them, and as many words as are reserved
+  pub first-stays : (t : ℕ) → isOpen (c .table) t ≡ true → hasUpdate (c .table) (placeOf (c .table) t) ≡ true
+      → some (λ e. eqb (e .number) t && eqb (e .position) (firstOf c t)) (pick (keptFrom (newStart c)) F ++ []) ≡ true
+  first-stays t o h =
+      rw (append-nil (pick (keptFrom (newStart c)) F))
+      (some-pick _ (keptFrom (newStart c)) F
+      (all-map (λ e k both. k (eqb-true (e .number) t (and-eq-true-iff _ _ .0 both .0))) F (open-kept t o))
+      ∙ (rw (append-nil F) at (g .accounts .started t o h)))
+
+  pub reserved-stays : (t : ℕ) → isOpen (c .table) t ≡ true → (t ≡ 0 → ⊥)
+      → reservedAt (c .table) (placeOf (c .table) t) ≡ 2 + wordsFor t (pick (keptFrom (newStart c)) F ++ [])
+  reserved-stays t o ne =
+      rw (append-nil (pick (keptFrom (newStart c)) F), words-kept t (keptFrom (newStart c)) F (open-kept t o))
+      (rw (append-nil F) at (g .accounts .reserved t o ne))
 
   -- where the entries lie at the checkpoint's end
   pub placed : Placed (isOpen (c .table)) (firstOf c) (markOf c) (c .epoch) F

@@ -1,6 +1,6 @@
 -- An entry of an open transaction put at the end of its disk's log, after a flush if need be: what holds then, and of a cut.
 use mathlib.Core.Path.{_≡_, refl, sym, ap, subst, _∙_}
-use mathlib.Core.List.{List, [], _∷_, _++_}
+use mathlib.Core.List.{List, [], _∷_, _++_, append-assoc}
 use mathlib.Core.Bool.{true, false}
 use Prim.Native.Nat.{ℕ, _+_, _≤_, _<_}
 use native.Mathlib.Omega.{arith}
@@ -14,10 +14,11 @@ use Rattle.model.specs.Sizes.{total, ringOf}
 use Rattle.model.specs.Record.{encode}
 use Rattle.model.specs.World.{World, Action, perform, stores, run}
 use Rattle.model.specs.Memory.{bufferAt, epochOf}
-use Rattle.model.specs.State.{startOf, fillOf, endOf, withLog, isOpen, placeOf, firstAt, hasUpdate}
+use Rattle.model.specs.State.{limit, startOf, fillOf, endOf, withLog, isOpen, placeOf, firstAt, hasUpdate}
 use Rattle.model.specs.Append.{Appended, append}
 use Rattle.model.specs.Transaction.{diskOf}
 use Rattle.model.specs.Reference.{Reference}
+use Rattle.model.specs.History.{Put, recordsOn}
 use Rattle.model.proofs.Run.{perform-append, stores-append, run-cut}
 use Rattle.model.proofs.Slots.{Shaped}
 use Rattle.model.proofs.Places.{open-place}
@@ -25,15 +26,16 @@ use Rattle.model.proofs.Ledger.Entry.{Entry, recordOf, isClose, sum, cl
 use Rattle.model.proofs.Ledger.State.{Same}
 use Rattle.model.proofs.Ledger.Order.{sizeOf, on, boundary}
 use Rattle.model.proofs.Ledger.Sums.{true-false, all-map}
+use Rattle.model.proofs.Ledger.Picks.{some-append}
 use Rattle.model.proofs.Ledger.Word.{sum-snoc}
 use Rattle.model.proofs.Ledger.Good.{Good, good-same}
 use Rattle.model.proofs.Link.Words.{Fit}
 use Rattle.model.proofs.Link.Buffered.{Small, Longer, InBuffer}
 use Rattle.model.proofs.Link.Append.{append-longer, append-in-buffer}
-use Rattle.model.proofs.Store.View.{Kept, view, Safe, Accounts, Epochs, Serving, before}
+use Rattle.model.proofs.Store.View.{Kept, view, Safe, Accounts, Epochs, Since, Serving, before}
 use Rattle.model.proofs.Store.Ready.{Ready, ready, ready-sums}
 use Rattle.model.proofs.Store.LogEnd.{boundary-to, log-end}
-use Rattle.model.proofs.Store.Logged.{Written, boundary-logged, logged, logged-stores, safe-written, epochs-written, accounts-logged}
+use Rattle.model.proofs.Store.Logged.{Written, told-more, boundary-logged, logged, logged-stores, safe-written, epochs-written, accounts-logged}
 
 -- a transaction in the table has a number that was handed out
 pub open-used : {x : ℕ} {home : ℕ → ℕ} {c : Core} {w : World} {r : Reference} {F B : List Entry} → Safe x home c w r F B
@@ -45,7 +47,7 @@ open-used {c = c} g t opened = (omega (arith, open-place (c .table) t opened .0)
     go (yes h) = h
     go (no h) = true-false opened (g .good .unused t (omega arith) .1)
 
--- The entry is of an open transaction, on its disk and at the end there, and the disk has room for a flush.
+-- The entry is of an open transaction, on its disk and at the end there, and the log has room for it.
 pub record MayPut (c : Core) (e : Entry) : Type 0 where
   pub opened : isOpen (c .table) (e .number) ≡ true
   pub there : e .disk ≡ diskOf c (e .number)
@@ -53,10 +55,11 @@ pub record MayPut (c : Core) (e : Entry) : Type 0 where
   pub small : Small (c .sizes) (c .logs)
   pub short : sizeOf e ≤ 64
   pub at-end : e .position ≡ endOf (c .logs) (e .disk)
-  pub room : endOf (c .logs) (e .disk) ≤ startOf (c .logs) (e .disk) + ringOf (c .sizes) (e .disk)
+  pub in-ring : endOf (c .logs) (e .disk) + sizeOf e ≤ startOf (c .logs) (e .disk) + ringOf (c .sizes) (e .disk)
+  pub in-limit : endOf (c .logs) (e .disk) + sizeOf e ≤ limit
   pub fit : Fit (c .sizes) e
 
-module _ {x : ℕ} {home : ℕ → ℕ} {c : Core} {w : World} {r : Reference} {F B : List Entry} (g : Serving x home c w r F B)
+module _ {x : ℕ} {home : ℕ → ℕ} {puts : List Put} {c : Core} {w : World} {r : Reference} {F B : List Entry} (g : Serving x home puts c w r F B)
     (e : Entry) (may : MayPut c e) where
   abbrev s : Sizes
   s = c .sizes
@@ -71,8 +74,8 @@ module _ {x : ℕ} {home : ℕ → ℕ} {c : Core} {w : World} {r : Reference} {
   put-in-buffer = append-in-buffer w (g .safe .devices .arrays) (may .small) (e .disk) (may .below) e (may .short)
 
   -- The store with room in the buffer: its entries are those of F and B.
-  pub made : Ready x home c w r (e .disk) (sizeOf e)
-  made = ready g (e .disk) (sizeOf e) (may .below) (may .small) (may .room) (may .short)
+  pub made : Ready x home puts c w r (e .disk) (sizeOf e)
+  made = ready g (e .disk) (sizeOf e) (may .below) (may .small) (may .short)
 
   abbrev pub F1 : List Entry
   F1 = made .flushed
@@ -82,7 +85,7 @@ module _ {x : ℕ} {home : ℕ → ℕ} {c : Core} {w : World} {r : Reference} {
 
   pub made-sums : (f : Entry → ℕ) → sum f (F1 ++ B1) ≡ sum f (F ++ B)
   unfolding made
-  made-sums f = ready-sums g (e .disk) (sizeOf e) (may .below) (may .small) (may .room) (may .short) f
+  made-sums f = ready-sums g (e .disk) (sizeOf e) (may .below) (may .small) (may .short) f
 
   pub put-sums : (f : Entry → ℕ) → sum f (F1 ++ (B1 ++ e ∷ [])) ≡ sum f (F ++ B) ⊕ f e
   put-sums f = sum-snoc f F1 B1 e ∙ ap (λ (y : ℕ). y ⊕ f e) (made-sums f)
@@ -93,7 +96,7 @@ module _ {x : ℕ} {home : ℕ → ℕ} {c : Core} {w : World} {r : Reference} {
   abbrev w1 : World
   w1 = perform (made .flushing) w
 
-  serving1 : Serving x home c1 w1 r F1 B1
+  serving1 : Serving x home puts c1 w1 r F1 B1
   serving1 = made .serving
 
   -- the ledger before the entry
@@ -128,6 +131,9 @@ module _ {x : ℕ} {home : ℕ → ℕ} {c : Core} {w : World} {r : Reference} {
         homes = a .homes;
         own = λ t o. all-map (λ q h n. record { has = h n .has; first = h n .first; kind = h n .kind }) (F1 ++ B1) (a .own t o);
         firsts = λ t o h. rw (made .starts) at (a .firsts t o h);
+        disks = a .disks;
+        started = a .started;
+        reserved = a .reserved;
         settled = a .settled;
         numbered = a .numbered;
       }
@@ -160,8 +166,16 @@ module _ {x : ℕ} {home : ℕ → ℕ} {c : Core} {w : World} {r : Reference} {
   unfolding withLog
   fit1 = may .fit
 
+  in-ring1 : endOf (c1 .logs) (e .disk) + sizeOf e ≤ startOf (c1 .logs) (e .disk) + ringOf (c1 .sizes) (e .disk)
+  unfolding withLog
+  in-ring1 = rw (made .ends, made .starts) (may .in-ring)
+
+  in-limit1 : endOf (c1 .logs) (e .disk) + sizeOf e ≤ limit
+  unfolding withLog
+  in-limit1 = rw (made .ends) (may .in-limit)
+
   abbrev added : Appended
-  added = logged (serving1 .safe) e below1 here small1 room1 at-end1 unclosed fit1
+  added = logged (serving1 .safe) e below1 here small1 room1 at-end1 unclosed fit1 in-ring1 in-limit1
 
   put-parts : put ≡ record { actions = made .flushing ++ added .actions; logs = added .logs }
   unfolding withLog sizeOf
@@ -184,9 +198,15 @@ module _ {x : ℕ} {home : ℕ → ℕ} {c : Core} {w : World} {r : Reference} {
           omega (
             arith,
             stores-append (made .flushing ++ added .actions) rest,
-            logged-stores (serving1 .safe) e below1 here small1 room1 at-end1 unclosed fit1,
+            logged-stores (serving1 .safe) e below1 here small1 room1 at-end1 unclosed fit1 in-ring1 in-limit1,
           ) in
           rw (run-cut k (made .flushing ++ added .actions) rest w (omega arith), run-cut k (made .flushing) (added .actions) w less) (made .cut k less)
+
+  -- what is told of the logs, with the entry's record
+  pub put-told : (p : Put) → p .disk ≡ e .disk → p .content ≡ recordOf e → (k : ℕ) → k < c .sizes .disks
+      → Since (recordsOn k (puts ++ p ∷ [])) (on k F1 ++ on k (B1 ++ e ∷ []))
+  unfolding withLog
+  put-told p disk content k h = told-more puts F1 B1 e p disk content k (serving1 .told k h)
 
   -- Memory words written after it.
   module _ {u : World} (k : Written (c .sizes) (perform (put .actions) w) u) where
@@ -200,7 +220,7 @@ module _ {x : ℕ} {home : ℕ → ℕ} {c : Core} {w : World} {r : Reference} {
     unfolding withLog view
     put-safe y t q sizes shaped good =
         rw put-logs
-        (safe-written (serving1 .safe) e below1 here small1 room1 at-end1 unclosed fit1 written1 y t q sizes shaped (rw put-logs at good))
+        (safe-written (serving1 .safe) e below1 here small1 room1 at-end1 unclosed fit1 in-ring1 in-limit1 written1 y t q sizes shaped (rw put-logs at good))
 
     pub put-epochs : ((i : ℕ) → bufferAt (c .sizes) (c .sizes .disks) ≤ i → getD (u .work) i 0 ≡ getD (perform (put .actions) w .work) i 0)
         → (isClose e ≡ false → e .epoch ≤ c .epoch + 1) → (before c e ≡ true → isClose e ≡ false → e .epoch ≤ c .epoch)
@@ -208,7 +228,7 @@ module _ {x : ℕ} {home : ℕ → ℕ} {c : Core} {w : World} {r : Reference} {
     unfolding withLog before
     put-epochs same capped early t =
         rw put-logs
-        (epochs-written (serving1 .safe) e below1 here small1 room1 at-end1 unclosed fit1 written1 (serving1 .epochs) (rw put-world at same) capped early t)
+        (epochs-written (serving1 .safe) e below1 here small1 room1 at-end1 unclosed fit1 in-ring1 in-limit1 written1 (serving1 .epochs) (rw put-world at same) capped early t)
 
   -- An entry of transaction x more, where the table knows of an earlier one.
   pub put-own : hasUpdate (c .table) (placeOf (c .table) (e .number)) ≡ true → e .number ≡ x
@@ -216,12 +236,12 @@ module _ {x : ℕ} {home : ℕ → ℕ} {c : Core} {w : World} {r : Reference} {
   unfolding withLog diskOf
   put-own has exempt =
       rw put-logs
-      (accounts-logged (serving1 .safe) e below1 here small1 room1 at-end1 unclosed fit1 (serving1 .accounts) (c .table)
+      (accounts-logged (serving1 .safe) e below1 here small1 room1 at-end1 unclosed fit1 in-ring1 in-limit1 (serving1 .accounts) (c .table)
       (record {
         tabled = g .accounts .tabled;
         opened = λ v. refl;
         disks = λ v o. refl;
-        others = λ v o ne. (refl, refl);
+        others = λ v o ne. (refl, refl, refl);
         has = has;
         first =
             omega (
@@ -232,6 +252,9 @@ module _ {x : ℕ} {home : ℕ → ℕ} {c : Core} {w : World} {r : Reference} {
             );
         firsts = all-map (λ q h n. h n .first) (F1 ++ B1) (serving1 .accounts .own (e .number) (may .opened));
         at = boundary-logged first (startOf (made .logs) (e .disk)) (e .disk) F1 B1 e edge;
+        started =
+            rw (← append-assoc F1 B1 (e ∷ []), some-append _ (F1 ++ B1) (e ∷ []), serving1 .accounts .started (e .number) (may .opened) has);
+        reserved = λ ne. absurd (ne exempt);
         kind = λ ne. absurd (ne exempt);
         open? = may .opened;
       })

@@ -13,11 +13,11 @@ use Rattle.model.specs.declared.Sizes.{Sizes}
 use Rattle.model.specs.Below.{joinBelow, listBelow}
 use Rattle.model.specs.Sizes.{total}
 use Rattle.model.specs.World.{World, Device, Action, store, anchor, logs, cost, act, perform, stores, covered, run}
-use Rattle.model.specs.Memory.{epochAt, workWords, epochOf, lengthsRight}
+use Rattle.model.specs.Memory.{bufferAt, epochAt, workWords, epochOf, lengthsRight}
 use Rattle.model.proofs.Below.{below-suc}
 use Rattle.model.proofs.Run.{perform-append, covered-append, covered-cut, covered-all}
 use Rattle.model.proofs.Lengths.{Lengths}
-use Rattle.model.proofs.Restart.Words.{sets-in}
+use Rattle.model.proofs.Restart.Words.{sets-before, sets-in}
 
 -- the words of the disks below n, each set at its disk's place
 unfoldable pub setEach : (ℕ → ℕ) → (ℕ → ℕ) → ℕ → List ℕ → List ℕ
@@ -102,6 +102,16 @@ fresh-epoch s epoch l long p h =
     let here : epochAt s p ≡ epochAt s 0 + p = omega arith in
     ap (λ (i : ℕ). getD (sets (sets l 0 owners) (epochAt s 0) (replicate 64 epoch)) i 0) here
     ∙ same-word (sets l 0 owners) (epochAt s 0) 64 epoch p (omega (arith, length-sets l 0 owners)) h
+
+-- no slot has an owner there
+pub fresh-owner : (s : Sizes) (epoch : ℕ) (l : List ℕ) → length l ≡ workWords s → (i : ℕ) → i < total s → getD (freshWork s epoch l) i 0 ≡ 0
+unfolding freshWork epochAt bufferAt workWords
+fresh-owner s epoch l long i h =
+    let owners : List ℕ = replicate (total s) 0 in
+    let many : length owners ≡ total s = length-replicate (total s) 0 in
+    sets-before (sets l 0 owners) (epochAt s 0) (replicate 64 epoch) i (omega arith)
+    ∙ first-word l owners i (omega arith) (omega arith)
+    ∙ getD-replicate (total s) i 0 0 h
 
 -- a budget that does not reach past a list does not reach the store after it
 pub run-before : (budget : ℕ) (l m : List Action) (device : Device) (i x : ℕ) (w : World) → budget ≤ stores l

@@ -10,14 +10,15 @@ use lib.ListN.{length}
 use borrow.Author.Tests.{leb-true, leb-false, le-leb, lt-leb}
 use Rattle.model.specs.declared.Logs.{Logs}
 use Rattle.model.specs.declared.Core.{Core}
-use Rattle.model.specs.Sizes.{ringOf}
 use Rattle.model.specs.Word.{_⊕_}
+use Rattle.model.specs.Sizes.{ringOf}
 use Rattle.model.specs.World.{World, Action, perform, run, stores}
 use Rattle.model.specs.State.{startOf, fillOf, endOf, flushed, withLog}
 use Rattle.model.specs.Append.{Appended, append, appendIf, flush}
 use Rattle.model.specs.Reference.{Reference}
-use Rattle.model.proofs.Xor.{⊕-assoc}
+use Rattle.model.specs.History.{Put}
 use Rattle.model.proofs.Flush.{OnlyLogs}
+use Rattle.model.proofs.Xor.{⊕-assoc}
 use Rattle.model.proofs.Ledger.Entry.{Entry, sum, pick, onDisk}
 use Rattle.model.proofs.Ledger.Order.{on}
 use Rattle.model.proofs.Ledger.Sums.{sum-append}
@@ -31,12 +32,12 @@ use Rattle.model.proofs.Store.Crash.{kept}
 use Rattle.model.proofs.Store.Flush.{flushedCore, left, flush-serving, cut-safe}
 
 -- The store with room for n words in the buffer of disk d: `flushing` is the flush, or nothing.
-pub record Ready (x : ℕ) (home : ℕ → ℕ) (c : Core) (w : World) (r : Reference) (d n : ℕ) : Type 0 where
+pub record Ready (x : ℕ) (home : ℕ → ℕ) (puts : List Put) (c : Core) (w : World) (r : Reference) (d n : ℕ) : Type 0 where
   pub flushing : List Action
   pub logs : Logs
   pub flushed : List Entry
   pub buffered : List Entry
-  pub serving : Serving x home (withLog c logs (c .table)) (perform flushing w) r flushed buffered
+  pub serving : Serving x home puts (withLog c logs (c .table)) (perform flushing w) r flushed buffered
   pub room : fillOf logs d + n ≤ 64
   pub small : Small (c .sizes) logs
   pub starts : (e : ℕ) → startOf logs e ≡ startOf (c .logs) e
@@ -63,10 +64,9 @@ pub same-core : (c : Core) → withLog c (c .logs) (c .table) ≡ c
 unfolding withLog
 same-core c = refl
 
-module _ {x : ℕ} {home : ℕ → ℕ} {c : Core} {w : World} {r : Reference} {F B : List Entry} (g : Serving x home c w r F B)
-    (d n : ℕ) (below : d < c .sizes .disks) (small : Small (c .sizes) (c .logs))
-    (room : endOf (c .logs) d ≤ startOf (c .logs) d + ringOf (c .sizes) d) (short : n ≤ 64) where
-  fits : fillOf (c .logs) d + n ≤ 64 → Ready x home c w r d n
+module _ {x : ℕ} {home : ℕ → ℕ} {puts : List Put} {c : Core} {w : World} {r : Reference} {F B : List Entry} (g : Serving x home puts c w r F B)
+    (d n : ℕ) (below : d < c .sizes .disks) (small : Small (c .sizes) (c .logs)) (short : n ≤ 64) where
+  fits : fillOf (c .logs) d + n ≤ 64 → Ready x home puts c w r d n
   unfolding perform withLog stores
   fits h =
       record {
@@ -111,28 +111,28 @@ module _ {x : ℕ} {home : ℕ → ℕ} {c : Core} {w : World} {r : Reference} {
         zero-add (length words),
       )
 
-  full : 64 < fillOf (c .logs) d + n → Ready x home c w r d n
+  full : 64 < fillOf (c .logs) d + n → Ready x home puts c w r d n
   full over =
       record {
         flushing = flushing;
         logs = flushed (c .logs) d;
         flushed = F ++ on d B;
         buffered = left d B;
-        serving = flush-serving g d below room;
+        serving = flush-serving g d below;
         room = omega (arith, emptied);
         small = small-flushed d (g .safe .devices .arrays) below small;
         starts = start-flushed (c .logs) d;
         ends = end-flushed (c .sizes) (c .logs) d (g .safe .devices .arrays) below;
         only = only;
         split = split over;
-        cut = λ k l. kept (cut-safe (g .safe) d below room k l);
+        cut = λ k l. kept (cut-safe (g .safe) d below k l);
       }
 
-  choose : (b : Bool) → leb (fillOf (c .logs) d + n) 64 ≡ b → Ready x home c w r d n
+  choose : (b : Bool) → leb (fillOf (c .logs) d + n) 64 ≡ b → Ready x home puts c w r d n
   choose true e = fits (leb-true _ _ e)
   choose false e = full (leb-false _ _ e)
 
-  pub ready : Ready x home c w r d n
+  pub ready : Ready x home puts c w r d n
   ready = choose (leb (fillOf (c .logs) d + n) 64) refl
 
   -- its entries are those that there were: they have the same sums

@@ -1,28 +1,21 @@
 -- The stores that end a checkpoint: the new starts go to the other row, which no restart reads, and the number makes it current.
 use mathlib.Core.Path.{_≡_, refl, ap, _∙_}
 use mathlib.Core.List.{List, [], _∷_, _++_}
-use mathlib.Core.Bool.{true}
-use Prim.Native.Nat.{ℕ, _+_, _≤_, _<_}
+use Prim.Native.Nat.{ℕ, _+_, _%_, _≤_, _<_}
 use native.Mathlib.Omega.{arith}
 use lib.ListN.{length, getD, set, length-set}
 use lib.Seq.{getD-set-same, getD-set-other}
+use Rattle.model.specs.declared.Sizes.{Sizes}
 use Rattle.model.specs.Below.{listBelow}
-use Rattle.model.specs.Sizes.{sizesInBounds}
-use Rattle.model.specs.Anchor.{anchorWords, epochWord, epochOn, sizesOn, startOn, startWord}
+use Rattle.model.specs.Anchor.{anchorWords, epochWord, epochOn, sizesOn, startOn, startWord, backupAt}
 use Rattle.model.specs.World.{World, anchor, Action, store, cost, act, perform, stores, run}
-use Rattle.model.specs.Image.{Image, imageOf, restarted}
 use Rattle.model.specs.Reference.{Reference}
 use Rattle.model.proofs.Run.{perform-append, stores-append}
-use Rattle.model.proofs.Restart.Aside.{image-kept-run, aside-starts}
+use Rattle.model.proofs.Restart.Aside.{aside-starts}
 use Rattle.model.proofs.Store.View.{Kept}
+use Rattle.model.proofs.Store.Steady.{kept-aside}
 use Rattle.model.proofs.Store.Puts.{setEach, length-set-each, set-each-other, set-each-in, perform-each-start, run-before}
 use Rattle.model.proofs.Store.Anchor.{sizes-same}
-
--- an image that is kept restarts to the same contents
-pub kept-image : {v w : World} {r : Reference} → imageOf v ≡ imageOf w → Kept w r → Kept v r
-unfolding imageOf
-kept-image e k =
-    record { sizes = ap (λ (i : Image). i .sizes) e ∙ k .sizes; shaped = k .shaped; image = ap restarted e ∙ k .image }
 
 -- the starts f of the disks below n, for checkpoint c + 1
 abbrev pub startStores : ℕ → (ℕ → ℕ) → ℕ → List Action
@@ -41,6 +34,13 @@ pub record Moved (c : ℕ) (f : ℕ → ℕ) (n : ℕ) (before after : World) : 
   pub backups-same : after .backups ≡ before .backups
   pub logs-same : after .logs ≡ before .logs
   pub work-same : after .work ≡ before .work
+
+-- the checkpoint after the next writes the backup that was current
+pub backup-back : (s : Sizes) (n : ℕ) → backupAt s (n + 1 + 1) ≡ backupAt s n
+unfolding backupAt
+backup-back s n =
+    let e : (n + 1 + 1) % 2 ≡ n % 2 = omega arith in
+    rw e
 
 module _ (c : ℕ) (f : ℕ → ℕ) (n : ℕ) (w : World) (few : n ≤ 8) where
   -- The whole list.
@@ -90,10 +90,10 @@ module _ (c : ℕ) (f : ℕ → ℕ) (n : ℕ) (w : World) (few : n ≤ 8) where
         })
 
   -- Cut before its last store, it changes nothing that a restart sees.
-  pub end-cut : {r : Reference} → sizesInBounds (sizesOn (w .anchor)) ≡ true → epochOn (w .anchor) ≡ c → Kept w r
+  pub end-cut : {r : Reference} → epochOn (w .anchor) ≡ c → Kept w r
       → (k : ℕ) → k < stores (endStores c f n) → Kept (run k (endStores c f n) w) r
   unfolding stores cost
-  end-cut bounds now h k less =
+  end-cut now h k less =
       rw (run-before k (startStores c f n) [] anchor epochWord (c + 1) w
       (omega (arith, stores-append (startStores c f n) (store anchor epochWord (c + 1) ∷ []))))
-      (kept-image (image-kept-run k (startStores c f n) w bounds (rw now (aside-starts (sizesOn (w .anchor)) c f n few))) h)
+      (kept-aside k (startStores c f n) (rw now (aside-starts (sizesOn (w .anchor)) c f n few)) h)

@@ -3,23 +3,22 @@
 use mathlib.Core.Path.{_≡_, refl, sym, ap, _∙_}
 use mathlib.Core.List.{List, [], _++_, append-nil}
 use mathlib.Core.Bool.{Bool, true, false}
-use Prim.Native.Nat.{ℕ, _+_, _%_, _≤_, _<_}
+use Prim.Native.Nat.{ℕ, _+_, _≤_, _<_}
 use native.Mathlib.Omega.{arith}
 use lib.ListN.{length, getD, replicate, length-append, length-replicate, getD-replicate}
 use borrow.Author.Tests.{le-ltb}
 use Rattle.model.specs.declared.Stage.the-variants.{Open}
-use Rattle.model.specs.declared.Sizes.{Sizes}
 use Rattle.model.specs.declared.Core.{Core}
 use Rattle.model.specs.Word.{part}
-use Rattle.model.specs.Sizes.{total, ringWord}
-use Rattle.model.specs.Anchor.{backupAt}
+use Rattle.model.specs.Sizes.{total, ringOf, ringWord}
 use Rattle.model.specs.World.{World}
 use Rattle.model.specs.Memory.{epochOf, bufferOf}
-use Rattle.model.specs.State.{startOf, tailOf, fillOf, endOf, hasUpdate, placeOf, isOpen, noCheckpoint}
+use Rattle.model.specs.State.{limit, startOf, tailOf, fillOf, endOf, hasUpdate, placeOf, isOpen, noCheckpoint}
 use Rattle.model.specs.Causes.{whenOpen, tailOn}
 use Rattle.model.specs.Checkpoint.{perDisk, newStart}
 use Rattle.model.specs.Transaction.{diskOf}
 use Rattle.model.specs.Reference.{Reference}
+use Rattle.model.specs.History.{Put, recordsOn}
 use Rattle.model.proofs.Reader.{Holds, holds-append}
 use Rattle.model.proofs.Run.{SameLengths}
 use Rattle.model.proofs.Ledger.Entry.{Entry, All, pick}
@@ -28,18 +27,18 @@ use Rattle.model.proofs.Ledger.Order.{Ordered, wordsOf, on, boundary}
 use Rattle.model.proofs.Ledger.Sums.{true-false, all-map}
 use Rattle.model.proofs.Ledger.Picks.{all-pick}
 use Rattle.model.proofs.Ledger.Lists.{all-left, words-none}
-use Rattle.model.proofs.Ledger.Positions.{Suffix}
+use Rattle.model.proofs.Ledger.Positions.{Suffix, boundary-from}
 use Rattle.model.proofs.Ledger.Ordered.{keptFrom, switch-suffix, ordered-switch}
 use Rattle.model.proofs.Ledger.Good.{good-same}
 use Rattle.model.proofs.Ledger.Checkpoint.{switch-good}
 use Rattle.model.proofs.Ledger.Switch.{placed-kept}
 use Rattle.model.proofs.Link.Words.{Link}
 use Rattle.model.proofs.Restart.Progress.{getD-per-disk, length-per-disk}
-use Rattle.model.proofs.Store.View.{view, Devices, Safe, Accounts, Epochs, Serving, before}
-use Rattle.model.proofs.Store.Same.{sets-same}
+use Rattle.model.proofs.Store.View.{view, Devices, Safe, Accounts, Epochs, Since, Serving, before}
+use Rattle.model.proofs.Store.Same.{sets-same, owners-same}
 use Rattle.model.proofs.Store.Flush.{lengths-same}
-use Rattle.model.proofs.Store.NewStarts.{firstOf, boundary-later, first-boundary, new-boundary, start-early, placed, page-copied, may}
-use Rattle.model.proofs.Store.Starts.{Moved}
+use Rattle.model.proofs.Store.NewStarts.{firstOf, boundary-later, since-later, first-boundary, new-boundary, start-early, first-stays, reserved-stays, placed, page-copied, may}
+use Rattle.model.proofs.Store.Starts.{Moved, backup-back}
 
 -- the state that a checkpoint's end leaves
 abbrev pub switchedCore : Core → Core
@@ -55,9 +54,8 @@ switchedCore c =
       replay = c .replay;
     }
 
-module _ {home : ℕ → ℕ} {c : Core} {w : World} {r : Reference} {F : List Entry} (g : Serving 0 home c w r F [])
-    (copying : whenOpen (c .stage) ≡ false) (copied : c .sizes .pages ≤ c .checkpoint .copied)
-    (disks : (t : ℕ) → isOpen (c .table) t ≡ true → diskOf c t < c .sizes .disks) where
+module _ {home : ℕ → ℕ} {puts : List Put} {c : Core} {w : World} {r : Reference} {F : List Entry} (g : Serving 0 home puts c w r F [])
+    (copying : whenOpen (c .stage) ≡ false) (copied : c .sizes .pages ≤ c .checkpoint .copied) where
   abbrev kept : Entry → Bool
   kept = keptFrom (newStart c)
 
@@ -98,6 +96,7 @@ module _ {home : ℕ → ℕ} {c : Core} {w : World} {r : Reference} {F : List E
           lengths = lengths-same (c .sizes) lengths (g .safe .devices .lengths);
           sizes = moved .sizes ∙ g .safe .devices .sizes;
           epoch = moved .epoch;
+          formatted = omega arith;
           starts = λ d h. moved .starts d h ∙ sym (start-now d h);
           arrays =
               record {
@@ -108,13 +107,6 @@ module _ {home : ℕ → ℕ} {c : Core} {w : World} {r : Reference} {F : List E
                 ring = g .safe .devices .arrays .ring;
               };
         }
-
-    -- the checkpoint after the next writes the backup that was current
-    backup-back : (s : Sizes) (n : ℕ) → backupAt s (n + 1 + 1) ≡ backupAt s n
-    unfolding backupAt
-    backup-back s n =
-        let e : (n + 1 + 1) % 2 ≡ n % 2 = omega arith in
-        rw e
 
     same : Same (total (c .sizes)) (switched (view c w r F []) kept) (view now v r (pick kept F) [])
     unfolding view switched epochOf
@@ -165,6 +157,16 @@ module _ {home : ℕ → ℕ} {c : Core} {w : World} {r : Reference} {F : List E
     thin : (P : Entry → Type 0) → All P (F ++ []) → All P (pick kept F ++ [])
     thin P h = rw (append-nil (pick kept F)) (all-pick P kept F (all-left P F [] h))
 
+    -- a log ends where it did, and it begins no earlier
+    ends : (d : ℕ) → d < c .sizes .disks
+        → (endOf (now .logs) d ≤ startOf (now .logs) d + ringOf (c .sizes) d) × (endOf (now .logs) d ≤ limit)
+    unfolding endOf
+    ends d h =
+        let now-end : endOf (now .logs) d ≤ endOf (c .logs) d = omega (arith, tail-now d h, fill-now d h) in
+        let later = boundary-from (newStart c d) (startOf (c .logs) d) (on d F) (cut d h) in
+        let old = g .safe .ends d h in
+        (omega (arith, start-now d h), omega arith)
+
     safe : Safe 0 home now v r (pick kept F) []
     safe =
         record {
@@ -173,6 +175,7 @@ module _ {home : ℕ → ℕ} {c : Core} {w : World} {r : Reference} {F : List E
           link = link;
           ordered = ordered;
           fit = thin _ (g .safe .fit);
+          ends = ends;
           sizes = g .safe .sizes;
           shaped = g .safe .shaped;
         }
@@ -182,8 +185,9 @@ module _ {home : ℕ → ℕ} {c : Core} {w : World} {r : Reference} {F : List E
     unfolding on pick
     first-kept t o h =
         let d : ℕ = diskOf c t in
-        rw (start-now d (disks t o), append-nil (on d (pick kept F)))
-        (boundary-later (g .safe .ordered) (newStart c) d (firstOf c t) (disks t o) (cut d (disks t o))
+        let below : d < c .sizes .disks = g .accounts .disks t o in
+        rw (start-now d below, append-nil (on d (pick kept F)))
+        (boundary-later (g .safe .ordered) (newStart c) d (firstOf c t) below (cut d below)
         (first-boundary g copying copied t o h) (start-early g copying copied t o h))
 
     accounts : Accounts 0 home now (pick kept F) []
@@ -197,6 +201,9 @@ module _ {home : ℕ → ℕ} {c : Core} {w : World} {r : Reference} {F : List E
               (all-map (λ e h same. let k = h same in record { has = k .has; first = k .first; kind = k .kind }) (F ++ [])
               (g .accounts .own t o));
           firsts = first-kept;
+          disks = g .accounts .disks;
+          started = first-stays g copying copied;
+          reserved = reserved-stays g copying copied;
           settled = rw (append-nil (pick kept F)) (placed-kept (g .safe .ordered) (newStart c) (placed g copying copied) .settled);
           numbered = thin _ (g .accounts .numbered);
         }
@@ -212,8 +219,15 @@ module _ {home : ℕ → ℕ} {c : Core} {w : World} {r : Reference} {F : List E
           ends = λ o. true-false refl o;
         }
 
+    -- what goes is the older part of what was put
+    told : (d : ℕ) → d < c .sizes .disks → Since (recordsOn d puts) (on d (pick kept F) ++ on d [])
+    unfolding on pick
+    told d h =
+        rw (append-nil (on d (pick kept F)))
+        (since-later (g .safe .ordered) (newStart c) d h (cut d h) (rw (append-nil (on d F)) at (g .told d h)))
+
     -- the store is open, with the other backup current
-    pub switch-serving : Serving 0 home now v r (pick kept F) []
+    pub switch-serving : Serving 0 home puts now v r (pick kept F) []
     switch-serving =
         record {
           stage = refl;
@@ -221,4 +235,6 @@ module _ {home : ℕ → ℕ} {c : Core} {w : World} {r : Reference} {F : List E
           accounts = accounts;
           epochs = epochs;
           sets = sets-same refl refl (g .sets);
+          owners = owners-same (g .safe .devices .bounds) refl refl refl (λ i h. rw (moved .work-same)) (g .owners);
+          told = told;
         }

@@ -1,6 +1,6 @@
 -- All updates of a transaction taken back, one after the other.
-use mathlib.Core.Path.{_≡_, refl, sym, ap, _∙_}
-use mathlib.Core.List.{List, [], _∷_, _++_}
+use mathlib.Core.Path.{_≡_, refl, sym, ap, fun-ext, _∙_}
+use mathlib.Core.List.{List, [], _∷_, _++_, map, append-assoc, append-nil}
 use mathlib.Core.Bool.{true}
 use Prim.Native.Nat.{ℕ, _+_, _-_, _≤_, _<_}
 use native.Mathlib.Omega.{arith}
@@ -10,11 +10,12 @@ use Rattle.model.specs.Word.{_⊕_}
 use Rattle.model.specs.Sizes.{ringOf}
 use Rattle.model.specs.Scan.{Update, updateWords}
 use Rattle.model.specs.World.{World, perform, stores, run}
-use Rattle.model.specs.State.{startOf, endOf, withLog, isOpen, placeOf, hasUpdate}
+use Rattle.model.specs.State.{limit, startOf, endOf, withLog, isOpen, placeOf, hasUpdate}
 use Rattle.model.specs.Append.{Appended}
 use Rattle.model.specs.Transaction.{diskOf}
 use Rattle.model.specs.Abort.{undoAll}
 use Rattle.model.specs.Reference.{Reference}
+use Rattle.model.specs.History.{Put, compensation}
 use Rattle.model.proofs.Xor.{⊕-assoc, ⊕-zero-r}
 use Rattle.model.proofs.Run.{perform-append, stores-append, run-append, run-cut}
 use Rattle.model.proofs.Ledger.Entry.{Entry, All, sum}
@@ -24,27 +25,32 @@ use Rattle.model.proofs.Link.Abort.{sumUpdates}
 use Rattle.model.proofs.Store.View.{Kept, Serving}
 use Rattle.model.proofs.Store.Compensate.{Slotted, Compensated, compensated}
 
+-- the records of the compensations of some updates
+abbrev pub compensations : Core → World → ℕ → List Update → List Put
+compensations c w t us = map (λ u. record { disk = diskOf c t; content = compensation c w t u }) us
+
 module _ {t : ℕ} {home : ℕ → ℕ} {c : Core} {w : World} {r : Reference} {F B : List Entry} where
   -- nothing to take back
-  pub none-undone : Serving t home c w r F B → Small (c .sizes) (c .logs) → (d : ℕ)
-      → Compensated t home c w r F B d 0 (λ i. 0) (record { actions = []; logs = c .logs })
+  pub none-undone : {puts : List Put} → Serving t home puts c w r F B → Small (c .sizes) (c .logs) → (d : ℕ)
+      → Compensated t home (puts ++ []) c w r F B d 0 (λ i. 0) (record { actions = []; logs = c .logs })
   unfolding withLog perform stores
-  none-undone g small d =
+  none-undone {puts} g small d =
       record {
         flushed = F;
         buffered = B;
-        serving = g;
+        serving = rw (append-nil puts) g;
         sums = λ i. sym (⊕-zero-r (ofTxn i t (F ++ B)));
         starts = λ e. refl;
         ends = omega arith;
         small = small;
+        epochs = λ page. refl;
         cut = λ k h. absurd (omega arith);
       }
 
   -- one compensation and then others
-  pub then-undone : {d m n : ℕ} {f h : ℕ → ℕ} {one rest : Appended} (a : Compensated t home c w r F B d m f one)
-      → Compensated t home (withLog c (one .logs) (c .table)) (perform (one .actions) w) r (a .flushed) (a .buffered) d n h rest
-      → Compensated t home c w r F B d (m + n) (λ i. f i ⊕ h i) (record { actions = one .actions ++ rest .actions; logs = rest .logs })
+  pub then-undone : {puts after : List Put} {d m n : ℕ} {f h : ℕ → ℕ} {one rest : Appended} (a : Compensated t home puts c w r F B d m f one)
+      → Compensated t home after (withLog c (one .logs) (c .table)) (perform (one .actions) w) r (a .flushed) (a .buffered) d n h rest
+      → Compensated t home after c w r F B d (m + n) (λ i. f i ⊕ h i) (record { actions = one .actions ++ rest .actions; logs = rest .logs })
   unfolding withLog
   then-undone {d} {m} {n} {f} {h} {one} {rest} a b =
       record {
@@ -55,6 +61,7 @@ module _ {t : ℕ} {home : ℕ → ℕ} {c : Core} {w : World} {r : Reference} {
         starts = λ e. b .starts e ∙ a .starts e;
         ends = omega (arith, a .ends, b .ends);
         small = b .small;
+        epochs = λ page. rw (perform-append (one .actions) (rest .actions) w) (b .epochs page ∙ a .epochs page);
         cut = λ k l. cut k l (decLt k (stores (one .actions)));
       }
     where
@@ -64,15 +71,34 @@ module _ {t : ℕ} {home : ℕ → ℕ} {c : Core} {w : World} {r : Reference} {
           rw (run-append k (one .actions) (rest .actions) w (omega arith))
           (b .cut (k - stores (one .actions)) (omega (arith, stores-append (one .actions) (rest .actions))))
 
+  -- compensations leave copy epochs as they are, so they do not change the records of the next ones
+  same-compensations : {after : List Put} {d n : ℕ} {f : ℕ → ℕ} {one : Appended} → Compensated t home after c w r F B d n f one → (us : List Update)
+      → compensations (withLog c (one .logs) (c .table)) (perform (one .actions) w) t us ≡ compensations c w t us
+  unfolding compensation withLog diskOf
+  same-compensations a us = ap (λ (f : Update → Put). map f us) (fun-ext (λ u. rw (a .epochs (u .page))))
+
+  -- the first of some updates and then the others
+  first-undone : {d m n : ℕ} {f h : ℕ → ℕ} {one rest : Appended} (puts : List Put) (u : Update) (us : List Update)
+      (a : Compensated t home (puts ++ compensations c w t (u ∷ [])) c w r F B d m f one)
+      → Compensated t home ((puts ++ compensations c w t (u ∷ [])) ++ compensations (withLog c (one .logs) (c .table)) (perform (one .actions) w) t us)
+      (withLog c (one .logs) (c .table)) (perform (one .actions) w) r (a .flushed) (a .buffered) d n h rest
+      → Compensated t home (puts ++ compensations c w t (u ∷ us)) c w r F B d (m + n) (λ i. f i ⊕ h i)
+      (record { actions = one .actions ++ rest .actions; logs = rest .logs })
+  first-undone puts u us a b =
+      rw (← append-assoc puts (compensations c w t (u ∷ [])) (compensations c w t us), ← same-compensations a us) (then-undone a b)
+
 -- all of them, with room for their records
-pub undone : {t : ℕ} {home : ℕ → ℕ} {c : Core} {w : World} {r : Reference} {F B : List Entry} → Serving t home c w r F B
+pub undone : {t : ℕ} {home : ℕ → ℕ} {puts : List Put} {c : Core} {w : World} {r : Reference} {F B : List Entry} → Serving t home puts c w r F B
     → isOpen (c .table) t ≡ true → hasUpdate (c .table) (placeOf (c .table) t) ≡ true → diskOf c t < c .sizes .disks
     → Small (c .sizes) (c .logs) → (us : List Update) → All (Slotted (c .sizes)) us
     → endOf (c .logs) (diskOf c t) + updateWords us ≤ startOf (c .logs) (diskOf c t) + ringOf (c .sizes) (diskOf c t)
-    → Compensated t home c w r F B (diskOf c t) (updateWords us) (λ i. sumUpdates (c .sizes) i us)
+    → endOf (c .logs) (diskOf c t) + updateWords us ≤ limit
+    → Compensated t home (puts ++ compensations c w t us) c w r F B (diskOf c t) (updateWords us) (λ i. sumUpdates (c .sizes) i us)
     (undoAll (c .sizes) (c .logs) w t (diskOf c t) us)
 unfolding undoAll updateWords sumUpdates sum withLog diskOf
-undone {t = t} {c = c} g opened has below small [] slotted room = none-undone g small (diskOf c t)
-undone {t = t} {c = c} g opened has below small (u ∷ us) slotted room =
-    let one = compensated g opened has below small u (slotted .0) (omega arith) in
-    then-undone one (undone (one .serving) opened has below (one .small) us (slotted .1) (omega (arith, one .starts (diskOf c t), one .ends)))
+undone {t} {puts = puts} {c = c} g opened has below small [] slotted room short = none-undone g small (diskOf c t)
+undone {t} {puts = puts} {c = c} {w = w} g opened has below small (u ∷ us) slotted room short =
+    let one = compensated g opened has below small u (slotted .0) (omega arith) (omega arith) in
+    first-undone puts u us one
+    (undone (one .serving) opened has below (one .small) us (slotted .1) (omega (arith, one .starts (diskOf c t), one .ends))
+    (omega (arith, one .ends)))

@@ -1,25 +1,27 @@
 -- An update keeps what holds of an open store; cut inside the flush that makes room for its record, it loses nothing.
 use mathlib.Core.Path.{_≡_, refl, sym, subst, _∙_}
 use mathlib.Core.List.{List, [], _∷_, _++_, append-assoc}
-use mathlib.Core.Bool.{true, false, cond}
-use Prim.Native.Nat.{ℕ, _+_, _≤_, _<_}
+use mathlib.Core.Bool.{true, false, cond, not, _&&_, and-eq-true-iff}
+use Prim.Native.Nat.{ℕ, _+_, _-_, _*_, _≤_, _<_}
 use native.Mathlib.Omega.{arith}
 use lib.Dec.{leb}
 use lib.ListN.{length}
-use borrow.Author.Tests.{leb-false, eqb-true, ne-eqb, not-false}
+use borrow.Author.Tests.{leb-true, leb-false, eqb-true, ne-eqb, not-false}
 use Rattle.model.specs.declared.Table.{Table}
 use Rattle.model.specs.declared.Core.{Core}
 use Rattle.model.specs.Sizes.{slotsIn, widthIn, slotBase, ringOf}
-use Rattle.model.specs.Record.{encode}
+use Rattle.model.specs.Record.{Record, encode, wordsOf, updateKind}
 use Rattle.model.specs.World.{World, Action, write, pages, work, cost, act, perform, stores, run, finishes, each}
 use Rattle.model.specs.Memory.{ownerAt, ownerOf}
-use Rattle.model.specs.State.{startOf, fillOf, endOf, withLog, isOpen, placeOf, firstAt, reservedAt, hasUpdate, withPlace, servingSound}
+use Rattle.model.specs.State.{limit, startOf, endOf, withLog, isOpen, placeOf, firstAt, reservedAt, hasUpdate, withPlace, reservedOn, servingSound}
+use Rattle.model.specs.Room.{hasRoom}
 use Rattle.model.specs.Refusal.{accepted, verdict}
 use Rattle.model.specs.Causes.{whenServing, stageForbids, slotMissing, notOpen, valueWrong, locked}
 use Rattle.model.specs.Append.{Appended, append}
 use Rattle.model.specs.Transaction.{diskOf, slotWords, updateRecord, updated, updateRows, updateTask}
 use Rattle.model.specs.Call.{update}
 use Rattle.model.specs.Reference.{Reference, afterTaken}
+use Rattle.model.specs.History.{Put, putBy}
 use Rattle.model.proofs.Run.{perform-append, perform-pages, run-cut, stores-append, stores-written}
 use Rattle.model.proofs.Counts.{append-fits}
 use Rattle.model.proofs.Places.{open-place, place-holds}
@@ -38,6 +40,7 @@ use Rattle.model.proofs.Store.UpdateTable.{serving-updated}
 module _ (c : Core) (w : World) (number page slot : ℕ) (value : List ℕ) (ok : verdict (updateRows c w number page slot value) ≡ accepted) where
   rows : (stageForbids whenServing c ≡ false) × (slotMissing (c .sizes) page slot ≡ false) × (notOpen c number ≡ false)
       × (valueWrong (c .sizes) page value ≡ false) × (locked c w number page slot ≡ false)
+      × (not (hasRoom c (2 * wordsOf updateKind (widthIn (c .sizes) page)) (diskOf c number)) ≡ false)
   unfolding updateRows
   rows =
       let r1 = row-passed _ _ ok in
@@ -47,7 +50,8 @@ module _ (c : Core) (w : World) (number page slot : ℕ) (value : List ℕ) (ok 
       let r9 = row-passed _ _ (r8 .1) in
       let r10 = row-passed _ _ (r9 .1) in
       let r11 = row-passed _ _ (r10 .1) in
-      (r1 .0, r8 .0, r9 .0, r10 .0, r11 .0)
+      let r14 = row-passed _ _ (r11 .1) in
+      (r1 .0, r8 .0, r9 .0, r10 .0, r11 .0, r14 .0)
 
   within-bounds : servingSound c ≡ true
   within-bounds =
@@ -89,11 +93,18 @@ module _ (c : Core) (w : World) (number page slot : ℕ) (value : List ℕ) (ok 
   pub update-small : Small (c .sizes) (c .logs)
   update-small d below = disk-sound c d within-bounds below .fill
 
-  pub update-ring : (d : ℕ) → d < c .sizes .disks → endOf (c .logs) d ≤ startOf (c .logs) d + ringOf (c .sizes) d
-  unfolding endOf
-  update-ring d below =
-      let k = disk-sound c d within-bounds below in
-      omega (arith, k .ordered, k .room)
+  -- row 14: the record fits the ring and the bound of positions
+  pub update-room : (endOf (c .logs) (diskOf c number) + (3 + widthIn (c .sizes) page) ≤ startOf (c .logs) (diskOf c number) + ringOf (c .sizes) (diskOf c number))
+      × (endOf (c .logs) (diskOf c number) + (3 + widthIn (c .sizes) page) ≤ limit)
+  unfolding hasRoom wordsOf
+  update-room =
+      let d = diskOf c number in
+      let need = 2 * (3 + widthIn (c .sizes) page) in
+      let used = endOf (c .logs) d - startOf (c .logs) d + reservedOn (c .table) d + need in
+      let reach = endOf (c .logs) d + reservedOn (c .table) d + need in
+      let ring = leb used (ringOf (c .sizes) d) in
+      let h = and-eq-true-iff ring (leb reach limit) .0 (not-false (ring && leb reach limit) (rows .5)) in
+      (omega (arith, leb-true used (ringOf (c .sizes) d) (h .0)), omega (arith, leb-true reach limit (h .1)))
 
 -- cut before a part without stores, a list is cut inside what stands before it
 cut-short : (budget : ℕ) (l m : List Action) → stores m ≡ 0 → finishes budget (l ++ m) ≡ false → budget < stores l
@@ -101,7 +112,7 @@ unfolding finishes
 cut-short budget l m none h = omega (arith, leb-false (stores (l ++ m)) budget h, stores-append l m)
 
 -- An update is the flush that makes room, and an update with room.
-module _ {home : ℕ → ℕ} {c : Core} {w : World} {r : Reference} {F B : List Entry} (g : Serving 0 home c w r F B)
+module _ {home : ℕ → ℕ} {puts : List Put} {c : Core} {w : World} {r : Reference} {F B : List Entry} (g : Serving 0 home puts c w r F B)
     (number page slot : ℕ) (value : List ℕ) (ok : verdict (updateRows c w number page slot value) ≡ accepted) where
   may : Allowed c w number page slot value
   may = update-allowed c w number page slot value ok
@@ -119,9 +130,9 @@ module _ {home : ℕ → ℕ} {c : Core} {w : World} {r : Reference} {F B : List
   unfolding sizeOf recordOf isClose updateRecord
   size = update-size g number page slot value may
 
-  y : Ready 0 home c w r d (length words)
+  y : Ready 0 home puts c w r d (length words)
   y =
-      ready g d (length words) (may .disk) (update-small c w number page slot value ok) (update-ring c w number page slot value ok d (may .disk))
+      ready g d (length words) (may .disk) (update-small c w number page slot value ok)
       (omega (arith, size, g .safe .devices .bounds .used page (may .page-lt) .width-max))
 
   -- the state and the world between the two
@@ -147,9 +158,9 @@ module _ {home : ℕ → ℕ} {c : Core} {w : World} {r : Reference} {F B : List
         free = rw (y .only .work-same) (may .free);
       }
 
-  same-words : encode (recordOf (updateEntry c' v number page slot value)) ≡ words
+  same-record : recordOf (updateEntry c' v number page slot value) ≡ updateRecord c w number page slot value
   unfolding withLog updateRecord recordOf isClose slotWords
-  same-words = rw (y .only .work-same, y .only .pages-same)
+  same-record = rw (y .only .work-same, y .only .pages-same)
 
   -- what an update does, in two
   update-actions : updateTask c w number page slot value .actions
@@ -176,21 +187,26 @@ module _ {home : ℕ → ℕ} {c : Core} {w : World} {r : Reference} {F B : List
   unfolding updated
   same-table = rw (y .ends)
 
-  abbrev After : List ℕ → Table → Type 0
-  After xs t =
-      Serving 0 home (withLog c (append (c .sizes) (y .logs) (v .work) d xs .logs) t)
-      (slotChanged (perform (append (c .sizes) (y .logs) (v .work) d xs .actions) v) at value number)
+  -- what holds after record q
+  abbrev After : Record → Table → Type 0
+  After q t =
+      Serving 0 home (puts ++ record { disk = d; content = q } ∷ []) (withLog c (append (c .sizes) (y .logs) (v .work) d (encode q) .logs) t)
+      (slotChanged (perform (append (c .sizes) (y .logs) (v .work) d (encode q) .actions) v) at value number)
       (noted r number page slot value) (y .flushed) (y .buffered ++ updateEntry c' v number page slot value ∷ [])
 
-  room' : fillOf (y .logs) d + sizeOf (updateEntry c' v number page slot value) ≤ 64
+  size' : sizeOf (updateEntry c' v number page slot value) ≡ length words
   unfolding sizeOf
-  room' = rw same-words (y .room)
+  size' = rw same-record
 
-  after : After (encode (recordOf (updateEntry c' v number page slot value))) (tableOf (length (encode (recordOf (updateEntry c' v number page slot value)))))
+  after : After (recordOf (updateEntry c' v number page slot value)) (tableOf (length (encode (recordOf (updateEntry c' v number page slot value)))))
   unfolding withLog diskOf sizeOf
-  after = serving-updated (y .serving) number page slot value may' (y .small) room'
+  after =
+      let h = update-room c w number page slot value ok in
+      serving-updated (y .serving) number page slot value may' (y .small) (omega (arith, size', y .room))
+      (omega (arith, size, size', h .0, y .starts d, y .ends)) (omega (arith, size, size', h .1, y .ends))
 
-  pub update-served : Served (updateTask c w number page slot value .core) (perform (updateTask c w number page slot value .actions) w)
+  pub update-served : Served (puts ++ record { disk = d; content = updateRecord c w number page slot value } ∷ [])
+      (updateTask c w number page slot value .core) (perform (updateTask c w number page slot value .actions) w)
       (noted r number page slot value)
   update-served =
       record {
@@ -199,7 +215,8 @@ module _ {home : ℕ → ℕ} {c : Core} {w : World} {r : Reference} {F B : List
         buffered = y .buffered ++ updateEntry c' v number page slot value ∷ [];
         serving =
             rw (update-core, update-world)
-            (subst (After words) same-table (subst (λ (xs : List ℕ). After xs (tableOf (length xs))) same-words after));
+            (subst (After (updateRecord c w number page slot value)) same-table
+            (subst (λ (q : Record). After q (tableOf (length (encode q)))) same-record after));
       }
 
   -- only the flush has stores
@@ -218,10 +235,10 @@ module _ {home : ℕ → ℕ} {c : Core} {w : World} {r : Reference} {F B : List
       short : finishes budget (y .flushing ++ rest) ≡ false → budget < stores (y .flushing)
       short h = cut-short budget (y .flushing) rest stores-rest h
 
-module _ {c : Core} {w : World} {r : Reference} (g : Served c w r) where
+module _ {puts : List Put} {c : Core} {w : World} {r : Reference} (g : Served puts c w r) where
   -- finished, it leaves an open store whose reference has noted its write
   pub update-serves : (number page slot : ℕ) (value : List ℕ) (budget n : ℕ) → verdict (updateRows c w number page slot value) ≡ accepted
-      → Served (updateTask c w number page slot value .core) (perform (updateTask c w number page slot value .actions) w)
+      → Served (puts ++ putBy (update number page slot value budget) c w) (updateTask c w number page slot value .core) (perform (updateTask c w number page slot value .actions) w)
       (afterTaken (update number page slot value budget) n r)
   update-serves number page slot value budget n ok = update-served (g .serving) number page slot value ok
 

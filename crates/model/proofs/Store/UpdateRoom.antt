@@ -20,6 +20,7 @@ use Rattle.model.specs.Memory.{bufferAt, epochAt, workWords, ownerAt, ow
 use Rattle.model.specs.State.{endOf, withLog, isOpen, placeOf, reservedAt}
 use Rattle.model.specs.Transaction.{diskOf, slotWords}
 use Rattle.model.specs.Reference.{Reference, Write, writesOf, added, withSets}
+use Rattle.model.specs.History.{Put}
 use Rattle.model.proofs.Xor.{⊕-self-left, ⊕-zero-r, length-xors-same, getD-xors-same}
 use Rattle.model.proofs.Lengths.{Lengths, lengths-right, length-part}
 use Rattle.model.proofs.Geometry.{pageOf, slotStart, slot-start, slot-in, slot-apart, slot-end-total}
@@ -80,7 +81,7 @@ sets-out l at vs i h = go (decLt i at) (decLt i (at + length vs))
     go (no before) (yes end) = true-false (spanning-in at (length vs) i (omega arith) end) h
     go (no before) (no end) = sets-after l at vs i (omega arith)
 
-module _ {home : ℕ → ℕ} {c : Core} {w : World} {r : Reference} {F B : List Entry} (g : Serving 0 home c w r F B)
+module _ {home : ℕ → ℕ} {puts : List Put} {c : Core} {w : World} {r : Reference} {F B : List Entry} (g : Serving 0 home puts c w r F B)
     (number page slot : ℕ) (value : List ℕ) (may : Allowed c w number page slot value) where
   abbrev s : Sizes
   s = c .sizes

@@ -1,56 +1,47 @@
 -- An update whose record fits the buffer keeps what holds of an open store: the table of transactions, the copy epochs, the write sets.
 use mathlib.Core.Path.{_≡_, refl, sym, ap, _∙_}
-use mathlib.Core.List.{List, [], _∷_, _++_}
-use mathlib.Core.Bool.{Bool, true, false, cond}
+use mathlib.Core.List.{List, [], _∷_, _++_, append-assoc}
+use mathlib.Core.Bool.{Bool, true, false, cond, _&&_, _||_, or-true}
 use Prim.Native.Nat.{ℕ, _+_, _≤_, _<_}
 use native.Mathlib.Omega.{arith}
 use native.Mathlib.Decide.{ℕ-discrete, decLt}
 use lib.Dec.{ltb, eqb}
 use lib.ListN.{length, getD, length-set}
 use lib.Seq.{length-sets, getD-set-other}
-use borrow.Author.Tests.{lt-ltb}
-use Rattle.model.specs.declared.Sizes.{Sizes}
+use borrow.Author.Tests.{lt-ltb, eq-eqb}
 use Rattle.model.specs.declared.Table.{Table}
 use Rattle.model.specs.declared.Core.{Core}
-use Rattle.model.specs.Sizes.{slotBase, total}
+use Rattle.model.specs.Sizes.{slotBase, total, ringOf}
 use Rattle.model.specs.Record.{encode}
 use Rattle.model.specs.World.{World, perform}
-use Rattle.model.specs.Memory.{bufferAt, workWords}
-use Rattle.model.specs.State.{places, startOf, fillOf, endOf, withLog, isOpen, placeOf, numberAt, diskAtPlace, firstAt, reservedAt, hasUpdate, withPlace}
+use Rattle.model.specs.Memory.{bufferAt, epochAt, workWords}
+use Rattle.model.specs.State.{places, limit, startOf, fillOf, endOf, withLog, isOpen, placeOf, numberAt, diskAtPlace, firstAt, reservedAt, hasUpdate, withPlace}
 use Rattle.model.specs.Append.{Appended, append}
 use Rattle.model.specs.Transaction.{diskOf}
-use Rattle.model.specs.Reference.{Reference, Write, WriteSet, added}
+use Rattle.model.specs.Reference.{Reference, Write}
+use Rattle.model.specs.History.{Put}
 use Rattle.model.proofs.Lengths.{lengths-right}
 use Rattle.model.proofs.Run.{perform-lengths}
-use Rattle.model.proofs.Slots.{Fits}
 use Rattle.model.proofs.WriteSets.{has-added, distinct-added}
 use Rattle.model.proofs.Places.{open-place, place-holds, put-disk, put-first, put-reserved, other-disk, other-first, other-reserved, update-place, update-open, update-tabled}
-use Rattle.model.proofs.Ledger.Entry.{Entry, recordOf, All, closedIn}
+use Rattle.model.proofs.Ledger.Entry.{Entry, recordOf, some, closedIn}
 use Rattle.model.proofs.Ledger.Order.{sizeOf, on, boundary}
-use Rattle.model.proofs.Ledger.Sums.{true-false, all-append, all-map}
+use Rattle.model.proofs.Ledger.Sums.{true-false, all-map}
+use Rattle.model.proofs.Ledger.Picks.{some-append}
 use Rattle.model.proofs.Ledger.Positions.{boundary-end}
 use Rattle.model.proofs.Link.Words.{Fit}
-use Rattle.model.proofs.Link.Buffered.{Small, InBuffer}
-use Rattle.model.proofs.Store.View.{view, Sets, Serving}
-use Rattle.model.proofs.Store.Logged.{Written, boundary-logged, in-buffer, safe-written, epochs-written, Entered, accounts-logged}
+use Rattle.model.proofs.Link.Buffered.{Small, InBuffer, owners-same}
+use Rattle.model.proofs.Store.View.{view, Sets, Owners, Serving}
+use Rattle.model.proofs.Store.Logged.{Written, told-more, boundary-logged, in-buffer, safe-written, epochs-written, Entered, accounts-logged}
 use Rattle.model.proofs.Store.LogEnd.{boundary-to, log-end, capped, early}
 use Rattle.model.proofs.Store.UpdateRoom.{Allowed, updateEntry, slotChanged, noted, at-lt, update-size, update-fit, update-unclosed, good-updated}
+use Rattle.model.proofs.Store.UpdateOwners.{fits-added, owners-updated}
 
--- a write that fits, added to sets of writes that do
-pub fits-added : (s : Sizes) (n : ℕ) (e : Write) → Fits s e → (sets : List WriteSet) → All (λ (x : WriteSet). All (Fits s) (x .writes)) sets
-    → All (λ (x : WriteSet). All (Fits s) (x .writes)) (added n e sets)
-unfolding added
-fits-added s n e fit [] h = tt
-fits-added s n e fit (x ∷ xs) h = go (eqb (x .number) n) (fits-added s n e fit xs (h .1))
-  where
-    go : (b : Bool) → All (λ (x : WriteSet). All (Fits s) (x .writes)) (added n e xs)
-        → All (λ (x : WriteSet). All (Fits s) (x .writes)) (cond b (record { number = n; writes = x .writes ++ e ∷ [] } ∷ xs) (x ∷ added n e xs))
-    go true rest = (all-append (Fits s) (x .writes) (e ∷ []) (h .0) (fit, tt), h .1)
-    go false rest = (h .0, rest)
-
-module _ {home : ℕ → ℕ} {c : Core} {w : World} {r : Reference} {F B : List Entry} (g : Serving 0 home c w r F B)
+module _ {home : ℕ → ℕ} {puts : List Put} {c : Core} {w : World} {r : Reference} {F B : List Entry} (g : Serving 0 home puts c w r F B)
     (number page slot : ℕ) (value : List ℕ) (may : Allowed c w number page slot value) (small : Small (c .sizes) (c .logs))
-    (room : fillOf (c .logs) (diskOf c number) + sizeOf (updateEntry c w number page slot value) ≤ 64) where
+    (room : fillOf (c .logs) (diskOf c number) + sizeOf (updateEntry c w number page slot value) ≤ 64)
+    (in-ring : endOf (c .logs) (diskOf c number) + sizeOf (updateEntry c w number page slot value) ≤ startOf (c .logs) (diskOf c number) + ringOf (c .sizes) (diskOf c number))
+    (in-limit : endOf (c .logs) (diskOf c number) + sizeOf (updateEntry c w number page slot value) ≤ limit) where
   abbrev e : Entry
   e = updateEntry c w number page slot value
 
@@ -102,11 +93,26 @@ module _ {home : ℕ → ℕ} {c : Core} {w : World} {r : Reference} {F B : List
   first-is : firstAt t (placeOf t number) ≡ first
   first-is = ap (firstAt t) (same-place number) ∙ put-first (c .table) (g .accounts .tabled) place number d first reserve placed
 
+  reserved-is : reservedAt t (placeOf t number) ≡ reserve
+  reserved-is = ap (reservedAt t) (same-place number) ∙ put-reserved (c .table) (g .accounts .tabled) place number d first reserve placed
+
+  -- one of its entries is the first: an old one, or this one
+  begun : some (λ q. eqb (q .number) number && eqb (q .position) first) (F ++ (B ++ e ∷ [])) ≡ true
+  unfolding some
+  begun = rw (← append-assoc F B (e ∷ []), some-append _ (F ++ B) (e ∷ [])) (go (hasUpdate (c .table) place) refl)
+    where
+      with-first : ℕ → Entry → Bool
+      with-first k q = eqb (q .number) number && eqb (q .position) k
+
+      go : (b : Bool) → hasUpdate (c .table) place ≡ b
+          → some (with-first (cond b (firstAt (c .table) place) (endOf (c .logs) d))) (F ++ B)
+          || some (with-first (cond b (firstAt (c .table) place) (endOf (c .logs) d))) (e ∷ []) ≡ true
+      go true h = rw (g .accounts .started number (may .opened) h)
+      go false h = rw (eq-eqb number number refl, eq-eqb (endOf (c .logs) d) (endOf (c .logs) d) refl) (or-true (some (with-first (endOf (c .logs) d)) (F ++ B)))
+
   has-one : hasUpdate t (placeOf t number) ≡ true
   unfolding hasUpdate
-  has-one =
-      rw (same-place number, put-reserved (c .table) (g .accounts .tabled) place number d first reserve placed)
-      (lt-ltb 2 reserve (omega (arith, may .reserved, update-size g number page slot value may)))
+  has-one = rw reserved-is (lt-ltb 2 reserve (omega (arith, may .reserved, update-size g number page slot value may)))
 
   disk-same : (n : ℕ) → isOpen (c .table) n ≡ true → Dec (n ≡ number) → diskAtPlace t (placeOf t n) ≡ diskOf c n
   unfolding diskOf
@@ -117,12 +123,14 @@ module _ {home : ℕ → ℕ} {c : Core} {w : World} {r : Reference} {F B : List
       ap (diskAtPlace t) (same-place n)
       ∙ other-disk (c .table) (g .accounts .tabled) place number d first reserve placed (placeOf (c .table) n) (apart n o ne)
 
+  reserved-same : (n : ℕ) → isOpen (c .table) n ≡ true → (n ≡ number → ⊥) → reservedAt t (placeOf t n) ≡ reservedAt (c .table) (placeOf (c .table) n)
+  reserved-same n o ne =
+      ap (reservedAt t) (same-place n)
+      ∙ other-reserved (c .table) (g .accounts .tabled) place number d first reserve placed (placeOf (c .table) n) (apart n o ne)
+
   has-same : (n : ℕ) → isOpen (c .table) n ≡ true → (n ≡ number → ⊥) → hasUpdate t (placeOf t n) ≡ hasUpdate (c .table) (placeOf (c .table) n)
   unfolding hasUpdate
-  has-same n o ne =
-      ap (λ (k : ℕ). ltb 2 k)
-      (ap (reservedAt t) (same-place n)
-      ∙ other-reserved (c .table) (g .accounts .tabled) place number d first reserve placed (placeOf (c .table) n) (apart n o ne))
+  has-same n o ne = ap (λ (k : ℕ). ltb 2 k) (reserved-same n o ne)
 
   first-same : (n : ℕ) → isOpen (c .table) n ≡ true → (n ≡ number → ⊥) → firstAt t (placeOf t n) ≡ firstAt (c .table) (placeOf (c .table) n)
   first-same n o ne =
@@ -138,17 +146,19 @@ module _ {home : ℕ → ℕ} {c : Core} {w : World} {r : Reference} {F B : List
   fit : Fit (c .sizes) e
   fit = update-fit g number page slot value may
 
-  entered : Entered (g .safe) e (may .disk) here small room refl unclosed fit t
+  entered : Entered (g .safe) e (may .disk) here small room refl unclosed fit in-ring in-limit t
   entered =
       record {
         tabled = update-tabled (c .table) (g .accounts .tabled) place number d first reserve placed holds;
         opened = same-open;
         disks = λ n o. disk-same n o (ℕ-discrete n number);
-        others = λ n o ne. (has-same n o ne, first-same n o ne);
+        others = λ n o ne. (has-same n o ne, first-same n o ne, reserved-same n o ne);
         has = has-one;
         first = rw first-is first-le;
         firsts = all-map (λ q h n. rw (first-is, h n .has) (h n .first)) (F ++ B) (g .accounts .own number (may .opened));
         at = rw first-is (boundary-logged first (startOf (c .logs) d) d F B e first-edge);
+        started = rw first-is begun;
+        reserved = λ ne. omega (arith, reserved-is, g .accounts .reserved number (may .opened) ne);
         kind = λ h. refl;
         open? = may .opened;
       }
@@ -194,7 +204,7 @@ module _ {home : ℕ → ℕ} {c : Core} {w : World} {r : Reference} {F B : List
       }
 
   buffer : InBuffer (c .sizes) d w bufferedWorld
-  buffer = in-buffer (g .safe) e (may .disk) here small room refl unclosed fit
+  buffer = in-buffer (g .safe) e (may .disk) here small room refl unclosed fit in-ring in-limit
 
   long : length (bufferedWorld .work) ≡ workWords (c .sizes)
   long = perform-lengths _ w .work ∙ lengths-right (c .sizes) w (g .safe .devices .lengths) .work
@@ -214,18 +224,26 @@ module _ {home : ℕ → ℕ} {c : Core} {w : World} {r : Reference} {F B : List
             (r .writeSets) (g .sets .fits);
       }
 
-  pub serving-updated : Serving 0 home updatedCore changed (noted r number page slot value) F (B ++ e ∷ [])
+  owners-after : Owners updatedCore changed (noted r number page slot value)
+  unfolding withLog workWords epochAt bufferAt
+  owners-after =
+      owners-updated (g .owners) (g .safe .devices .bounds) number page slot value may (sym (g .sets .has number) ∙ may .opened) number-lt
+      bufferedWorld (omega (arith, long)) (owners-same buffer) updatedCore refl refl same-open
+
+  pub serving-updated : Serving 0 home (puts ++ record { disk = d; content = recordOf e } ∷ []) updatedCore changed (noted r number page slot value) F (B ++ e ∷ [])
   unfolding withLog bufferAt
   serving-updated =
       record {
         stage = g .stage;
         safe =
-            safe-written (g .safe) e (may .disk) here small room refl unclosed fit written 0 t (noted r number page slot value)
+            safe-written (g .safe) e (may .disk) here small room refl unclosed fit in-ring in-limit written 0 t (noted r number page slot value)
             (g .safe .sizes) (g .safe .shaped)
             (good-updated g number page slot value may bufferedWorld buffer long t same-open _);
-        accounts = accounts-logged (g .safe) e (may .disk) here small room refl unclosed fit (g .accounts) t entered number-lt;
+        accounts = accounts-logged (g .safe) e (may .disk) here small room refl unclosed fit in-ring in-limit (g .accounts) t entered number-lt;
         epochs =
-            epochs-written (g .safe) e (may .disk) here small room refl unclosed fit written (g .epochs)
+            epochs-written (g .safe) e (may .disk) here small room refl unclosed fit in-ring in-limit written (g .epochs)
             (λ i h. other-word i (omega arith)) (λ o. capped g e page (may .page-lt) refl) (λ h o. early g e page (may .page-lt) refl (may .disk) refl h) t;
         sets = sets-after;
+        owners = owners-after;
+        told = λ n h. told-more puts F B e (record { disk = d; content = recordOf e }) refl refl n (g .told n h);
       }

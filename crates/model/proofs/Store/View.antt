@@ -1,38 +1,56 @@
 -- What holds of an open store between two calls: the state, the devices and the reference as one ledger.
 use mathlib.Core.Path.{_≡_}
 use mathlib.Core.List.{List, [], _∷_, _++_, map}
-use mathlib.Core.Bool.{Bool, true, false, cond, _||_}
+use mathlib.Core.Bool.{Bool, true, false, cond, _&&_, _||_}
 use Prim.Native.Nat.{ℕ, _+_, _≤_, _<_}
-use lib.Dec.{ltb}
+use lib.Dec.{ltb, eqb}
 use lib.ListN.{length, getD}
 use Rattle.model.specs.declared.Stage.{Stage}
 use Rattle.model.specs.declared.Sizes.{Sizes}
 use Rattle.model.specs.declared.Core.{Core}
-use Rattle.model.specs.Sizes.{total, sizesInBounds}
+use Rattle.model.specs.Sizes.{total, slotsIn, ringOf, sizesInBounds}
 use Rattle.model.specs.Anchor.{anchorWords, epochOn, sizesOn, startOn, backupAt}
 use Rattle.model.specs.World.{World}
-use Rattle.model.specs.Memory.{epochOf, lengthsRight}
-use Rattle.model.specs.State.{startOf, isOpen, placeOf, firstAt, hasUpdate}
-use Rattle.model.specs.Causes.{whenOpen, whenServing}
+use Rattle.model.specs.Memory.{ownerOf, epochOf, lengthsRight}
+use Rattle.model.specs.State.{limit, startOf, endOf, isOpen, placeOf, firstAt, reservedAt, hasUpdate}
+use Rattle.model.specs.Causes.{whenOpen, whenServing, tailOn, retained}
 use Rattle.model.specs.Transaction.{diskOf}
 use Rattle.model.specs.Image.{imageOf, restarted}
-use Rattle.model.specs.Reference.{Reference, WriteSet, writesOf, wordsIn}
+use Rattle.model.specs.Reference.{Reference, WriteSet, writesOf, writesSlot, wordsIn}
+use Rattle.model.specs.Record.{Record}
+use Rattle.model.specs.Scan.{end}
+use Rattle.model.specs.History.{Put, recordsOn}
+use Rattle.model.proofs.Reading.{ending}
 use Rattle.model.proofs.Bounds.{Bounded}
 use Rattle.model.proofs.Geometry.{pageOf, slotStart}
 use Rattle.model.proofs.Slots.{patchOf, Fits, Shaped}
 use Rattle.model.proofs.WriteSets.{hasSet, Distinct}
 use Rattle.model.proofs.Places.{Tabled}
-use Rattle.model.proofs.Ledger.Entry.{Entry, isClose, All, closedIn}
+use Rattle.model.proofs.Ledger.Entry.{Entry, recordOf, isClose, some, All, closedIn}
 use Rattle.model.proofs.Ledger.State.{Ledger}
-use Rattle.model.proofs.Ledger.Order.{Ordered, on, boundary}
+use Rattle.model.proofs.Ledger.Order.{Ordered, on, sizeOf, boundary}
 use Rattle.model.proofs.Ledger.Good.{Good}
 use Rattle.model.proofs.Link.Words.{Fit, Arrays, Link}
+
+-- A restart finds nothing to refuse, its number aside: the slices have the anchor's lengths, and each log is well formed from its
+-- start to its tail.
+pub record Restartable (w : World) : Type 0 where
+  pub anchor : length (w .anchor) ≡ anchorWords
+  pub bounds : sizesInBounds (sizesOn (w .anchor)) ≡ true
+  pub lengths : lengthsRight (sizesOn (w .anchor)) w ≡ true
+  pub formatted : 1 ≤ epochOn (w .anchor)
+  pub tails : (d : ℕ) → d < sizesOn (w .anchor) .disks
+      → (startOn (w .anchor) d ≤ tailOn (sizesOn (w .anchor)) w d)
+      × (tailOn (sizesOn (w .anchor)) w d ≤ startOn (w .anchor) d + ringOf (sizesOn (w .anchor)) d)
+      × (tailOn (sizesOn (w .anchor)) w d ≤ limit)
+  pub clean : (d : ℕ) → d < sizesOn (w .anchor) .disks → ending (retained (sizesOn (w .anchor)) w d) ≡ end
 
 -- The devices keep what a restart needs: their image restarts to the committed contents.
 pub record Kept (w : World) (r : Reference) : Type 0 where
   pub sizes : sizesOn (w .anchor) ≡ r .sizes
   pub shaped : Shaped (r .sizes) (r .committed)
   pub image : restarted (imageOf w) ≡ wordsIn (r .committed)
+  pub sound : Restartable w
 
 -- the store and its reference as a ledger, with the flushed entries F and the buffered entries B
 unfoldable pub view : Core → World → Reference → List Entry → List Entry → Ledger
@@ -59,6 +77,7 @@ pub record Devices (c : Core) (w : World) : Type 0 where
   pub lengths : lengthsRight (c .sizes) w ≡ true
   pub sizes : sizesOn (w .anchor) ≡ c .sizes
   pub epoch : epochOn (w .anchor) ≡ c .epoch
+  pub formatted : 1 ≤ c .epoch
   pub starts : (d : ℕ) → d < c .sizes .disks → startOn (w .anchor) d ≡ startOf (c .logs) d
   pub arrays : Arrays (c .sizes) (c .logs)
 
@@ -69,6 +88,9 @@ pub record Safe (x : ℕ) (home : ℕ → ℕ) (c : Core) (w : World) (r : Refer
   pub link : Link (c .sizes) (c .logs) w F B
   pub ordered : Ordered (c .sizes .disks) (startOf (c .logs)) home F B
   pub fit : All (Fit (c .sizes)) (F ++ B)
+  -- a log's end lies within its ring and below the bound of positions
+  pub ends : (d : ℕ) → d < c .sizes .disks
+      → (endOf (c .logs) d ≤ startOf (c .logs) d + ringOf (c .sizes) d) × (endOf (c .logs) d ≤ limit)
   pub sizes : r .sizes ≡ c .sizes
   pub shaped : Shaped (c .sizes) (r .committed)
 
@@ -78,6 +100,11 @@ pub record Own (x : ℕ) (c : Core) (t : ℕ) (e : Entry) : Type 0 where
   pub first : firstAt (c .table) (placeOf (c .table) t) ≤ e .position
   pub kind : (t ≡ x → ⊥) → e .kind ≡ 0
 
+-- the words of a transaction's entries
+unfoldable pub wordsFor : ℕ → List Entry → ℕ
+wordsFor t [] = 0
+wordsFor t (e ∷ l) = cond (eqb (e .number) t) (sizeOf e) 0 + wordsFor t l
+
 -- The table of transactions against the log.
 pub record Accounts (x : ℕ) (home : ℕ → ℕ) (c : Core) (F B : List Entry) : Type 0 where
   pub tabled : Tabled (c .table)
@@ -85,6 +112,11 @@ pub record Accounts (x : ℕ) (home : ℕ → ℕ) (c : Core) (F B : List Entry)
   pub own : (t : ℕ) → isOpen (c .table) t ≡ true → All (λ e. e .number ≡ t → Own x c t e) (F ++ B)
   pub firsts : (t : ℕ) → isOpen (c .table) t ≡ true → hasUpdate (c .table) (placeOf (c .table) t) ≡ true
       → boundary (firstAt (c .table) (placeOf (c .table) t)) (startOf (c .logs) (diskOf c t)) (on (diskOf c t) F ++ on (diskOf c t) B) ≡ true
+  pub disks : (t : ℕ) → isOpen (c .table) t ≡ true → diskOf c t < c .sizes .disks
+  -- one of its entries is the first, and its updates are what is reserved beyond its closing record
+  pub started : (t : ℕ) → isOpen (c .table) t ≡ true → hasUpdate (c .table) (placeOf (c .table) t) ≡ true
+      → some (λ e. eqb (e .number) t && eqb (e .position) (firstAt (c .table) (placeOf (c .table) t))) (F ++ B) ≡ true
+  pub reserved : (t : ℕ) → isOpen (c .table) t ≡ true → (t ≡ x → ⊥) → reservedAt (c .table) (placeOf (c .table) t) ≡ 2 + wordsFor t (F ++ B)
   -- every other transaction of the log is closed in it
   pub settled : All (λ e. isOpen (c .table) (e .number) ≡ false → closedIn (F ++ B) (e .number) ≡ true) (F ++ B)
   pub numbered : All (λ e. e .number < c .next) (F ++ B)
@@ -109,16 +141,31 @@ pub record Sets (c : Core) (r : Reference) : Type 0 where
   pub has : (t : ℕ) → isOpen (c .table) t ≡ hasSet t (r .writeSets)
   pub fits : All (λ (s : WriteSet). All (Fits (c .sizes)) (s .writes)) (r .writeSets)
 
--- An open store, or one inside an abort of transaction x.
-pub record Serving (x : ℕ) (home : ℕ → ℕ) (c : Core) (w : World) (r : Reference) (F B : List Entry) : Type 0 where
+-- Slot owners: each was open once, and while it is open its write set has a write to the slot.
+pub record Owners (c : Core) (w : World) (r : Reference) : Type 0 where
+  pub below : (page slot : ℕ) → page < c .sizes .pages → slot < slotsIn (c .sizes) page
+      → ownerOf (c .sizes) (w .work) page slot < c .next
+  pub written : (page slot : ℕ) → page < c .sizes .pages → slot < slotsIn (c .sizes) page
+      → isOpen (c .table) (ownerOf (c .sizes) (w .work) page slot) ≡ true
+      → writesSlot page slot (writesOf (ownerOf (c .sizes) (w .work) page slot) (r .writeSets)) ≡ true
+
+-- The entries of a disk are the last of the records that the calls put there.
+pub record Since (puts : List Record) (l : List Entry) : Type 0 where
+  pub old : List Record
+  pub all : puts ≡ old ++ map recordOf l
+
+-- An open store, or one inside an abort of transaction x; `puts` is what its calls put into the logs.
+pub record Serving (x : ℕ) (home : ℕ → ℕ) (puts : List Put) (c : Core) (w : World) (r : Reference) (F B : List Entry) : Type 0 where
   pub stage : whenServing (c .stage) ≡ true
   pub safe : Safe x home c w r F B
   pub accounts : Accounts x home c F B
   pub epochs : Epochs c w F B
   pub sets : Sets c r
+  pub owners : Owners c w r
+  pub told : (d : ℕ) → d < c .sizes .disks → Since (recordsOn d puts) (on d F ++ on d B)
 
-pub record Served (c : Core) (w : World) (r : Reference) : Type 0 where
+pub record Served (puts : List Put) (c : Core) (w : World) (r : Reference) : Type 0 where
   pub home : ℕ → ℕ
   pub flushed : List Entry
   pub buffered : List Entry
-  pub serving : Serving 0 home c w r flushed buffered
+  pub serving : Serving 0 home puts c w r flushed buffered

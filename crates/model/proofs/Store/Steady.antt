@@ -1,0 +1,50 @@
+-- Where a restart sees the same of the devices, they keep the same.
+use mathlib.Core.Path.{_≡_, refl, sym, ap, _∙_}
+use mathlib.Core.List.{List, []}
+use mathlib.Core.Bool.{Bool, true}
+use Prim.Native.Nat.{ℕ, _≤_, _<_}
+use native.Mathlib.Omega.{arith}
+use Rattle.model.specs.Anchor.{sizesOn}
+use Rattle.model.specs.World.{World, Action, run}
+use Rattle.model.specs.Causes.{tailOn, retained}
+use Rattle.model.specs.Anchor.{epochOn}
+use Rattle.model.specs.Image.{restarted}
+use Rattle.model.specs.Reference.{Reference}
+use Rattle.model.proofs.Bounds.{bounded}
+use Rattle.model.proofs.Run.{SameLengths}
+use Rattle.model.proofs.Ledger.Entry.{All}
+use Rattle.model.proofs.Restart.Image.{SameDevices}
+use Rattle.model.proofs.Restart.Aside.{Aside, Steady, devices-steady, steady-image, steady-run}
+use Rattle.model.proofs.Store.View.{Restartable, Kept}
+use Rattle.model.proofs.Store.Flush.{lengths-same}
+
+pub steady-restartable : {v w : World} → Steady v w → Restartable w → Restartable v
+unfolding tailOn retained
+steady-restartable {v} {w} k h =
+    let eight = bounded (sizesOn (w .anchor)) (h .bounds) .disks-max in
+    record {
+      anchor = k .lengths .anchor ∙ h .anchor;
+      bounds = rw (k .sizes) (h .bounds);
+      lengths = rw (k .sizes) (lengths-same (sizesOn (w .anchor)) (k .lengths) (h .lengths));
+      formatted = rw (k .epoch) (h .formatted);
+      tails = λ d. rw (k .sizes) (λ l. rw (k .logs, k .starts d (omega arith)) (h .tails d l));
+      clean = λ d. rw (k .sizes) (λ l. rw (k .logs, k .starts d (omega arith)) (h .clean d l));
+    }
+
+pub steady-kept : {v w : World} {r : Reference} → Steady v w → Kept w r → Kept v r
+steady-kept {v} {w} k h =
+    record {
+      sizes = k .sizes ∙ h .sizes;
+      shaped = h .shaped;
+      image = ap restarted (steady-image k (bounded (sizesOn (w .anchor)) (h .sound .bounds) .disks-max)) ∙ h .image;
+      sound = steady-restartable k (h .sound);
+    }
+
+-- the same devices, and memories of the same lengths
+pub kept-devices : {v w : World} {r : Reference} → SameDevices v w → SameLengths v w → Kept w r → Kept v r
+kept-devices d k h = steady-kept (devices-steady d k) h
+
+-- stores beside what a restart sees, as many as a budget covers
+pub kept-aside : (budget : ℕ) (l : List Action) {w : World} {r : Reference} → All (Aside (sizesOn (w .anchor)) (epochOn (w .anchor))) l
+    → Kept w r → Kept (run budget l w) r
+kept-aside budget l {w} a h = steady-kept (steady-run budget l w a) h
