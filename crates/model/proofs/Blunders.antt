@@ -1,7 +1,7 @@
 -- 01, "Blunders": each as a small variant of a definition, with the slot that it gives beside the one that stands.
 use mathlib.Core.Path.{_≡_, refl}
 use Prim.Native.Nat.{ℕ, zero, suc, _+_}
-use mathlib.Core.List.{List, [], _∷_, _++_}
+use mathlib.Core.List.{List, [], _∷_, _++_, map}
 use mathlib.Core.Bool.{Bool, true, false, cond, not, _&&_}
 use lib.ListN.{getD, replicate}
 use lib.Dec.{ltb, eqb}
@@ -24,8 +24,9 @@ use Rattle.model.specs.Transaction.{commitRows, diskOf}
 use Rattle.model.specs.Abort.{abortRows, updatesLeft, xorIn}
 use Rattle.model.specs.Checkpoint.{perDisk, leastFirst, checkpointEndRows, checkpointEndTask}
 use Rattle.model.specs.Restart.{replays, readDisk, positionOf, nextRecord, movedTo, backupStep, restartStepRows}
-use Rattle.model.specs.Call.{Call, format, begin, update, commit, abort, checkpointBegin, restartStep, resultOf}
-use Rattle.model.specs.Machine.{Machine}
+use Rattle.model.specs.Call.{Call, format, begin, update, commit, abort, checkpointBegin, checkpointStep, checkpointEnd, restartStep}
+use Rattle.model.specs.Reference.{wordsIn}
+use Rattle.model.specs.Machine.{Machine, call, follow, formatted}
 use Rattle.model.proofs.Everything.{everything}
 use Rattle.model.proofs.Play.{Step, does, play, unformatted, drained, restartBy, gives}
 use Rattle.model.proofs.Positions.{plenty, small, fresh, setUp, twelve, mark, copy, finish}
@@ -161,8 +162,27 @@ standing =
     ∷ slotBy stands (handOver (does (commit 2 plenty)))
     ∷ []
 
+-- the slot that the reference has committed after these calls, by 01's rules
+committedSlot : Sizes → List Call → ℕ
+committedSlot s calls = getD (wordsIn (follow (map call calls) (formatted (unformatted s) s plenty) .reference .committed)) 0 99
+
+-- slot 0 committed as 2, then a second transaction that sets it to 12
+first : List Call
+first = begin ∷ update 1 0 0 (2 ∷ []) plenty ∷ commit 1 plenty ∷ []
+
+second : List Call
+second = begin ∷ update 2 0 0 (12 ∷ []) plenty ∷ []
+
+pub referenced : List ℕ
+referenced =
+    committedSlot (small 1) (first ++ second ++ checkpointBegin ∷ abort 2 plenty ∷ checkpointStep plenty ∷ checkpointEnd plenty ∷ [])
+    ∷ committedSlot (small 1) (first ++ checkpointBegin ∷ checkpointStep plenty ∷ second ++ commit 2 plenty ∷ checkpointEnd plenty ∷ [])
+    ∷ committedSlot (small 1) (first ++ checkpointBegin ∷ second ++ checkpointStep plenty ∷ commit 2 plenty ∷ checkpointEnd plenty ∷ [])
+    ∷ committedSlot twoDisks (first ++ second ++ commit 2 plenty ∷ begin ∷ update 3 0 0 (5 ∷ []) plenty ∷ commit 3 plenty ∷ [])
+    ∷ []
+
 opens : ℕ
-unfolding everything does play unformatted drained restartBy small fresh setUp twelve remember stepBy abortSilently markActive committedIn onePass finishLate replaysAnyway commitBuffered twoDisks handOver slotBy stands
+unfolding everything does play unformatted drained restartBy small fresh setUp twelve remember stepBy abortSilently markActive committedIn onePass finishLate replaysAnyway commitBuffered twoDisks handOver slotBy stands committedSlot first second
 opens = 0
 
 pub blunders-give : blunders ≡ 12 ∷ 2 ∷ 2 ∷ 11 ∷ []
@@ -172,3 +192,8 @@ blunders-give = refl
 pub standing-gives : standing ≡ 2 ∷ 12 ∷ 12 ∷ 5 ∷ []
 unfolding opens standing
 standing-gives = refl
+
+-- so each blunder makes the power-loss theorem false: after a taken restart end the page memory is not what is committed
+pub referenced-gives : referenced ≡ 2 ∷ 12 ∷ 12 ∷ 5 ∷ []
+unfolding opens referenced
+referenced-gives = refl
