@@ -13,6 +13,7 @@ pub mod Faults
 pub mod Updates
 -- Words and logs.
 pub mod Xor
+pub mod Differential
 pub mod Reader
 pub mod Decode
 pub mod Scan
@@ -35,6 +36,7 @@ pub mod Store
 -- Every call hands back a state that passes the first test.
 pub mod Sound
 pub mod PowerLoss
+pub mod CommitPoint
 -- Computed tables.
 pub mod Everything
 pub mod Play

@@ -97,3 +97,8 @@ allowedAll (e ∷ es) m = allowed m e && allowedAll es (after m e)
 -- where a run starts: a format of a machine, with the reference that it blanks
 unfoldable pub formatted : Machine → Sizes → ℕ → Run
 formatted m s budget = record { machine = after m (call (format s budget)); reference = blank s }
+
+-- the machine after restart steps from these sources, in this order; a refused step changes nothing
+unfoldable pub afterSteps : List ℕ → Machine → Machine
+afterSteps [] m = m
+afterSteps (source ∷ sources) m = afterSteps sources (after m (call (restartStep source)))

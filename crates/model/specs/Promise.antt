@@ -1,28 +1,29 @@
 -- The promises over lists of calls, as statements, each with its English.
 use mathlib.Core.Path.{_≡_}
 use Prim.Native.Nat.{ℕ, _+_, _-_, _≤_, _<_}
-use mathlib.Core.List.{List, [], _++_}
-use mathlib.Core.Bool.{Bool, true, false, cond, _||_}
+use mathlib.Core.List.{List, [], _∷_, _++_, List·Memᴰ}
+use mathlib.Core.Bool.{Bool, true, false, cond, _&&_, _||_}
 use lib.ListN.{getD}
 use lib.Dec.{ltb, eqb}
 use Rattle.model.specs.declared.Stage.the-variants.{Shut}
 use Rattle.model.specs.declared.Sizes.{Sizes}
 use Rattle.model.specs.declared.Core.{Core}
-use Rattle.model.specs.Sizes.{slotsIn, ringOf}
+use Rattle.model.specs.Sizes.{slotsIn, ringOf, tailWord}
 use Rattle.model.specs.Anchor.{epochOn, startOn}
-use Rattle.model.specs.Record.{Record, encodeAll}
+use Rattle.model.specs.Record.{Record, close, commitKind, encode, encodeAll}
 use Rattle.model.specs.Decode.{readLog}
 use Rattle.model.specs.Scan.{Scan, scan, placed, updatesIn, updateWords, oldest}
-use Rattle.model.specs.World.{World}
+use Rattle.model.specs.World.{World, Action, store, write, anchor, backups, logs, each}
 use Rattle.model.specs.Memory.{bufferOf, epochOf}
 use Rattle.model.specs.State.{limit, startOf, tailOf, fillOf, endOf, isOpen, placeOf, firstAt, reservedAt, hasUpdate}
-use Rattle.model.specs.Refusal.{numberOf}
+use Rattle.model.specs.Refusal.{numberOf, verdict, accepted}
 use Rattle.model.specs.Causes.{whenServing, tailOn, locked}
-use Rattle.model.specs.Transaction.{diskOf, readWords}
+use Rattle.model.specs.Append.{storeLog}
+use Rattle.model.specs.Transaction.{diskOf, readWords, commitRows, commitTask}
 use Rattle.model.specs.Call.{Call, format, read, restartBegin, restartEnd}
-use Rattle.model.specs.Image.{retainedWords}
+use Rattle.model.specs.Image.{retainedWords, imageOf, restarted}
 use Rattle.model.specs.Reference.{Reference, taken, slotIndex, wordsIn, plainTable, writtenByOther}
-use Rattle.model.specs.Machine.{Machine, Event, call, outcome, result, Run, follow, allowedAll, formatted}
+use Rattle.model.specs.Machine.{Machine, Event, call, outcome, result, Run, after, follow, allowedAll, formatted, afterSteps}
 use Rattle.model.specs.History.{Put, history, recordsOn}
 
 -- P holds of every machine and reference that is reached so: format any machine, and let the format finish. Then let any events
@@ -121,3 +122,39 @@ pub record Closable (c : Core) (t : ℕ) : Type 0 where
 
 unfoldable pub ClosingFits : Type 0
 ClosingFits = Always λ m r. whenServing (m .core .stage) ≡ true → (t : ℕ) → isOpen (m .core .table) t ≡ true → Closable (m .core) t
+
+-- The order of replay does not matter (000's theorem 3; that the pages are also the committed ones is PowerLoss). On any machine where
+-- a restart begin is taken, let restart steps follow, from any sources in any order, refused ones too, until a restart end is taken.
+-- The page memory is then what specs/Image.antt makes of the devices at the begin, and so the same for any two such lists of steps.
+unfoldable pub ReplayOrder : Type 0
+ReplayOrder =
+    (m : Machine) (some other : List ℕ) (n k : ℕ) → outcome m restartBegin ≡ taken
+    → outcome (afterSteps some (after m (call restartBegin))) (restartEnd n) ≡ taken
+    → outcome (afterSteps other (after m (call restartBegin))) (restartEnd k) ≡ taken
+    → (after (afterSteps some (after m (call restartBegin))) (call (restartEnd n)) .world .pages ≡ restarted (imageOf (m .world)))
+    × (after (afterSteps some (after m (call restartBegin))) (call (restartEnd n)) .world .pages
+    ≡ after (afterSteps other (after m (call restartBegin))) (call (restartEnd k)) .world .pages)
+
+-- the action stores the disk's tail word with a value above p: with it the log reaches over position p
+abbrev pub coversCommit : Sizes → ℕ → ℕ → Action → Bool
+coversCommit s disk p (store logs i x) = eqb i (tailWord s disk) && ltb p x
+coversCommit s disk p (store anchor i x) = false
+coversCommit s disk p (store backups i x) = false
+coversCommit s disk p (write memory i x) = false
+
+-- The commit point. "A commit's last store is the tail word that first covers its commit record." The record stands at position p,
+-- the end of its disk's log, so that the tail before the commit is at most p; its two words are stored at p and p + 1; then comes the
+-- tail p + 2, the last action of all; and no action before that stores a tail of the disk above p. A commit that is cut is cut before
+-- its last store.
+pub record CommitPoint (c : Core) (w : World) (t : ℕ) : Type 0 where
+  pub before : List Action
+  pub last : commitTask c w t .actions
+      ≡ before ++ store logs (tailWord (c .sizes) (diskOf c t)) (endOf (c .logs) (diskOf c t) + 2) ∷ []
+  pub uncovered : (a : Action) → List·Memᴰ a before
+      → coversCommit (c .sizes) (diskOf c t) (endOf (c .logs) (diskOf c t)) a ≡ false
+  pub earlier : List Action
+  pub stored : before
+      ≡ earlier ++ each (storeLog (c .sizes) (diskOf c t)) (endOf (c .logs) (diskOf c t)) (encode (close commitKind t))
+
+unfoldable pub CommitPoints : Type 0
+CommitPoints = Always λ m r. (t : ℕ) → verdict (commitRows (m .core) (m .world) t) ≡ accepted → CommitPoint (m .core) (m .world) t

@@ -19,8 +19,9 @@ use Rattle.model.specs.Format.{freshMemory}
 use Rattle.model.specs.Restart.{positionOf, remaining, readDisk, restartEndRows, restartEndTask}
 use Rattle.model.specs.Reference.{taken, outcomeOf}
 use Rattle.model.specs.Call.{restartBegin, restartStep, restartEnd, resultOf}
-use Rattle.model.specs.Machine.{Machine, result, outcome, after, call}
+use Rattle.model.specs.Machine.{Machine, result, outcome, after, call, afterSteps}
 use Rattle.model.specs.Image.{imageOf, restarted}
+use Rattle.model.specs.Promise.{ReplayOrder}
 use Rattle.model.proofs.Xor.{⊕-zero-r}
 use Rattle.model.proofs.Below.{sum-mono, all-each}
 use Rattle.model.proofs.Scan.{scan-end}
@@ -126,11 +127,6 @@ end-gives c w budget m e =
     let kept = end-keeps c w w in
     rw (t .world) (kept ∙ done-pages c w m (end-none c w budget t), kept)
 
--- the machine after restart steps from these sources, in this order; a refused step changes nothing
-unfoldable pub afterSteps : List ℕ → Machine → Machine
-afterSteps [] m = m
-afterSteps (source ∷ sources) m = afterSteps sources (after m (call (restartStep source)))
-
 -- a machine in a restart that began on devices `w`
 pub record Restarting (w : World) (m : Machine) : Type 0 where
   pub progress : Progress (m .core) (m .world)
@@ -159,10 +155,8 @@ restart-gives m sources budget begun ended =
     let last : Machine = afterSteps sources begin in
     end-gives (last .core) (last .world) budget (r .progress) ended .0 ∙ ap restarted (image-devices (r .devices))
 
--- So the order of the steps does not matter.
-pub replay-order : (m : Machine) (some other : List ℕ) (n k : ℕ) → outcome m restartBegin ≡ taken
-    → outcome (afterSteps some (after m (call restartBegin))) (restartEnd n) ≡ taken
-    → outcome (afterSteps other (after m (call restartBegin))) (restartEnd k) ≡ taken
-    → after (afterSteps some (after m (call restartBegin))) (call (restartEnd n)) .world .pages
-    ≡ after (afterSteps other (after m (call restartBegin))) (call (restartEnd k)) .world .pages
-replay-order m some other n k begun one two = restart-gives m some n begun one ∙ sym (restart-gives m other k begun two)
+-- So the order of the steps does not matter (000's theorem 3: see specs/Promise.antt).
+pub replay-order : ReplayOrder
+unfolding ReplayOrder
+replay-order m some other n k begun one two =
+    (restart-gives m some n begun one, restart-gives m some n begun one ∙ sym (restart-gives m other k begun two))
