@@ -46,6 +46,7 @@ checkpointBeginTask c w =
       value = 0;
     }
 
+-- The pages below `copied` are copied, the others wait.
 -- Step (copying): "the lowest page not yet copied goes whole to backup n mod 2 and takes copy number n".
 unfoldable pub toCopy : Core → ℕ → Bool
 toCopy c page = leb (c .checkpoint .copied) page

@@ -1,4 +1,5 @@
--- What the calls put into the logs, told by the calls themselves: for each taken call the records that it appends.
+-- What the calls put into the logs: for each taken call the records that it appends. An update's difference and copy epoch are of
+-- the pages and epochs that it finds; an abort's compensations are of the updates that it finds, which `LogKept` says are those put.
 use Prim.Native.Nat.{ℕ}
 use mathlib.Core.List.{List, [], _∷_, _++_, map}
 use mathlib.Core.Bool.{Bool, true, false, cond}
@@ -42,7 +43,8 @@ putBy (restartStep source) c w = []
 putBy (restartEnd budget) c w = []
 putBy newState c w = []
 
--- A restart's end leaves no log behind it, and so does the loss of the buffers: what was put before is told no more.
+-- What was put is told from one fresh open state to the next loss of the buffers: after a cut or a new state nothing is claimed of
+-- it until a restart end, which leaves no log behind it.
 abbrev pub forgets : Call → Bool
 forgets (restartEnd budget) = true
 forgets newState = true

@@ -39,11 +39,6 @@ isRefused taken = false
 isRefused refused = true
 isRefused interrupted = false
 
-abbrev pub isTaken : Outcome → Bool
-isTaken taken = true
-isTaken refused = false
-isTaken interrupted = false
-
 -- "and a format if refused"
 abbrev pub allowedCall : Machine → Call → Bool
 allowedCall m (format s budget) = isRefused (outcome m (format s budget))

@@ -39,7 +39,8 @@ Always P =
     → P (follow events (formatted m s budget) .machine) (follow events (formatted m s budget) .reference)
 
 -- Power loss. If a restart end is taken, the page memory then equals, word for word, the values that the committed transactions
--- alone made, in commit order. (Every taken restart end is the last call of a list: the list may go on after it.)
+-- alone made, in commit order. It is claimed for every list of events before it, so for each taken restart end of a longer list;
+-- the reference is the same before and after a restart end.
 unfoldable pub PowerLoss : Type 0
 PowerLoss =
     Always λ m r. (budget : ℕ) → outcome m (restartEnd budget) ≡ taken

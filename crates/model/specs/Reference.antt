@@ -101,6 +101,7 @@ withSets r sheets = record { sizes = r .sizes; committed = r .committed; writeSe
 
 -- The six rules, for a call taken.
 abbrev pub afterTaken : Call → ℕ → Reference → Reference
+-- a format makes a new book; in a list of events it is only ever refused
 afterTaken (format s budget) n r = blank s
 -- "Begin taken: an empty sheet under the number answered."
 afterTaken begin n r = withSets r (record { number = n; writes = [] } ∷ r .writeSets)

@@ -78,6 +78,7 @@ withReplay c r =
 abbrev pub replays : ℕ → Fate → ℕ → Bool
 replays c Closed epoch = not (inBackup c epoch)
 replays c Unclosed epoch = inBackup c epoch
+-- not reached: row 7 applies
 replays c (Unreadable p) epoch = false
 
 -- the log of a disk, read up to its tail
@@ -137,6 +138,7 @@ recordStep c w disk (Change kind page slot number epoch width next) =
       value = 0;
     }
 recordStep c w disk (Close kind number next) = record { actions = []; core = movedTo c disk next; value = 0 }
+-- not reached: row 7 applies
 recordStep c w disk Malformed = record { actions = []; core = c; value = 0 }
 
 unfoldable pub restartStepTask : Core → World → ℕ → Task

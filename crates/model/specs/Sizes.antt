@@ -26,7 +26,8 @@ slotBase s page slot = pageBase s page + slot * widthIn s page
 unfoldable pub total : Sizes → ℕ
 total s = pageBase s (s .pages)
 
--- "for each disk the tail, then the ring. Position p lies at ring word p mod W"
+-- "for each disk the tail, then the ring. Position p lies at ring word p mod W". Every disk has W words now; whoever asks for a
+-- disk's ring size or place asks here, so that disks may come to differ.
 unfoldable pub ringOf : Sizes → ℕ → ℕ
 ringOf s disk = s .ring
 

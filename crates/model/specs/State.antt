@@ -1,4 +1,5 @@
 -- The state: a new one, an open one, its table of transactions, and the test that a state made by the calls passes.
+-- In these files `c` is a state, and its `epoch` is 01's c; where no state is at hand, `c` is 01's c.
 use Prim.Native.Nat.{ℕ, _+_, _-_, _^_}
 use mathlib.Core.List.{List}
 use mathlib.Core.Bool.{Bool, true, false, cond, not, _&&_, _||_}
@@ -93,7 +94,7 @@ placeOf t number = firstBelow (λ i. eqb (numberAt t i) number) places
 unfoldable pub inTable : Table → ℕ → Bool
 inTable t number = not (eqb number 0) && ltb (placeOf t number) places
 
--- every transaction in the table is open
+-- every transaction in the table is open; a lock asks for the first, a call for the second
 unfoldable pub isOpen : Table → ℕ → Bool
 isOpen t number = inTable t number
 

@@ -44,7 +44,8 @@ pub struct Replay {
     pub page: u64,
 }
 
-// The state by value. Buffers, slot owners and copy epochs lie in the lent work memory.
+// The state by value: `epoch` is 01's checkpoint number c, `next` the number that the next begin answers.
+// Buffers, slot owners and copy epochs lie in the lent work memory.
 pub struct Core {
     pub stage: Stage,
     pub sizes: Sizes,
