@@ -1,6 +1,6 @@
 -- What the bounds on the sizes say, taken apart once.
 use mathlib.Core.Path.{_≡_, refl}
-use mathlib.Core.Bool.{Bool, true, false, and-eq-true-iff, cond, _&&_}
+use mathlib.Core.Bool.{Bool, true, false, cond, _&&_}
 use Prim.Native.Nat.{ℕ, zero, suc, _*_, _≤_, _<_}
 use native.Mathlib.Omega.{arith}
 use native.Mathlib.Nat.{suc-mul}
@@ -11,6 +11,7 @@ use Rattle.model.specs.declared.Sizes.{Sizes}
 use Rattle.model.specs.Below.{within, sumBelow, allBelow}
 use Rattle.model.specs.Sizes.{slotsIn, widthIn, pageWords, pageBase, total, usedEntry, unusedEntry, entryInBounds, sizesInBounds}
 use Rattle.model.proofs.Below.{all-each, each-all}
+use Rattle.model.proofs.Booleans.{both, in-range}
 
 -- What the bounds say of a page that is used.
 pub record BoundedPage (s : Sizes) (page : ℕ) : Type 0 where
@@ -32,15 +33,6 @@ pub record Bounded (s : Sizes) : Type 0 where
   pub widths-length : length (s .widths) ≡ 64
   pub used : (page : ℕ) → page < s .pages → BoundedPage s page
   pub unused : (page : ℕ) → s .pages ≤ page → page < 64 → (slotsIn s page ≡ 0) × (widthIn s page ≡ 0)
-
-both : (a b : Bool) → a && b ≡ true → (a ≡ true) × (b ≡ true)
-both a b e = and-eq-true-iff a b .0 e
-
-in-range : (low high n : ℕ) → within low high n ≡ true → (low ≤ n) × (n ≤ high)
-unfolding within
-in-range low high n e =
-    let t : (leb low n ≡ true) × (leb n high ≡ true) = both (leb low n) (leb n high) e in
-    (leb-true low n t.0, leb-true n high t.1)
 
 bounded-page : (s : Sizes) (page : ℕ) → usedEntry s page ≡ true → BoundedPage s page
 unfolding usedEntry

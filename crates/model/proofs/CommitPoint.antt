@@ -29,11 +29,11 @@ use Rattle.model.proofs.Members.{Every, every-nil, every-cons, every-ap
 use Rattle.model.proofs.Run.{perform-append, stores-append, run-append, run-cut, finished-run, perform-work, each-append}
 use Rattle.model.proofs.Lengths.{Lengths, lengths-right, length-buffer, buffer-fits}
 use Rattle.model.proofs.Ring.{tail-ring-apart}
-use Rattle.model.proofs.Link.Words.{Arrays, ring-positive, lengths-perform}
-use Rattle.model.proofs.Link.Parts.{part-sets-end}
-use Rattle.model.proofs.Link.Flush.{fill-flushed, end-flushed, arrays-flushed}
-use Rattle.model.proofs.Link.Buffered.{fill-set}
-use Rattle.model.proofs.Store.Rows.{row-passed, serving-row, serving-sound, disk-sound}
+use Rattle.model.proofs.Link.Words.{Arrays, below-eight, arrays-flushed, ring-positive, lengths-perform}
+use Rattle.model.proofs.Parts.{part-sets-end}
+use Rattle.model.proofs.Growth.{fill-flushed, ends-flushed, fill-set}
+use Rattle.model.proofs.Verdict.{row-passed}
+use Rattle.model.proofs.Store.Rows.{serving-row, serving-sound, disk-sound}
 use Rattle.model.proofs.Store.Holding.{Holding}
 use Rattle.model.proofs.Store.Step.{served, row-one}
 use Rattle.model.proofs.PowerLoss.{always}
@@ -96,7 +96,7 @@ module _ (s : Sizes) (l : Logs) (w : World) (d : ℕ) (words : List ℕ) (a : Ar
       (part-sets-end (bufferAt s d) n (w .work) words (omega (arith, buffer-fits s w d m right below room)))
 
   fill-now : fillOf (withFill l d m) d ≡ m
-  fill-now = fill-set l d m (omega (arith, a .fills, a .disks))
+  fill-now = fill-set l d m (omega (arith, a .sized .fills, a .disks))
 
   end-old : tailOf l d + length old ≡ p
   unfolding endOf
@@ -182,8 +182,8 @@ module _ (c : Core) (w : World) (t : ℕ) (a : Arrays (c .sizes) (c .logs)) (rig
       (every-append _ flushing _ flushing-low (uncovered-buffer s d p ring 0 words))
       (rw (lt-leb (fillOf l d + length words) 64 (omega (arith, two)), perform-append)
       (ap (λ (x : List Action). (flushing ++ buffered s d 0 words) ++ x)
-      (put-flush s (flushed l d) (perform flushing w) d words (arrays-flushed s l d a below) (lengths-perform flushing right) below (omega (arith, two))
-      0 (length words) p (sym (fill-flushed s l d a below)) (sym (zero-add (length words))) (omega (arith, two)) (sym (end-flushed s l d a below)))))
+      (put-flush s (flushed l d) (perform flushing w) d words (arrays-flushed d a) (lengths-perform flushing right) below (omega (arith, two))
+      0 (length words) p (sym (fill-flushed l d (a .sized) (below-eight a below))) (sym (zero-add (length words))) (omega (arith, two)) (sym (ends-flushed l d (a .sized) (below-eight a below) d)))))
 
   -- Its last store is the tail that first covers its record.
   pub commit-ends : CommitPoint c w t

@@ -5,8 +5,8 @@ use mathlib.Core.Bool.{true}
 use Prim.Native.Nat.{ℕ, zero, suc, _+_, _≤_, _<_}
 use native.Mathlib.Omega.{arith}
 use native.Mathlib.Nat.{not-suc-le-zero}
-use lib.ListN.{length, length-replicate, set}
-use lib.Seq.{getD-set-same, lt-length-set}
+use lib.ListN.{length, length-replicate}
+use lib.Seq.{lt-length-set}
 use borrow.Author.Tests.{le-leb, lt-leb}
 use Rattle.model.specs.declared.Sizes.{Sizes}
 use Rattle.model.specs.declared.Logs.{Logs}
@@ -18,14 +18,17 @@ use Rattle.model.specs.Anchor.{startWord}
 use Rattle.model.specs.Record.{close, encode, commitKind}
 use Rattle.model.specs.World.{World, Action, store, anchor, logs, pages, work, cost, perform, stores, each}
 use Rattle.model.specs.Memory.{bufferAt, bufferOf}
-use Rattle.model.specs.State.{tailOf, fillOf, withFill, flushed}
+use Rattle.model.specs.State.{tailOf, fillOf, flushed}
 use Rattle.model.specs.Append.{storeLog, storeAll, flush, buffered, append, Appended}
 use Rattle.model.specs.Format.{formatStores, freshMemory, formatTask}
 use Rattle.model.specs.Transaction.{diskOf, updateRecord, updateTask, commitTask}
 use Rattle.model.specs.Checkpoint.{lowestToCopy, copyPage, newStart, checkpointStepTask, checkpointEndTask}
 use Rattle.model.specs.Restart.{restartEndTask}
-use Rattle.model.proofs.Lengths.{length-part, arrays-right, Lengths, length-buffer, buffer-fits, page-fits}
+use Rattle.model.proofs.Lengths.{arrays-right, Lengths, length-buffer, buffer-fits}
 use Rattle.model.proofs.Run.{stores-append, stores-each, stores-stored, stores-written, perform-lengths}
+use Rattle.model.proofs.Geometry.{page-end}
+use Rattle.model.proofs.Parts.{length-part}
+use Rattle.model.proofs.Growth.{fill-set}
 
 -- Stores of a list made of lists, and of a list of stores.
 pub stores-join : (f : ℕ → List Action) (n : ℕ) → stores (joinBelow f n) ≡ sumBelow (λ i. stores (f i)) n
@@ -88,7 +91,7 @@ unfolding checkpointStepTask copyPage stores cost
 checkpoint-step-stores c w h k =
     let s = c .sizes in
     let page = lowestToCopy c in
-    let fits : pageBase s page + pageWords s page ≤ length (w .pages) = omega (arith, page-fits s page k) in
+    let fits : pageBase s page + pageWords s page ≤ length (w .pages) = omega (arith, page-end s page k) in
     simp (stores-append, stores-stored) (omega (arith, length-part (pageBase s page) (pageWords s page) (w .pages) fits))
 
 -- Checkpoint end: the flushes, D starts, c.
@@ -122,12 +125,12 @@ update-stores c w number page slot value = simp (stores-append, stores-written) 
 -- the words buffered after an append
 module _ (s : Sizes) (l : Logs) (memory : List ℕ) (disk : ℕ) (words : List ℕ) (h : disk < length (l .fills)) where
   pub fill-appended : fillOf l disk + length words ≤ 64 → fillOf (append s l memory disk words .logs) disk ≡ fillOf l disk + length words
-  unfolding append fillOf withFill
-  fill-appended fits = rw (le-leb _ _ fits) (getD-set-same (l .fills) disk (fillOf l disk + length words) 0 h)
+  unfolding append
+  fill-appended fits = rw (le-leb _ _ fits) (fill-set l disk (fillOf l disk + length words) h)
 
   pub fill-restarted : 64 < fillOf l disk + length words → fillOf (append s l memory disk words .logs) disk ≡ length words
-  unfolding append fillOf withFill flushed
-  fill-restarted over = rw (lt-leb _ _ over) (getD-set-same (set (l .fills) disk 0) disk (length words) 0 (lt-length-set (l .fills) disk 0 h))
+  unfolding append flushed
+  fill-restarted over = rw (lt-leb _ _ over) (fill-set (flushed l disk) disk (length words) (lt-length-set (l .fills) disk 0 h))
 
 -- Commit: the buffered words, the two of its closing record, and the tail; one tail more where the record did not fit.
 module _ (c : Core) (w : World) (number : ℕ) (right : Lengths (c .sizes) w) (below : diskOf c number < c .sizes .disks)

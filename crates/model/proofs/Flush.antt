@@ -11,7 +11,7 @@ use Rattle.model.specs.Sizes.{ringOf, diskAt, tailWord, ringWord}
 use Rattle.model.specs.Record.{Record, encodeAll}
 use Rattle.model.specs.Decode.{readLog}
 use Rattle.model.specs.Scan.{scan, placed}
-use Rattle.model.specs.World.{World, Action, store, logs, act, perform, each}
+use Rattle.model.specs.World.{World, store, logs, act, perform, each}
 use Rattle.model.specs.Append.{storeLog, storeAll}
 use Rattle.model.proofs.Run.{perform-append}
 use Rattle.model.proofs.Reader.{Holds, holds-agree, read-ring, read-buffer, read-same}
@@ -31,10 +31,16 @@ unfolding act
 store-only-logs w v i x h =
     record { anchor-same = h .anchor-same; pages-same = h .pages-same; backups-same = h .backups-same; work-same = h .work-same }
 
-lay-only-logs : (s : Sizes) (d p : ℕ) (xs : List ℕ) (v w : World) → OnlyLogs w v → OnlyLogs w (perform (each (storeLog s d) p xs) v)
+pub none-changed : (w : World) → OnlyLogs w w
+none-changed w = record { anchor-same = refl; pages-same = refl; backups-same = refl; work-same = refl }
+
+pub lay-only : (s : Sizes) (d p : ℕ) (xs : List ℕ) (w : World) → OnlyLogs w (perform (each (storeLog s d) p xs) w)
 unfolding perform each
-lay-only-logs s d p [] v w h = h
-lay-only-logs s d p (x ∷ xs) v w h = lay-only-logs s d (p + 1) xs _ w (store-only-logs w v _ x h)
+lay-only s d p xs w = go p xs w (none-changed w)
+  where
+    go : (p : ℕ) (xs : List ℕ) (v : World) → OnlyLogs w v → OnlyLogs w (perform (each (storeLog s d) p xs) v)
+    go p [] v h = h
+    go p (x ∷ xs) v h = go (p + 1) xs _ (store-only-logs w v _ x h)
 
 -- words stored on disk d at position p and onward, then its new tail
 module _ (s : Sizes) (d : ℕ) where
@@ -46,11 +52,10 @@ module _ (s : Sizes) (d : ℕ) where
 
   pub flush-only-logs : (p : ℕ) (xs : List ℕ) (w : World) → OnlyLogs w (perform (storeAll s d p xs) w)
   unfolding perform
-  flush-only-logs p [] w = record { anchor-same = refl; pages-same = refl; backups-same = refl; work-same = refl }
+  flush-only-logs p [] w = none-changed w
   flush-only-logs p (x ∷ xs) w =
       rw (store-all p x xs w)
-      (store-only-logs w _ _ _ (lay-only-logs s d p (x ∷ xs) w w
-      (record { anchor-same = refl; pages-same = refl; backups-same = refl; work-same = refl })))
+      (store-only-logs w _ _ _ (lay-only s d p (x ∷ xs) w))
 
   pub flush-length : (p : ℕ) (xs : List ℕ) (w : World) → length (perform (storeAll s d p xs) w .logs) ≡ length (w .logs)
   unfolding perform

@@ -1,26 +1,19 @@
 -- Lengths: what the tests of sizes and lent lists say, and which parts lie within their lists.
 use mathlib.Core.Path.{_≡_}
 use mathlib.Core.List.{List}
-use mathlib.Core.Bool.{Bool, true, and-eq-true-iff, _&&_}
+use mathlib.Core.Bool.{true, _&&_}
 use Prim.Native.Nat.{ℕ, _+_, _*_, _≤_, _<_}
 use native.Mathlib.Omega.{arith}
 use lib.Dec.{eqb}
-use lib.ListN.{length, length-take, length-drop}
+use lib.ListN.{length}
 use borrow.Author.Tests.{eqb-true}
 use Rattle.model.specs.declared.Sizes.{Sizes}
 use Rattle.model.specs.Below.{within, allBelow}
-use Rattle.model.specs.Word.{part}
-use Rattle.model.specs.Sizes.{pageWords, pageBase, total, logWords, entryInBounds, sizesInBounds}
+use Rattle.model.specs.Sizes.{total, logWords, entryInBounds, sizesInBounds}
 use Rattle.model.specs.World.{World}
 use Rattle.model.specs.Memory.{bufferAt, epochAt, workWords, bufferOf, lengthsRight}
-use Rattle.model.proofs.Below.{sum-term}
-
-pub all-four : (a b c d : Bool) → a && b && c && d ≡ true → (a ≡ true) × (b ≡ true) × (c ≡ true) × (d ≡ true)
-all-four a b c d h =
-    let x : (a && b && c ≡ true) × (d ≡ true) = and-eq-true-iff (a && b && c) d .0 h in
-    let y : (a && b ≡ true) × (c ≡ true) = and-eq-true-iff (a && b) c .0 (x .0) in
-    let z : (a ≡ true) × (b ≡ true) = and-eq-true-iff a b .0 (y .0) in
-    (z .0, z .1, y .1, x .1)
+use Rattle.model.proofs.Booleans.{all-four}
+use Rattle.model.proofs.Parts.{length-part}
 
 -- "two parallel arrays of 64"
 pub arrays-right : (s : Sizes) → sizesInBounds s ≡ true → (length (s .slots) ≡ 64) × (length (s .widths) ≡ 64)
@@ -51,16 +44,6 @@ lengths-right s w h =
       logs = eqb-true _ _ (four .2);
       work = eqb-true _ _ (four .3);
     }
-
--- a part that lies within its list has all its words
-pub length-part : (at n : ℕ) (words : List ℕ) → at + n ≤ length words → length (part at n words) ≡ n
-unfolding part
-length-part at n words h = simp (length-take, length-drop) (omega arith)
-
--- a page lies within the pages
-pub page-fits : (s : Sizes) (page : ℕ) → page < s .pages → pageBase s page + pageWords s page ≤ total s
-unfolding total pageBase
-page-fits s page h = sum-term (pageWords s) (s .pages) page h
 
 -- a disk's buffer lies within the work memory
 pub buffer-fits : (s : Sizes) (w : World) (disk fill : ℕ) → Lengths s w → disk < s .disks → fill ≤ 64

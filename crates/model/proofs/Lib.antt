@@ -1,5 +1,6 @@
 -- The theory of the definitions.
 -- Counting, budgets, refusals, and what definitions in a code-like form mean.
+pub mod Booleans
 pub mod Below
 pub mod Members
 pub mod Run
@@ -12,6 +13,7 @@ pub mod Reading
 pub mod Faults
 pub mod Updates
 -- Words and logs.
+pub mod Parts
 pub mod Xor
 pub mod Differential
 pub mod Reader
@@ -20,12 +22,15 @@ pub mod Scan
 pub mod Ring
 pub mod RoundTrip
 pub mod Flush
+pub mod Growth
 -- The page memory, the reference, the table of transactions.
 pub mod Bounds
 pub mod Geometry
 pub mod Slots
 pub mod WriteSets
+pub mod SetPlace
 pub mod Places
+pub mod Reserved
 -- The store as records, and the records as words.
 pub mod Ledger
 pub mod Link

@@ -1,9 +1,7 @@
 -- Scripts of calls, played on a machine: what the computed tables are made of.
 use Prim.Native.Nat.{ℕ, zero, suc, _+_, _*_}
-use mathlib.Core.List.{List, [], _∷_, _++_}
-use mathlib.Core.Bool.{Bool, true, false}
-use lib.ListN.{getD, length, replicate}
-use lib.Dec.{eqb}
+use mathlib.Core.List.{List, [], _∷_}
+use lib.ListN.{getD, replicate}
 use Rattle.model.specs.declared.Sizes.{Sizes}
 use Rattle.model.specs.declared.Core.{Core}
 use Rattle.model.specs.Sizes.{total, logWords}
@@ -12,7 +10,7 @@ use Rattle.model.specs.Memory.{workWords}
 use Rattle.model.specs.State.{newCore}
 use Rattle.model.specs.Refusal.{Result, numberOf}
 use Rattle.model.specs.Restart.{remaining}
-use Rattle.model.specs.Call.{Call, format, restartBegin, restartStep, restartEnd, newState, resultOf}
+use Rattle.model.specs.Call.{Call, restartBegin, restartStep, restartEnd, newState, resultOf}
 use Rattle.model.specs.Machine.{Machine}
 
 -- A step of a script, so that a variant of a call can stand where the call does.

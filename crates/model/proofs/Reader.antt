@@ -2,7 +2,6 @@
 use Prim.Native.Nat.{ℕ, zero, suc, _+_, _-_, _≤_, _<_}
 use mathlib.Core.Path.{_≡_, refl, _∙_}
 use mathlib.Core.List.{List, [], _∷_, _++_}
-use mathlib.Core.Bool.{Bool, true, false, cond}
 use native.Mathlib.Omega.{arith}
 use native.Mathlib.Nat.{add-zero}
 use native.Mathlib.Decide.{decLt}
@@ -12,16 +11,7 @@ use borrow.Author.Tests.{lt-ltb, le-ltb, ltb-true, ltb-false}
 use Rattle.model.specs.declared.Sizes.{Sizes}
 use Rattle.model.specs.Sizes.{ringWord}
 use Rattle.model.specs.Decode.{readLog, span}
-
--- A property of both branches of a test, and two choices by one test.
-module _ {A : Type 0} where
-  pub cond-all : (P : A → Type 0) (b : Bool) {x y : A} → (b ≡ true → P x) → (b ≡ false → P y) → P (cond b x y)
-  cond-all P true f g = f refl
-  cond-all P false f g = g refl
-
-  pub cond-cong : (b : Bool) {x y u v : A} → (b ≡ true → x ≡ u) → (b ≡ false → y ≡ v) → cond b x y ≡ cond b u v
-  cond-cong true f g = f refl
-  cond-cong false f g = g refl
+use Rattle.model.proofs.Booleans.{cond-cong}
 
 -- the words stand at position p and onward
 abbrev pub Holds : (ℕ → ℕ) → ℕ → List ℕ → Type 0

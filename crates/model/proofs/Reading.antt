@@ -14,6 +14,8 @@ use Rattle.model.specs.Record.{Record, change, close, wordsOf}
 use Rattle.model.specs.Decode.{span, kindField, widthField, misplaced, decodeWords, decodeAt}
 use Rattle.model.specs.Scan.{Scan, end, bad, item, scanned, scanAtMost, scan}
 use Rattle.model.proofs.Members.{Every, every-nil, every-cons}
+use Rattle.model.proofs.Booleans.{cond-all}
+use Rattle.model.proofs.Decode.{words-ge}
 
 -- A record of a log with its position, and all of them.
 pub record Item : Type 0 where
@@ -52,28 +54,16 @@ Reads s read stop p (item q r rest) =
     (q ≡ p) × (p < stop)
     × ((next : ℕ) × (p < next) × Decodes read p (decodeAt s read stop p) r next × Reads s read stop next rest)
 
-cond-all : (P : Decoded → Type 0) (b : Bool) {x y : Decoded} → (b ≡ true → P x) → (b ≡ false → P y) → P (cond b x y)
-cond-all P true f g = f refl
-cond-all P false f g = g refl
-
 abbrev Past : ℕ → Decoded → Type 0
 Past p (Change kind page slot number epoch width next) = p < next
 Past p (Close kind number next) = p < next
 Past p Malformed = Unit {0}
 
-two-words : (kind width : ℕ) → 2 ≤ wordsOf kind width
-unfolding wordsOf
-two-words kind width = go (ltb kind 2)
-  where
-    go : (b : Bool) → 2 ≤ cond b (3 + width) 2
-    go true = omega arith
-    go false = omega arith
-
 past : (s : Sizes) (read : ℕ → ℕ) (stop p : ℕ) → Past p (decodeAt s read stop p)
 unfolding decodeAt decodeWords
 past s read stop p =
     let w = read p in
-    let size = two-words (kindField w) (widthField w) in
+    let size = words-ge (kindField w) (widthField w) in
     let P : Decoded → Type 0 = λ d. Past p d in
     cond-all P (ltb 3 (kindField w)) (λ _. tt)
     (λ _. cond-all P (ltb stop (p + wordsOf (kindField w) (widthField w))) (λ _. tt)

@@ -11,7 +11,7 @@ use Rattle.model.specs.declared.Decoded.the-variants.{Change, Close}
 use Rattle.model.specs.Sizes.{slotsIn, widthIn, ringOf, diskAt, ringWord}
 use Rattle.model.specs.Record.{Record, change, close, header, encode, encodeAll}
 use Rattle.model.specs.Decode.{readLog, span, kindField, pageField, slotField, widthField, misplaced, decodeWords, decodeAt}
-use Rattle.model.specs.Scan.{Scan, end, item, scan, placed}
+use Rattle.model.specs.Scan.{item, scan, placed}
 use Rattle.model.specs.World.{World, perform, each}
 use Rattle.model.specs.Append.{storeLog}
 use Rattle.model.proofs.Decode.{words-change, words-close}

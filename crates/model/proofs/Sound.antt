@@ -1,8 +1,6 @@
 -- Every call hands back a state that passes the first test.
 pub mod Test
 -- The steps that calls share: words reserved, logs that grow, an entry of the table changed.
-pub mod Reserved
-pub mod Grown
 pub mod Serving
 -- Each call.
 pub mod Transaction

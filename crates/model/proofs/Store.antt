@@ -1,6 +1,7 @@
 -- The calls keep the promise: what holds of the store between two calls, and that every call keeps it.
 pub mod Cases
 pub mod Rows
+pub mod Accepted
 pub mod View
 pub mod Same
 pub mod Crash

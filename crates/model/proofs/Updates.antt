@@ -3,21 +3,23 @@ use mathlib.Core.Path.{_≡_, refl, ap}
 use mathlib.Core.Logic.{_⊎_, inl, inr}
 use mathlib.Core.List.{List, [], _∷_, _++_, List·Memᴰ, List·Memᴰ·head, List·Memᴰ·tail, List·Memᴰ·not-nil, List·Memᴰ·cases-cons, append-nil, Memᴰ·append-left, Memᴰ·append-right}
 use mathlib.Core.Bool.{Bool, true, false, and-eq-true-iff, cond, _&&_}
-use Prim.Native.Nat.{ℕ, suc, _≤_, _<_}
+use Prim.Native.Nat.{ℕ, suc, _≤_, _<_, _-_}
 use native.Mathlib.Omega.{arith}
-use lib.Dec.{eqb}
-use borrow.Author.Tests.{eqb-true, eq-eqb}
+use lib.Dec.{eqb, ltb}
+use borrow.Author.Tests.{eqb-true, eq-eqb, ltb-false}
+use Rattle.model.specs.Causes.{faultRow}
+use Rattle.model.specs.declared.Fault.the-variants.{Sound, BadRecord}
 use Rattle.model.specs.declared.Core.{Core}
 use Rattle.model.specs.Record.{Record, change, close, updateKind}
-use Rattle.model.specs.Decode.{readLog}
-use Rattle.model.specs.Scan.{Scan, end, bad, item, scan, Update, updatesIn}
+use Rattle.model.specs.Scan.{Scan, end, bad, item, scan, Update, updatesIn, updateWords}
 use Rattle.model.specs.World.{World}
-use Rattle.model.specs.Memory.{bufferOf}
-use Rattle.model.specs.State.{tailOf, fillOf, endOf, placeOf, isOpen, firstAt, hasUpdate}
+use Rattle.model.specs.State.{endOf, placeOf, isOpen, firstAt, hasUpdate, reservedAt}
 use Rattle.model.specs.Transaction.{diskOf}
-use Rattle.model.specs.Abort.{abortScan, updatesLeft}
+use Rattle.model.specs.Abort.{abortScan, updatesLeft, abortFault}
 use Rattle.model.proofs.Members.{Every, every-nil, every-cons, every-append}
 use Rattle.model.proofs.Reading.{Item, items, Rises, scan-rises}
+use Rattle.model.proofs.Booleans.{cond-all}
+use Rattle.model.proofs.Faults.{no-fault, fault-rest}
 
 -- the item of a scan that an update was read from
 abbrev pub itemOf : ℕ → Update → ℕ → Item
@@ -147,26 +149,30 @@ module _ (number : ℕ) where
       go true f = falls-last (updatesIn number rest) u f (updates-above (suc p) rest (h .1))
       go false f = rw append-nil f
 
+-- What an abort reads is a log from its transaction's first record on, or nothing.
+pub abort-reads : (P : Scan → Type 0) (c : Core) (w : World) (number : ℕ) → P end
+    → ((read : ℕ → ℕ) → P (scan (c .sizes) read (endOf (c .logs) (diskOf c number)) (firstAt (c .table) (placeOf (c .table) number))))
+    → P (abortScan c w number)
+unfolding abortScan
+abort-reads P c w number none some = cond-all P (isOpen (c .table) number && hasUpdate (c .table) (placeOf (c .table) number)) (λ e. some _) (λ e. none)
+
 -- so an abort takes back the newest update first
 pub abort-falls : (c : Core) (w : World) (number : ℕ) → Falls (updatesLeft c w number)
-unfolding updatesLeft abortScan
-abort-falls c w number = go (isOpen (c .table) number && hasUpdate (c .table) place)
+unfolding updatesLeft updatesIn
+abort-falls c w number =
+    let first : ℕ = firstAt (c .table) (placeOf (c .table) number) in
+    let stop : ℕ = endOf (c .logs) (diskOf c number) in
+    abort-reads (λ (sc : Scan). Falls (updatesIn number sc)) c w number tt
+    (λ read. updates-fall number first (scan (c .sizes) read stop first) (scan-rises (c .sizes) read stop first))
+
+-- row 7: the words of the updates are no more than are reserved for them
+pub abort-words : (c : Core) (w : World) (t : ℕ) → faultRow (abortFault c w t) .applies ≡ false
+    → updateWords (updatesLeft c w t) ≤ reservedAt (c .table) (placeOf (c .table) t) - 2
+unfolding abortFault
+abort-words c w t h = go _ refl (fault-rest _ _ _ (no-fault (abortFault c w t) h))
   where
-    place : ℕ
-    place = placeOf (c .table) number
-
-    disk : ℕ
-    disk = diskOf c number
-
-    log : Scan
-    log =
-        scan (c .sizes)
-        (readLog (c .sizes) (w .logs) disk (tailOf (c .logs) disk) (bufferOf (c .sizes) (w .work) disk (fillOf (c .logs) disk)))
-        (endOf (c .logs) disk) (firstAt (c .table) place)
-
-    rises : (b : Bool) → Rises (firstAt (c .table) place) (cond b log end)
-    rises true = scan-rises (c .sizes) _ (endOf (c .logs) disk) (firstAt (c .table) place)
-    rises false = tt
-
-    go : (b : Bool) → Falls (updatesIn number (cond b log end))
-    go b = updates-fall number (firstAt (c .table) place) (cond b log end) (rises b)
+    go : (b : Bool) → ltb (reservedAt (c .table) (placeOf (c .table) t) - 2) (updateWords (updatesLeft c w t)) ≡ b
+        → cond b (BadRecord (diskOf c t) (firstAt (c .table) (placeOf (c .table) t))) Sound ≡ Sound
+        → updateWords (updatesLeft c w t) ≤ reservedAt (c .table) (placeOf (c .table) t) - 2
+    go true e k = let z : _≡_ {A = ℕ} 0 1 = cc in absurd (omega arith)
+    go false e k = ltb-false _ _ e

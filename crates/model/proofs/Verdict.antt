@@ -26,16 +26,21 @@ use Rattle.model.proofs.Run.{made-le}
 abbrev pub Fails : Row → Type 0
 Fails r = r .applies ≡ false
 
--- Accepted: no row applies.
-pub accepted-none : (rows : List Row) → verdict rows ≡ accepted → Every Fails rows
+-- Accepted: the first row does not apply, and the others accept too; so no row applies.
+pub row-passed : (x : Row) (rows : List Row) → verdict (x ∷ rows) ≡ accepted → (x .applies ≡ false) × (verdict rows ≡ accepted)
 unfolding verdict
-accepted-none [] e = every-nil Fails
-accepted-none (x ∷ rows) e = go (x .applies) refl e (accepted-none rows)
+row-passed x rows e = go (x .applies) refl e
   where
-    go : (t : Bool) → x .applies ≡ t → cond t (refused (x .number) (x .first) (x .second)) (verdict rows) ≡ accepted
-        → (verdict rows ≡ accepted → Every Fails rows) → Every Fails (x ∷ rows)
-    go true d e rest = let z : _≡_ {A = ℕ} 0 1 = cc in absurd (omega arith)
-    go false d e rest = every-cons Fails x rows d (rest e)
+    go : (b : Bool) → x .applies ≡ b → cond b (refused (x .number) (x .first) (x .second)) (verdict rows) ≡ accepted
+        → (x .applies ≡ false) × (verdict rows ≡ accepted)
+    go true d e = let z : _≡_ {A = ℕ} 0 1 = cc in absurd (omega arith)
+    go false d e = (d, e)
+
+pub accepted-none : (rows : List Row) → verdict rows ≡ accepted → Every Fails rows
+accepted-none [] e = every-nil Fails
+accepted-none (x ∷ rows) e =
+    let p = row-passed x rows e in
+    every-cons Fails x rows (p .0) (accepted-none rows (p .1))
 
 pub none-accepted : (rows : List Row) → Every Fails rows → verdict rows ≡ accepted
 unfolding verdict

@@ -1,21 +1,23 @@
 -- A checkpoint: a page copied to the other backup, and the last store, which makes that backup count and shortens the log.
 use mathlib.Core.Path.{_≡_, refl, sym, ap, _∙_}
-use mathlib.Core.List.{List, [], _∷_, _++_, append-assoc, append-nil}
-use mathlib.Core.Bool.{Bool, true, false, not, _&&_, _||_, cond}
+use mathlib.Core.List.{List, [], _++_, append-assoc, append-nil}
+use mathlib.Core.Bool.{Bool, true, false, not, or-comm, cond}
 use Prim.Native.Nat.{ℕ, _+_, _<_, _≤_}
 use native.Mathlib.Omega.{arith}
 use lib.Dec.{leb, eqb}
 use borrow.Author.Tests.{leb-true, le-leb, ne-eqb}
 use Rattle.model.specs.Word.{_⊕_}
 use Rattle.model.proofs.Xor.{⊕-zero-l, ⊕-comm}
-use Rattle.model.proofs.Ledger.Entry.{sum, some, mask, All, pick, Entry, isClose, adds, closedIn}
+use Rattle.model.proofs.Ledger.Entry.{sum, mask, All, pick, Entry, adds, closedIn, some}
 use Rattle.model.proofs.Ledger.State.{Ledger, copied, switched}
-use Rattle.model.proofs.Ledger.Sums.{sum-append, sum-zero, all-map, true-false}
+use Rattle.model.proofs.Ledger.Sums.{sum-append, sum-zero, all-map}
 use Rattle.model.proofs.Ledger.Picks.{sum-pick, closed-pick, some-append}
 use Rattle.model.proofs.Ledger.Word.{Inv, Copied, newer, copy-page, flush-keeps, switch-keeps, drop-keeps}
 use Rattle.model.proofs.Ledger.WriteSets.{sheets-same}
 use Rattle.model.proofs.Ledger.Good.{Good}
 use Rattle.model.proofs.Ledger.Flush.{neither}
+use Rattle.model.proofs.Booleans.{true-false}
+use Rattle.model.proofs.Ledger.Lists.{some-halves}
 
 -- ---- a page copied, which was not yet in this checkpoint
 module _ {x size : ℕ} {a : Ledger} (inPage : ℕ → Bool) (before : (w : ℕ) → w < size → inPage w ≡ true → a .epochs w ≤ a .epoch) (g : Good x size a) where
@@ -60,33 +62,10 @@ pub record MaySwitch (size : ℕ) (a : Ledger) (kept : Entry → Bool) : Type 0 
   -- where a closing record goes, its transaction has nothing in what stays
   pub last : (t : ℕ) → closedIn (a .flushed) t ≡ true → closedIn (pick kept (a .flushed)) t ≡ false → All (λ r. eqb (r .number) t ≡ false) (pick kept (a .flushed))
 
--- an element passes in one of the two picks
-pub or-split : {A : Type 0} (q p : A → Bool) (l : List A) → (some q (pick (λ r. not (p r)) l) || some q (pick p l)) ≡ some q l
-unfolding some pick
-or-split q p [] = refl
-or-split {A} q p (r ∷ l) = go (p r) (q r) refl (or-split q p l)
-  where
-    D : Bool
-    D = some q (pick (λ r. not (p r)) l)
-
-    R : Bool
-    R = some q (pick p l)
-
-    absorb : (b : Bool) → b || true ≡ true
-    absorb true = refl
-    absorb false = refl
-
-    go : (k y : Bool) → q r ≡ y → D || R ≡ some q l
-        → (some q (cond (not k) (r ∷ pick (λ r. not (p r)) l) (pick (λ r. not (p r)) l)) || some q (cond k (r ∷ pick p l) (pick p l))) ≡ (y || some q l)
-    go true true e h = rw e (absorb D)
-    go true false e h = rw e h
-    go false true e h = rw e
-    go false false e h = rw e h
-
 closed-split : (p : Entry → Bool) (l : List Entry) (t : ℕ) → closedIn (pick (λ r. not (p r)) l ++ pick p l) t ≡ closedIn l t
 unfolding closedIn
 closed-split p l t =
-    some-append (λ r. isClose r && eqb (r .number) t) (pick (λ r. not (p r)) l) (pick p l) ∙ or-split (λ r. isClose r && eqb (r .number) t) p l
+    some-append _ (pick (λ r. not (p r)) l) (pick p l) ∙ or-comm (some _ (pick (λ r. not (p r)) l)) (some _ (pick p l)) ∙ some-halves _ p l
 
 mask-mono : (m n k y : ℕ) → m ≤ n → mask (leb m k) y ≡ 0 → mask (leb n k) y ≡ 0
 mask-mono m n k y h e = go (leb n k) refl

@@ -9,12 +9,13 @@ use Rattle.model.specs.Word.{_⊕_}
 use Rattle.model.proofs.Xor.{xor, ⊕-zero-r, ⊕-assoc}
 use Rattle.model.proofs.Ledger.Entry.{sum, some, mask, All, pick, Entry, isClose, adds, closedIn, onDisk, patched}
 use Rattle.model.proofs.Ledger.State.{Ledger, except, abortedBy, committedBy}
-use Rattle.model.proofs.Ledger.Sums.{mask-zero, sum-append, all-zip, all-right, true-false}
-use Rattle.model.proofs.Ledger.Picks.{sum-pick, all-pick, closed-append, closed-pick, or-false}
+use Rattle.model.proofs.Ledger.Sums.{mask-zero, sum-append, all-zip, all-right}
+use Rattle.model.proofs.Ledger.Picks.{sum-pick, all-pick, closed-append, closed-pick}
 use Rattle.model.proofs.Ledger.Word.{Inv, ofTxn, append-keeps, abort-keeps, flush-keeps, sum-snoc, kept-open}
 use Rattle.model.proofs.Ledger.WriteSets.{Sheets, sheets-same, commit-sheets, commit-others, not-shut}
 use Rattle.model.proofs.Ledger.Good.{Good}
 use Rattle.model.proofs.Ledger.Flush.{neither, elsewhere, stays}
+use Rattle.model.proofs.Booleans.{true-false, or-none}
 
 -- ---- a closing record adds nothing to a word, and closes its transaction alone
 pub adds-close : (w : ℕ) (r : Entry) → isClose r ≡ true → adds w r ≡ 0
@@ -152,8 +153,8 @@ module _ {size : ℕ} {a : Ledger} (home : ℕ → ℕ) (r : Entry) (homed : All
 
   parts : (u : ℕ) → closedIn log u ≡ false → (closedIn (a .flushed) u ≡ false) × (eqb (r .number) u ≡ false)
   parts u h =
-      let p : (closedIn (a .flushed) u ≡ false) × (closedIn gone u || eqb (r .number) u ≡ false) = or-false _ _ (sym (closed-log u) ∙ h) in
-      (p .0, or-false (closedIn gone u) (eqb (r .number) u) (p .1) .1)
+      let p : (closedIn (a .flushed) u ≡ false) × (closedIn gone u || eqb (r .number) u ≡ false) = or-none _ _ (sym (closed-log u) ∙ h) in
+      (p .0, or-none (closedIn gone u) (eqb (r .number) u) (p .1) .1)
 
   was-shut : (u : ℕ) → closedIn log u ≡ false → except (a .opened) (r .number) u ≡ false → a .opened u ≡ false
   was-shut u h o = go (a .opened u) (rw (ne-eqb u (r .number) (λ e. eqb-false (r .number) u (parts u h .1) (sym e))) at o)

@@ -9,15 +9,16 @@ use Rattle.model.specs.Word.{_⊕_}
 use Rattle.model.proofs.Xor.{⊕-assoc}
 use Rattle.model.proofs.Ledger.Entry.{sum, All, pick, Entry, isClose, closedIn, onDisk}
 use Rattle.model.proofs.Ledger.State.{Ledger, flushedDisk}
-use Rattle.model.proofs.Ledger.Sums.{sum-append, all-zip, all-right, true-false}
-use Rattle.model.proofs.Ledger.Picks.{sum-pick, all-pick, pick-all, closed-append, closed-pick, or-false, some-none}
+use Rattle.model.proofs.Ledger.Sums.{sum-append, all-zip, all-right}
+use Rattle.model.proofs.Ledger.Picks.{sum-pick, all-pick, pick-all, closed-append, closed-pick, some-none}
 use Rattle.model.proofs.Ledger.Word.{flush-keeps}
 use Rattle.model.proofs.Ledger.WriteSets.{sheets-same}
 use Rattle.model.proofs.Ledger.Good.{Good}
+use Rattle.model.proofs.Booleans.{true-false, or-none}
 
 -- closed in neither part
 pub neither : (l m : List Entry) (u : ℕ) → closedIn (l ++ m) u ≡ false → (closedIn l u ≡ false) × (closedIn m u ≡ false)
-neither l m u h = or-false (closedIn l u) (closedIn m u) (sym (closed-append l m u) ∙ h)
+neither l m u h = or-none (closedIn l u) (closedIn m u) (sym (closed-append l m u) ∙ h)
 
 -- where each transaction has its records on one disk
 module _ (home : ℕ → ℕ) (B : List Entry) (homed : All (λ r. r .disk ≡ home (r .number)) B) (d : ℕ) where

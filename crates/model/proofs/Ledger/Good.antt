@@ -10,11 +10,12 @@ use Rattle.model.specs.Word.{_⊕_}
 use Rattle.model.proofs.Xor.{xor, ⊕-zero-l, ⊕-zero-r}
 use Rattle.model.proofs.Ledger.Entry.{sum, some, mask, Entry, adds, closedIn, chosen, patched}
 use Rattle.model.proofs.Ledger.State.{Ledger, including, begun, fresh, Same}
-use Rattle.model.proofs.Ledger.Sums.{sum-ext, sum-xor, all-of, true-false}
-use Rattle.model.proofs.Ledger.Picks.{closed-append, or-false}
+use Rattle.model.proofs.Ledger.Sums.{sum-ext, sum-xor, all-of}
+use Rattle.model.proofs.Ledger.Picks.{closed-append}
 use Rattle.model.proofs.Ledger.Groups.{sum-by-key}
 use Rattle.model.proofs.Ledger.Word.{Inv, Copied, newer, ofTxn, ofOpen, recovers-word, fresh-word}
 use Rattle.model.proofs.Ledger.WriteSets.{Sheets, sheets-same, sheets-exempt, not-shut, open-one}
+use Rattle.model.proofs.Booleans.{true-false, or-none}
 
 -- The invariant of the words below `size`. Transaction x is inside an abort: its writes no longer count (0: there is none).
 pub record Good (x size : ℕ) (a : Ledger) : Type 0 where
@@ -158,10 +159,10 @@ module _ {size : ℕ} {a : Ledger} (g : Good 0 size a) where
     late = g .words w i .late;
     apart = g .words w i .apart;
     loose = λ u o. newly (a .opened) (a .next) u _ o
-        (λ e. rw e (or-false (closedIn (a .flushed) (a .next)) (closedIn (a .buffered) (a .next))
+        (λ e. rw e (or-none (closedIn (a .flushed) (a .next)) (closedIn (a .buffered) (a .next))
         (sym (closed-append (a .flushed) (a .buffered) (a .next)) ∙ new-closed) .0))
         (λ n p. g .words w i .loose u p);
-    cancel = λ u y o. g .words w i .cancel u y (or-false (a .opened u) (eqb u (a .next)) o .0);
+    cancel = λ u y o. g .words w i .cancel u y (or-none (a .opened u) (eqb u (a .next)) o .0);
     book = g .words w i .book ∙ ap (λ (y : ℕ). a .pages w ⊕ y)
         (sym (open-including w (a .opened) (a .next) (a .flushed ++ a .buffered) new-shut (g .unlogged w (a .next) i (omega arith))));
   }

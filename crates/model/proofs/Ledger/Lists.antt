@@ -1,7 +1,7 @@
 -- Lists of entries: what a test picks of a joined or a picked list, and what a disk's flush moves from one list to the other.
 use mathlib.Core.Path.{_≡_, refl, sym, ap, _∙_}
 use mathlib.Core.List.{List, [], _∷_, _++_, append-assoc, append-nil, map-append}
-use mathlib.Core.Bool.{Bool, true, false, not, _||_, cond}
+use mathlib.Core.Bool.{Bool, true, false, not, _||_, or-true, cond}
 use Prim.Native.Nat.{ℕ, _+_}
 use native.Mathlib.Decide.{ℕ-discrete}
 use lib.ListN.{length, length-append}
@@ -10,8 +10,9 @@ use Rattle.model.specs.Record.{encode, encodeAll}
 use Rattle.model.proofs.RoundTrip.{encode-append}
 use Rattle.model.proofs.Ledger.Entry.{Entry, recordOf, some, All, pick, closedIn, onDisk}
 use Rattle.model.proofs.Ledger.Order.{sizeOf, wordsOf, on}
-use Rattle.model.proofs.Ledger.Sums.{true-false, all-append, all-right}
+use Rattle.model.proofs.Ledger.Sums.{all-append, all-right}
 use Rattle.model.proofs.Ledger.Picks.{all-pick, some-append}
+use Rattle.model.proofs.Booleans.{true-false}
 
 module _ {A : Type 0} where
   pub all-left : (P : A → Type 0) (l m : List A) → All P (l ++ m) → All P l
@@ -95,10 +96,6 @@ module _ {A : Type 0} where
   some-halves q p [] = refl
   some-halves q p (r ∷ l) = go (p r) (q r) refl (some-halves q p l)
     where
-      or-true : (b : Bool) → (b || true) ≡ true
-      or-true true = refl
-      or-true false = refl
-
       go : (a b : Bool) → q r ≡ b → (some q (pick p l) || some q (pick (λ r. not (p r)) l)) ≡ some q l
           → (some q (cond a (r ∷ pick p l) (pick p l)) || some q (cond (not a) (r ∷ pick (λ r. not (p r)) l) (pick (λ r. not (p r)) l))) ≡ (b || some q l)
       go true true x e = rw x

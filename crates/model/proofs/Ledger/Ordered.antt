@@ -10,10 +10,11 @@ use lib.ListN.{length}
 use borrow.Author.Tests.{eqb-true, eq-eqb, ne-eqb}
 use Rattle.model.proofs.Ledger.Entry.{Entry, isClose, All, pick, closedIn, onDisk}
 use Rattle.model.proofs.Ledger.Order.{sizeOf, wordsOf, on, Laid, boundary, Ordered}
-use Rattle.model.proofs.Ledger.Sums.{true-false, all-map, all-zip, all-append}
+use Rattle.model.proofs.Ledger.Sums.{all-map, all-zip, all-append}
 use Rattle.model.proofs.Ledger.Picks.{all-pick, pick-all, none-some}
 use Rattle.model.proofs.Ledger.Lists.{all-left, all-flush, pick-only, pick-swap, some-pick, on-append, on-more, on-less, off-more, on-flush}
 use Rattle.model.proofs.Ledger.Positions.{laid-append, append-laid, laid-within, laid-after, Suffix, boundary-suffix}
+use Rattle.model.proofs.Booleans.{true-false}
 
 -- a closing record of t has its number
 pub closes-number : (q : Entry) (t : ℕ) → isClose q && eqb (q .number) t ≡ true → q .number ≡ t

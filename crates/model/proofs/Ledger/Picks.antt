@@ -7,7 +7,7 @@ use lib.Dec.{eqb}
 use Rattle.model.specs.Word.{_⊕_}
 use Rattle.model.proofs.Ledger.Entry.{sum, All, Entry, isClose, closedIn, some, pick}
 use Rattle.model.proofs.Xor.{⊕-zero-l, ⊕-assoc, ⊕-left-comm}
-use Rattle.model.proofs.Ledger.Sums.{true-false}
+use Rattle.model.proofs.Booleans.{true-false}
 
 module _ {A : Type 0} where
   -- a list is its picks by a test and by its opposite
@@ -70,7 +70,3 @@ closed-append l m t = some-append (λ r. isClose r && eqb (r .number) t) l m
 pub closed-pick : (p : Entry → Bool) (l : List Entry) (t : ℕ) → closedIn l t ≡ false → closedIn (pick p l) t ≡ false
 unfolding closedIn
 closed-pick p l t h = some-none (λ r. isClose r && eqb (r .number) t) (pick p l) (all-pick _ p l (none-some (λ r. isClose r && eqb (r .number) t) l h))
-
-pub or-false : (a b : Bool) → a || b ≡ false → (a ≡ false) × (b ≡ false)
-or-false true b h = true-false refl h
-or-false false b h = (refl, h)

@@ -13,6 +13,7 @@ use Rattle.model.proofs.Ledger.Entry.{Entry, recordOf, All, pick}
 use Rattle.model.proofs.Ledger.Order.{sizeOf, wordsOf, Laid, boundary}
 use Rattle.model.proofs.Ledger.Sums.{all-map}
 use Rattle.model.proofs.Ledger.Lists.{pick-whole, words-first, words-none, length-words}
+use Rattle.model.proofs.Booleans.{or-right}
 
 -- a closing record has two words, a change three or more
 record-size : (r : Record) → 2 ≤ length (encode r)
@@ -70,10 +71,6 @@ pub boundary-start : (p : ℕ) (l : List Entry) → boundary p p l ≡ true
 unfolding boundary
 boundary-start p [] = eq-eqb p p refl
 boundary-start p (r ∷ l) = rw (eq-eqb p p refl)
-
-or-right : (a b : Bool) → b ≡ true → a || b ≡ true
-or-right true b h = refl
-or-right false b h = h
 
 pub boundary-end : (p : ℕ) (l : List Entry) → boundary (p + length (wordsOf l)) p l ≡ true
 unfolding boundary

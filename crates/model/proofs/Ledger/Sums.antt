@@ -3,14 +3,10 @@ use mathlib.Core.Path.{_≡_, refl, sym, ap₂}
 use mathlib.Core.List.{List, [], _∷_, _++_}
 use mathlib.Core.Bool.{Bool, true, false}
 use Prim.Native.Nat.{ℕ}
-use native.Mathlib.Omega.{arith}
 use Rattle.model.specs.Word.{_⊕_}
 use Rattle.model.proofs.Ledger.Entry.{sum, mask, All}
 use Rattle.model.proofs.Xor.{xor, ⊕-assoc, ⊕-zero-l}
-
--- a test that holds and fails proves anything
-pub true-false : {X : Type 0} {b : Bool} → b ≡ true → b ≡ false → X
-true-false p q = absurd (omega (arith, (let z : _≡_ {A = ℕ} 0 1 = cc in z)))
+pub use Rattle.model.proofs.Booleans.{true-false}
 
 pub mask-zero : (b : Bool) → mask b 0 ≡ 0
 mask-zero true = refl

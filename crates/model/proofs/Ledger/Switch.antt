@@ -9,10 +9,12 @@ use lib.Dec.{leb, eqb}
 use borrow.Author.Tests.{leb-true, leb-false, lt-leb, le-leb, ne-eqb, not-true}
 use Rattle.model.proofs.Ledger.Entry.{Entry, mask, All, adds, isClose, closedIn, pick}
 use Rattle.model.proofs.Ledger.Order.{Ordered}
-use Rattle.model.proofs.Ledger.Sums.{true-false, all-map, all-zip, mask-zero}
+use Rattle.model.proofs.Ledger.Sums.{all-map, all-zip, mask-zero}
 use Rattle.model.proofs.Ledger.Picks.{all-pick, pick-all}
 use Rattle.model.proofs.Ledger.Lists.{all-left, some-pick}
 use Rattle.model.proofs.Ledger.Ordered.{Before, closes-number, keptFrom}
+use Rattle.model.proofs.Booleans.{true-false}
+use Rattle.model.proofs.Ledger.Close.{adds-close}
 
 -- What the entries' positions say at a checkpoint's end: an open transaction's lie from its first position on, every other
 -- transaction is closed, and the changes before the remembered ends (`marks`) are in the backup that now counts.
@@ -20,10 +22,6 @@ pub record Placed (O : ℕ → Bool) (first marks : ℕ → ℕ) (c : ℕ) (F : 
   pub opened : All (λ r. O (r .number) ≡ true → first (r .number) ≤ r .position) F
   pub settled : All (λ r. O (r .number) ≡ false → closedIn F (r .number) ≡ true) F
   pub early : All (λ r. r .position < marks (r .disk) → isClose r ≡ false → r .epoch ≤ c) F
-
-close-adds : (w : ℕ) (r : Entry) → isClose r ≡ true → adds w r ≡ 0
-unfolding adds
-close-adds w r e = rw e
 
 -- Any later starts: a transaction's closing record is its last one, so it is kept with any other.
 module _ {disks : ℕ} {start home : ℕ → ℕ} {F : List Entry} (o : Ordered disks start home F []) (start' : ℕ → ℕ) where
@@ -76,7 +74,7 @@ module _ {disks : ℕ} {start home : ℕ → ℕ} {F : List Entry} (o : Ordered 
         one r x h = go (isClose r) refl
           where
             go : (b : Bool) → isClose r ≡ b → mask (leb (c + 1) (r .epoch)) (adds w r) ≡ 0
-            go true e = rw (close-adds w r e) (mask-zero (leb (c + 1) (r .epoch)))
+            go true e = rw (adds-close w r e) (mask-zero (leb (c + 1) (r .epoch)))
             go false e =
                 let old : r .epoch ≤ c = h .1 (omega (arith, before r x, low (r .disk) (h .0))) e in
                 rw (lt-leb (c + 1) (r .epoch) (omega arith))

@@ -9,10 +9,11 @@ use borrow.Author.Tests.{eqb-true, eqb-false, ne-eqb}
 use Rattle.model.specs.Word.{_⊕_}
 use Rattle.model.proofs.Ledger.Entry.{sum, mask, All, Entry, adds, closedIn, chosen}
 use Rattle.model.proofs.Xor.{xor, ⊕-zero-l, ⊕-zero-r, ⊕-assoc}
-use Rattle.model.proofs.Ledger.Sums.{sum-append, sum-ext, sum-xor, sum-zero, all-of, all-map, all-append, true-false}
+use Rattle.model.proofs.Ledger.Sums.{sum-append, sum-ext, sum-xor, sum-zero, all-of, all-map, all-append}
 use Rattle.model.proofs.Ledger.State.{except}
 use Rattle.model.proofs.Ledger.Crash.{crash}
 use Rattle.model.proofs.Ledger.Groups.{sum-by-key}
+use Rattle.model.proofs.Booleans.{true-false, both-fail}
 
 -- the sums that the invariant speaks of
 abbrev pub newer : ℕ → ℕ → List Entry → ℕ
@@ -42,11 +43,6 @@ pub record Inv (w c b v res : ℕ) (F B : List Entry) (O : ℕ → Bool) : Type 
   -- without the open transactions' records the page is the committed word
   pub book : res ≡ v ⊕ ofOpen w O (F ++ B)
 
-and-false : (a b : Bool) → (not a && not b) ≡ true → (a ≡ false) × (b ≡ false)
-and-false false false h = (refl, refl)
-and-false false true h = (refl, sym h)
-and-false true b h = (cc, cc)
-
 -- a cut at any moment, and a restart gives the committed word
 pub recovers-word : (w c b v res : ℕ) (F B : List Entry) (O : ℕ → Bool) → Inv w c b v res F B O → restored w c b F ≡ res
 recovers-word w c b v res F B O h =
@@ -55,7 +51,7 @@ recovers-word w c b v res F B O h =
   where
     none : sum (λ r. mask (not (closedIn F (r .number)) && not (O (r .number))) (adds w r)) (F ++ B) ≡ 0
     none = sum-by-key (λ r. r .number) (adds w) (λ t. not (closedIn F t) && not (O t)) (F ++ B)
-        (λ t e. h .cancel t (and-false (closedIn F t) (O t) e .0) (and-false (closedIn F t) (O t) e .1))
+        (λ t e. h .cancel t (both-fail (closedIn F t) (O t) e .0) (both-fail (closedIn F t) (O t) e .1))
 
 -- one record more
 pub sum-snoc : (f : Entry → ℕ) (F B : List Entry) (r : Entry) → sum f (F ++ (B ++ r ∷ [])) ≡ sum f (F ++ B) ⊕ f r

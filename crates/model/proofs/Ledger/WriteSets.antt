@@ -9,9 +9,10 @@ use Rattle.model.specs.Word.{_⊕_}
 use Rattle.model.proofs.Xor.{xor, ⊕-zero-l, ⊕-zero-r}
 use Rattle.model.proofs.Ledger.Entry.{mask, Entry, adds, Patch, patch, patched}
 use Rattle.model.proofs.Ledger.State.{except}
-use Rattle.model.proofs.Ledger.Sums.{mask-zero, true-false}
+use Rattle.model.proofs.Ledger.Sums.{mask-zero}
 use Rattle.model.proofs.Ledger.Groups.{sum-by-key}
 use Rattle.model.proofs.Ledger.Word.{ofTxn, ofOpen, split-open, sum-snoc, kept-open}
+use Rattle.model.proofs.Booleans.{true-false}
 
 pub patched-snoc : (w : ℕ) (es : List Patch) (e : Patch) (x : ℕ) → patched w (es ++ e ∷ []) x ≡ patch w e (patched w es x)
 unfolding patched

@@ -25,9 +25,9 @@ use Rattle.model.proofs.Ledger.Entry.{Entry, isClose, recordOf, mask, s
 use Rattle.model.proofs.Ledger.Order.{wordsOf, on, Laid, boundary, entriesScan}
 use Rattle.model.proofs.Ledger.Sums.{mask-zero, sum-append, all-append, all-right}
 use Rattle.model.proofs.Ledger.Picks.{all-pick}
-use Rattle.model.proofs.Ledger.Lists.{all-left, words-append, length-words-append}
+use Rattle.model.proofs.Ledger.Lists.{all-left, words-append}
 use Rattle.model.proofs.Ledger.Positions.{Suffix, boundary-suffix}
-use Rattle.model.proofs.Link.Words.{Fit, Link, fit-on, scan-entries}
+use Rattle.model.proofs.Link.Words.{Fit, Link, fit-on, scan-entries, log-end}
 
 -- The log of a disk, its buffer included, holds the flushed entries and then the buffered ones.
 module _ {s : Sizes} {l : Logs} {w : World} {F B : List Entry} (k : Link s l w F B) (d : ℕ) (below : d < s .disks) where
@@ -38,10 +38,6 @@ module _ {s : Sizes} {l : Logs} {w : World} {F B : List Entry} (k : Link s l w F
   log-holds =
       rw (k .buffer d below, words-append)
       (read-holds s (w .logs) d (tailOf l d) (wordsOf (on d B)) (startOf l d) (wordsOf (on d F)) (k .tail d below) (k .held d below))
-
-  end-is : endOf l d ≡ startOf l d + length (wordsOf (on d F ++ on d B))
-  unfolding endOf
-  end-is = omega (arith, k .tail d below, k .fill d below, length-words-append (on d F) (on d B))
 
   -- read from a boundary on, it is the entries from there on
   pub scan-from : (first : ℕ) → All (Fit s) (F ++ B) → Laid (startOf l d) (on d F ++ on d B)
@@ -60,7 +56,7 @@ module _ {s : Sizes} {l : Logs} {w : World} {F B : List Entry} (k : Link s l w F
       (all-pick (Fit s) _ all (all-append (Fit s) (on d F) (on d B) flushed-fit buffered-fit))
       (x .laid)
       (rw cut at (holds-append reader (startOf l d) (x .front) (wordsOf kept) (rw (x .words) at log-holds) .1))
-      (omega (arith, end-is))
+      (omega (arith, log-end k d below))
 
 -- so is what an abort reads, from its transaction's first record on
 pub abort-scan : (c : Core) (w : World) {F B : List Entry} (number d first : ℕ) → Link (c .sizes) (c .logs) w F B

@@ -1,10 +1,10 @@
 -- An append puts an entry behind the buffered ones of its disk, after a flush of that disk where its words do not fit.
-use mathlib.Core.Path.{_≡_, refl, sym, _∙_}
+use mathlib.Core.Path.{_≡_, refl, sym}
 use mathlib.Core.List.{List, [], _∷_, _++_}
 use mathlib.Core.Bool.{not}
 use Prim.Native.Nat.{ℕ, _+_, _≤_, _<_}
 use native.Mathlib.Omega.{arith}
-use native.Mathlib.Decide.{ℕ-discrete, decLt}
+use native.Mathlib.Decide.{decLt}
 use native.Mathlib.Nat.{zero-add}
 use lib.ListN.{length}
 use borrow.Author.Tests.{le-leb, lt-leb}
@@ -21,9 +21,10 @@ use Rattle.model.proofs.Lengths.{Lengths}
 use Rattle.model.proofs.Counts.{append-fits, append-flushes}
 use Rattle.model.proofs.Ledger.Entry.{Entry, recordOf, pick, onDisk}
 use Rattle.model.proofs.Ledger.Order.{sizeOf, on}
-use Rattle.model.proofs.Link.Words.{Arrays, Link, lengths-perform}
-use Rattle.model.proofs.Link.Flush.{fill-flushed, end-flushed, arrays-flushed, start-flushed, tail-flushed-other, fill-flushed-other, flush-only, flush-link}
-use Rattle.model.proofs.Link.Buffered.{Small, Longer, InBuffer, after-flush, put-longer, put-in-buffer, put-link}
+use Rattle.model.proofs.Link.Words.{Arrays, Link, lengths-perform, arrays-flushed, below-eight}
+use Rattle.model.proofs.Link.Flush.{flush-only, flush-link}
+use Rattle.model.proofs.Link.Buffered.{InBuffer, after-flush, put-in-buffer, put-link}
+use Rattle.model.proofs.Growth.{fill-flushed, Small, Longer, append-longer, flush-longer}
 
 -- The two cases of an append.
 module _ (s : Sizes) (l : Logs) (memory : List ℕ) (d : ℕ) (words : List ℕ) where
@@ -39,43 +40,15 @@ module _ (s : Sizes) (l : Logs) (memory : List ℕ) (d : ℕ) (words : List ℕ)
   unfolding append
   append-is-flush h = rw (lt-leb _ _ h)
 
-pub small-flushed : {s : Sizes} {l : Logs} (d : ℕ) → Arrays s l → d < s .disks → Small s l → Small s (flushed l d)
-small-flushed {s} {l} d a below small e h = go (ℕ-discrete e d)
-  where
-    go : Dec (e ≡ d) → fillOf (flushed l d) e ≤ 64
-    go (yes same) = rw (same, fill-flushed s l d a below) (omega arith)
-    go (no ne) = rw (fill-flushed-other l d e ne) (small e h)
-
 -- In both cases the state and the memories change by the entry's words alone.
 module _ {s : Sizes} {l : Logs} (w : World) (a : Arrays s l) (small : Small s l) (d : ℕ) (below : d < s .disks) (r : Entry)
     (short : sizeOf r ≤ 64) where
   abbrev added : Appended
   added = append s l (w .work) d (encode (recordOf r))
 
-  flushed-longer : Longer s d (sizeOf r) l (withFill (flushed l d) d (sizeOf r))
+  pub entry-longer : Longer s d (sizeOf r) l (added .logs)
   unfolding sizeOf
-  flushed-longer =
-      let more =
-      put-longer s (flushed l d) (arrays-flushed s l d a below) (small-flushed d a below small) d below 0 (sizeOf r)
-      (encode (recordOf r)) (sym (fill-flushed s l d a below)) (sym (zero-add (sizeOf r))) short in
-      record {
-        start-same = λ e. more .start-same e ∙ start-flushed l d e;
-        tail-same = λ e ne. more .tail-same e ne ∙ tail-flushed-other l d e ne;
-        fill-same = λ e ne. more .fill-same e ne ∙ fill-flushed-other l d e ne;
-        end-longer = omega (arith, more .end-longer, end-flushed s l d a below);
-        small = more .small;
-        arrays = more .arrays;
-      }
-
-  pub append-longer : Longer s d (sizeOf r) l (added .logs)
-  unfolding sizeOf
-  append-longer = go (decLt 64 (fillOf l d + sizeOf r))
-    where
-      go : Dec (64 < fillOf l d + sizeOf r) → Longer s d (sizeOf r) l (added .logs)
-      go (yes over) = rw (append-is-flush s l (w .work) d (encode (recordOf r)) over) flushed-longer
-      go (no fits) =
-          rw (append-is-put s l (w .work) d (encode (recordOf r)) (omega arith))
-          (put-longer s l a small d below (fillOf l d) (fillOf l d + sizeOf r) (encode (recordOf r)) refl refl (omega arith))
+  entry-longer = append-longer s l d (a .sized) small (below-eight a below) (w .work) (encode (recordOf r)) short
 
   pub append-in-buffer : InBuffer s d w (perform (added .actions) w)
   unfolding sizeOf
@@ -122,8 +95,9 @@ module _ {s : Sizes} {l : Logs} {w : World} {F B : List Entry} (k : Link s l w F
     unfolding sizeOf
     append-full room =
         rw (append-is-flush s l (w .work) d (encode (recordOf r)) over, perform-append)
-        (put-link (flush-link k right a d below room) (lengths-perform (flush s l (w .work) d) right) (arrays-flushed s l d a below)
-        (small-flushed d a below small) d below r here 0 (sizeOf r) (sym (fill-flushed s l d a below)) (sym (zero-add (sizeOf r))) short)
+        (put-link (flush-link k right a d below room) (lengths-perform (flush s l (w .work) d) right) (arrays-flushed d a)
+        (flush-longer s l d (a .sized) small (below-eight a below) .small) d below r here 0 (sizeOf r)
+        (sym (fill-flushed l d (a .sized) (below-eight a below))) (sym (zero-add (sizeOf r))) short)
 
     pub full-stores : stores (appended .actions) ≡ stores (flush s l (w .work) d)
     unfolding sizeOf

@@ -4,8 +4,8 @@ use mathlib.Core.List.{List, [], _∷_, _++_, append-nil}
 use Prim.Native.Nat.{ℕ, _+_, _≤_, _<_}
 use native.Mathlib.Omega.{arith}
 use native.Mathlib.Decide.{ℕ-discrete, decLt}
-use lib.ListN.{length, getD, length-set, length-append}
-use lib.Seq.{sets, getD-set-same, getD-set-other}
+use lib.ListN.{length, getD, length-append}
+use lib.Seq.{sets}
 use Rattle.model.specs.declared.Sizes.{Sizes}
 use Rattle.model.specs.declared.Logs.{Logs}
 use Rattle.model.specs.Word.{part}
@@ -13,7 +13,7 @@ use Rattle.model.specs.Sizes.{total}
 use Rattle.model.specs.Record.{encode}
 use Rattle.model.specs.World.{World, work, perform}
 use Rattle.model.specs.Memory.{bufferAt, bufferOf, epochAt, workWords}
-use Rattle.model.specs.State.{startOf, tailOf, fillOf, endOf, withFill}
+use Rattle.model.specs.State.{startOf, tailOf, fillOf, withFill}
 use Rattle.model.specs.Causes.{tailOn}
 use Rattle.model.specs.Append.{buffered}
 use Rattle.model.proofs.Run.{perform-work}
@@ -23,20 +23,8 @@ use Rattle.model.proofs.Ledger.Entry.{Entry, recordOf}
 use Rattle.model.proofs.Ledger.Order.{sizeOf, wordsOf, on}
 use Rattle.model.proofs.Ledger.Lists.{on-more, on-less, words-append, words-first, words-none}
 use Rattle.model.proofs.Link.Words.{Arrays, Link}
-use Rattle.model.proofs.Link.Parts.{part-cong, getD-sets-before, getD-sets-behind, part-sets-before, part-sets-behind, part-sets-end}
-
--- every buffer has at most its 64 words
-abbrev pub Small : Sizes → Logs → Type 0
-Small s l = (e : ℕ) → e < s .disks → fillOf l e ≤ 64
-
--- The state's part after n words are appended on disk d.
-pub record Longer (s : Sizes) (d n : ℕ) (before after : Logs) : Type 0 where
-  pub start-same : (e : ℕ) → startOf after e ≡ startOf before e
-  pub tail-same : (e : ℕ) → (e ≡ d → ⊥) → tailOf after e ≡ tailOf before e
-  pub fill-same : (e : ℕ) → (e ≡ d → ⊥) → fillOf after e ≡ fillOf before e
-  pub end-longer : endOf after d ≡ endOf before d + n
-  pub small : Small s after
-  pub arrays : Arrays s after
+use Rattle.model.proofs.Parts.{part-cong, getD-sets-before, getD-sets-behind, part-sets-before, part-sets-behind, part-sets-end}
+use Rattle.model.proofs.Growth.{Small, fill-set, fill-set-other}
 
 -- Of the memories only the buffer of disk d is written; the anchor and the backups stay.
 pub record InBuffer (s : Sizes) (d : ℕ) (before after : World) : Type 0 where
@@ -67,55 +55,6 @@ after-flush only k =
       work-before = λ i h. k .work-before i h ∙ ap (λ (x : List ℕ). getD x i 0) (only .work-same);
       work-behind = λ i h. k .work-behind i h ∙ ap (λ (x : List ℕ). getD x i 0) (only .work-same);
     }
-
--- the fill set
-pub fill-set : (l : Logs) (d n : ℕ) → d < length (l .fills) → fillOf (withFill l d n) d ≡ n
-unfolding fillOf withFill
-fill-set l d n h = getD-set-same (l .fills) d n 0 h
-
-pub fill-set-other : (l : Logs) (d n e : ℕ) → (e ≡ d → ⊥) → fillOf (withFill l d n) e ≡ fillOf l e
-unfolding fillOf withFill
-fill-set-other l d n e ne = getD-set-other (l .fills) d e n 0 ne
-
--- Words put into the buffer behind the n words that it has; m is how many it has then.
-module _ (s : Sizes) (l : Logs) (a : Arrays s l) (small : Small s l) (d : ℕ) (below : d < s .disks)
-    (n m : ℕ) (words : List ℕ) (now : n ≡ fillOf l d) (next : m ≡ n + length words) (fits : m ≤ 64) where
-  fill-now : fillOf (withFill l d m) d ≡ m
-  fill-now = fill-set l d m (omega (arith, a .fills, a .disks))
-
-  put-small : Small s (withFill l d m)
-  put-small e h = go (ℕ-discrete e d)
-    where
-      go : Dec (e ≡ d) → fillOf (withFill l d m) e ≤ 64
-      go (yes same) = rw (same, fill-now) fits
-      go (no ne) = rw (fill-set-other l d m e ne) (small e h)
-
-  put-arrays : Arrays s (withFill l d m)
-  unfolding withFill
-  put-arrays =
-      record {
-        starts = a .starts;
-        tails = a .tails;
-        fills = length-set (l .fills) d m ∙ a .fills;
-        disks = a .disks;
-        ring = a .ring;
-      }
-
-  put-end : endOf (withFill l d m) d ≡ endOf l d + length words
-  unfolding endOf tailOf withFill
-  put-end = omega (arith, fill-now)
-
-  pub put-longer : Longer s d (length words) l (withFill l d m)
-  unfolding startOf tailOf withFill
-  put-longer =
-      record {
-        start-same = λ e. refl;
-        tail-same = λ e ne. refl;
-        fill-same = λ e ne. fill-set-other l d m e ne;
-        end-longer = put-end;
-        small = put-small;
-        arrays = put-arrays;
-      }
 
 pub put-in-buffer : (s : Sizes) (d : ℕ) (w : World) (n : ℕ) (words : List ℕ) → n + length words ≤ 64
     → InBuffer s d w (perform (buffered s d n words) w)
@@ -162,7 +101,7 @@ module _ {s : Sizes} {l : Logs} {w : World} {F B : List Entry} (k : Link s l w F
       go (no more) = part-sets-behind (bufferAt s e) (fillOf l e) (w .work) (bufferAt s d + n) words (omega (arith, ne))
 
   fill-here : fillOf (withFill l d m) d ≡ m
-  fill-here = fill-set l d m (omega (arith, a .fills, a .disks))
+  fill-here = fill-set l d m (omega (arith, a .sized .fills, a .disks))
 
   buffer-put : (e : ℕ) → e < s .disks → bufferOf s filled e (fillOf (withFill l d m) e) ≡ wordsOf (on e (B ++ r ∷ []))
   buffer-put e h = go (ℕ-discrete e d)

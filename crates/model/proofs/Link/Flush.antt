@@ -5,14 +5,13 @@ use mathlib.Core.Bool.{not}
 use Prim.Native.Nat.{ℕ, zero, suc, _+_, _-_, _≤_, _<_}
 use native.Mathlib.Omega.{arith}
 use native.Mathlib.Decide.{ℕ-discrete}
-use lib.ListN.{length, getD, take, length-take, length-set}
-use lib.Seq.{getD-set-same, getD-set-other}
+use lib.ListN.{length, getD, take, length-take}
 use borrow.Author.Tests.{le-leb}
 use Rattle.model.specs.declared.Sizes.{Sizes}
 use Rattle.model.specs.declared.Logs.{Logs}
 use Rattle.model.specs.Word.{part}
 use Rattle.model.specs.Sizes.{ringOf, diskAt, tailWord, ringWord}
-use Rattle.model.specs.World.{World, Action, store, logs, cost, act, perform, stores, covered, run, each}
+use Rattle.model.specs.World.{World, Action, store, logs, cost, perform, stores, covered, run, each}
 use Rattle.model.specs.Memory.{bufferOf}
 use Rattle.model.specs.State.{startOf, tailOf, fillOf, endOf, flushed}
 use Rattle.model.specs.Causes.{tailOn}
@@ -21,57 +20,12 @@ use Rattle.model.proofs.Run.{stores-append, stores-each}
 use Rattle.model.proofs.Lengths.{Lengths}
 use Rattle.model.proofs.Reader.{Holds, holds-agree}
 use Rattle.model.proofs.Ring.{disk-within, lay-keeps, lay-keeps-rings, lay-keeps-tails}
-use Rattle.model.proofs.Flush.{OnlyLogs, flush-only-logs, flush-keeps-rings, flush-keeps-tails, flush-tail, flush-holds}
+use Rattle.model.proofs.Flush.{OnlyLogs, flush-only-logs, flush-keeps-rings, flush-keeps-tails, flush-tail, flush-holds, lay-only}
 use Rattle.model.proofs.Ledger.Entry.{Entry, pick, onDisk}
 use Rattle.model.proofs.Ledger.Order.{wordsOf, on}
 use Rattle.model.proofs.Ledger.Lists.{on-flushed, on-emptied, on-other-flushed, on-other-kept, words-append, words-none, length-words-append}
-use Rattle.model.proofs.Link.Words.{Arrays, Link, ring-positive}
-
--- The state's part: the disk's tail moves to its end and its buffer is empty; the others stay.
-module _ (s : Sizes) (l : Logs) (d : ℕ) (a : Arrays s l) (below : d < s .disks) where
-  pub tail-flushed : tailOf (flushed l d) d ≡ endOf l d
-  unfolding tailOf flushed
-  tail-flushed = getD-set-same (l .tails) d (endOf l d) 0 (omega (arith, a .tails, a .disks))
-
-  pub fill-flushed : fillOf (flushed l d) d ≡ 0
-  unfolding fillOf flushed
-  fill-flushed = getD-set-same (l .fills) d 0 0 (omega (arith, a .fills, a .disks))
-
-  pub end-flushed : endOf (flushed l d) d ≡ endOf l d
-  unfolding endOf
-  end-flushed = omega (arith, tail-flushed, fill-flushed)
-
-  pub arrays-flushed : Arrays s (flushed l d)
-  unfolding flushed
-  arrays-flushed =
-      record {
-        starts = a .starts;
-        tails = length-set (l .tails) d (endOf l d) ∙ a .tails;
-        fills = length-set (l .fills) d 0 ∙ a .fills;
-        disks = a .disks;
-        ring = a .ring;
-      }
-
-pub start-flushed : (l : Logs) (d e : ℕ) → startOf (flushed l d) e ≡ startOf l e
-unfolding startOf flushed
-start-flushed l d e = refl
-
-pub tail-flushed-other : (l : Logs) (d e : ℕ) → (e ≡ d → ⊥) → tailOf (flushed l d) e ≡ tailOf l e
-unfolding tailOf flushed
-tail-flushed-other l d e ne = getD-set-other (l .tails) d e (endOf l d) 0 ne
-
-pub fill-flushed-other : (l : Logs) (d e : ℕ) → (e ≡ d → ⊥) → fillOf (flushed l d) e ≡ fillOf l e
-unfolding fillOf flushed
-fill-flushed-other l d e ne = getD-set-other (l .fills) d e 0 0 ne
-
--- every disk's end stays where it is
-pub ends-flushed : (s : Sizes) (l : Logs) (d : ℕ) → Arrays s l → d < s .disks → (e : ℕ) → endOf (flushed l d) e ≡ endOf l e
-unfolding endOf
-ends-flushed s l d a below e = go (ℕ-discrete e d)
-  where
-    go : Dec (e ≡ d) → tailOf (flushed l d) e + fillOf (flushed l d) e ≡ tailOf l e + fillOf l e
-    go (yes same) = rw same (end-flushed s l d a below)
-    go (no ne) = rw (tail-flushed-other l d e ne, fill-flushed-other l d e ne)
+use Rattle.model.proofs.Link.Words.{Arrays, Link, ring-positive, below-eight}
+use Rattle.model.proofs.Growth.{tail-flushed, fill-flushed, tail-flushed-other, fill-flushed-other}
 
 -- The words that a budget covers, of a run of stores with one store behind it.
 covered-then : (put : ℕ → ℕ → Action) (a : Action) → ((i x : ℕ) → cost (put i x) ≡ 1) → cost a ≡ 1 → (n i : ℕ) (xs : List ℕ)
@@ -97,14 +51,6 @@ run-store-all s d p (x ∷ xs) n w h =
       stores-append (each (storeLog s d) p (x ∷ xs)) (store logs (tailWord s d) (p + length (x ∷ xs)) ∷ []),
       stores-each (storeLog s d) (λ i y. refl) p (x ∷ xs),
     )))
-
--- words stored on the logs leave the other lists
-pub lay-only : (s : Sizes) (d p : ℕ) (xs : List ℕ) (w : World) → OnlyLogs w (perform (each (storeLog s d) p xs) w)
-unfolding perform each act
-lay-only s d p [] w = record { anchor-same = refl; pages-same = refl; backups-same = refl; work-same = refl }
-lay-only s d p (x ∷ xs) w =
-    let rest = lay-only s d (p + 1) xs (act (storeLog s d p x) w) in
-    record { anchor-same = rest .anchor-same; pages-same = rest .pages-same; backups-same = rest .backups-same; work-same = rest .work-same }
 
 -- whole or cut, a flush changes the logs alone
 module _ (s : Sizes) (l : Logs) (w : World) (d : ℕ) where
@@ -161,7 +107,7 @@ module _ {s : Sizes} {l : Logs} {w : World} {F B : List Entry} (k : Link s l w F
       go : Dec (e ≡ d) → tailOf (flushed l d) e ≡ startOf l e + length (wordsOf (on e (F ++ on d B)))
       go (yes same) =
           rw (same, on-flushed d F B)
-          (omega (arith, tail-flushed s l d a below, end-long, k .tail d below, length-words-append (on d F) (on d B)))
+          (omega (arith, tail-flushed l d (a .sized) (below-eight a below), end-long, k .tail d below, length-words-append (on d F) (on d B)))
       go (no ne) = rw (on-other-flushed d F B e ne) (tail-flushed-other l d e ne ∙ k .tail e h)
 
   stored-after : (e : ℕ) → e < s .disks → tailOn s after e ≡ tailOf (flushed l d) e
@@ -171,7 +117,7 @@ module _ {s : Sizes} {l : Logs} {w : World} {F B : List Entry} (k : Link s l w F
       go : Dec (e ≡ d) → getD (after .logs) (tailWord s e) 0 ≡ tailOf (flushed l d) e
       go (yes same) =
           rw same
-          (flush-tail s d (tailOf l d) (wordsOf (on d B)) w fits (k .stored d below) ∙ sym end-long ∙ sym (tail-flushed s l d a below))
+          (flush-tail s d (tailOf l d) (wordsOf (on d B)) w fits (k .stored d below) ∙ sym end-long ∙ sym (tail-flushed l d (a .sized) (below-eight a below)))
       go (no ne) =
           flush-keeps-tails s d (tailOf l d) (wordsOf (on d B)) w e ne (ring-positive s d (a .ring))
           ∙ k .stored e h ∙ sym (tail-flushed-other l d e ne)
@@ -182,14 +128,14 @@ module _ {s : Sizes} {l : Logs} {w : World} {F B : List Entry} (k : Link s l w F
   buffer-after e h = go (ℕ-discrete e d)
     where
       go : Dec (e ≡ d) → bufferOf s (w .work) e (fillOf (flushed l d) e) ≡ wordsOf (on e (pick (λ r. not (onDisk d r)) B))
-      go (yes same) = rw (same, fill-flushed s l d a below, on-emptied d F B) (sym words-none)
+      go (yes same) = rw (same, fill-flushed l d (a .sized) (below-eight a below), on-emptied d F B) (sym words-none)
       go (no ne) = rw (on-other-kept d F B e ne, fill-flushed-other l d e ne) (k .buffer e h)
 
   fill-after : (e : ℕ) → e < s .disks → fillOf (flushed l d) e ≡ length (wordsOf (on e (pick (λ r. not (onDisk d r)) B)))
   fill-after e h = go (ℕ-discrete e d)
     where
       go : Dec (e ≡ d) → fillOf (flushed l d) e ≡ length (wordsOf (on e (pick (λ r. not (onDisk d r)) B)))
-      go (yes same) = rw (same, fill-flushed s l d a below, on-emptied d F B, words-none)
+      go (yes same) = rw (same, fill-flushed l d (a .sized) (below-eight a below), on-emptied d F B, words-none)
       go (no ne) = rw (on-other-kept d F B e ne, fill-flushed-other l d e ne) (k .fill e h)
 
   -- the buffered entries of the disk are flushed ones after it

@@ -1,7 +1,7 @@
 -- The link of words and records: the ring of each disk holds the words of its flushed records, and its buffer those of the
 -- buffered ones. So the retained log of a disk reads as its flushed records, and as no others.
 use mathlib.Core.Path.{_≡_, refl, sym, ap₂, _∙_}
-use mathlib.Core.List.{List, [], _∷_, map}
+use mathlib.Core.List.{List, [], _∷_, map, _++_}
 use mathlib.Core.Bool.{false}
 use Prim.Native.Nat.{ℕ, _+_, _-_, _≤_, _<_}
 use native.Mathlib.Omega.{arith}
@@ -15,7 +15,7 @@ use Rattle.model.specs.Decode.{readLog}
 use Rattle.model.specs.Scan.{Scan, item, scan, placed}
 use Rattle.model.specs.World.{World, Action, perform, covered, run}
 use Rattle.model.specs.Memory.{bufferOf}
-use Rattle.model.specs.State.{startOf, tailOf, fillOf}
+use Rattle.model.specs.State.{startOf, tailOf, fillOf, flushed, endOf}
 use Rattle.model.specs.Causes.{tailOn, retained as retainedScan}
 use Rattle.model.specs.Image.{retainedWords, imageOf, logOf}
 use Rattle.model.proofs.Below.{getD-list}
@@ -26,6 +26,8 @@ use Rattle.model.proofs.RoundTrip.{WellFormed, AllWellFormed, scan-plac
 use Rattle.model.proofs.Ledger.Entry.{Entry, isClose, recordOf, All}
 use Rattle.model.proofs.Ledger.Order.{sizeOf, wordsOf, on, Laid, entriesScan}
 use Rattle.model.proofs.Ledger.Picks.{all-pick}
+use Rattle.model.proofs.Growth.{SizedLogs, Longer, sized-flushed}
+use Rattle.model.proofs.Ledger.Lists.{length-words-append}
 
 -- An entry that a writer may put: its record has its page's slot and width, and a change adds at its slot's first word.
 pub record Fit (s : Sizes) (r : Entry) : Type 0 where
@@ -34,11 +36,18 @@ pub record Fit (s : Sizes) (r : Entry) : Type 0 where
 
 -- The arrays of the state have a place for each disk, and the rings have words.
 pub record Arrays (s : Sizes) (l : Logs) : Type 0 where
-  pub starts : length (l .starts) ≡ 8
-  pub tails : length (l .tails) ≡ 8
-  pub fills : length (l .fills) ≡ 8
+  pub sized : SizedLogs l
   pub disks : s .disks ≤ 8
   pub ring : 0 < s .ring
+
+pub below-eight : {s : Sizes} {l : Logs} {d : ℕ} → Arrays s l → d < s .disks → d < 8
+below-eight a h = omega (arith, a .disks)
+
+pub arrays-flushed : {s : Sizes} {l : Logs} (d : ℕ) → Arrays s l → Arrays s (flushed l d)
+arrays-flushed {l = l} d a = record { sized = sized-flushed l d (a .sized); disks = a .disks; ring = a .ring }
+
+pub arrays-longer : {s : Sizes} {d n : ℕ} {l m : Logs} → Arrays s l → Longer s d n l m → Arrays s m
+arrays-longer a more = record { sized = more .sized; disks = a .disks; ring = a .ring }
 
 -- F are the flushed entries, B the buffered ones.
 pub record Link (s : Sizes) (l : Logs) (w : World) (F B : List Entry) : Type 0 where
@@ -47,6 +56,12 @@ pub record Link (s : Sizes) (l : Logs) (w : World) (F B : List Entry) : Type 0 w
   pub stored : (d : ℕ) → d < s .disks → tailOn s w d ≡ tailOf l d
   pub buffer : (d : ℕ) → d < s .disks → bufferOf s (w .work) d (fillOf l d) ≡ wordsOf (on d B)
   pub fill : (d : ℕ) → d < s .disks → fillOf l d ≡ length (wordsOf (on d B))
+
+-- the end of a disk's log is the end of its entries
+pub log-end : {s : Sizes} {l : Logs} {w : World} {F B : List Entry} → Link s l w F B → (d : ℕ) → d < s .disks
+    → endOf l d ≡ startOf l d + length (wordsOf (on d F ++ on d B))
+unfolding endOf
+log-end {F = F} {B = B} k d below = omega (arith, k .tail d below, k .fill d below, length-words-append (on d F) (on d B))
 
 -- actions keep the lengths that the sizes give
 pub lengths-perform : {s : Sizes} {w : World} (l : List Action) → Lengths s w → Lengths s (perform l w)

@@ -7,8 +7,8 @@ use native.Mathlib.Omega.{arith}
 use native.Mathlib.Nat.{zero-mul, one-mul}
 use native.Mathlib.Decide.{ℕ-discrete}
 use lib.Dec.{leb}
-use lib.ListN.{length, take, drop, set}
-use lib.Seq.{getD-set-other, drop-set-lt, drop-set-add, take-set-le}
+use lib.ListN.{length, take, set}
+use lib.Seq.{getD-set-other, drop-set-lt}
 use Rattle.model.specs.declared.Sizes.{Sizes}
 use Rattle.model.specs.Below.{joinBelow, listBelow}
 use Rattle.model.specs.Word.{part}
@@ -20,6 +20,7 @@ use Rattle.model.specs.Image.{retainedWords, imageOf}
 use Rattle.model.proofs.Ledger.Entry.{All}
 use Rattle.model.proofs.Run.{SameLengths, act-lengths, same-lengths-trans}
 use Rattle.model.proofs.Restart.Image.{image-same, SameDevices}
+use Rattle.model.proofs.Parts.{part-set-behind}
 
 -- Where c is the current checkpoint: an action that writes memory, or stores in the row or the backup of checkpoint c + 1.
 abbrev pub Aside : Sizes → ℕ → Action → Type 0
@@ -33,14 +34,6 @@ part-set-before : (at n i v : ℕ) (l : List ℕ) → i < at → part at n (set 
 unfolding part
 part-set-before at n i v l h = ap (take n) (drop-set-lt at l i v h)
 
-part-set-after : (at n i v : ℕ) (l : List ℕ) → at + n ≤ i → part at n (set l i v) ≡ part at n l
-unfolding part
-part-set-after at n i v l h =
-    let e : i ≡ at + (i - at) = omega arith in
-    ap (λ (j : ℕ). take n (drop at (set l j v))) e
-    ∙ ap (take n) (drop-set-add at l (i - at) v)
-    ∙ take-set-le n (drop at l) (i - at) v (omega arith)
-
 -- the two backups lie apart
 other-backup : (s : Sizes) (c i v : ℕ) (l : List ℕ) → backupAt s (c + 1) ≤ i → i < backupAt s (c + 1) + total s
     → part (backupAt s c) (total s) (set l i v) ≡ part (backupAt s c) (total s) l
@@ -53,7 +46,7 @@ other-backup s c i v l h k = go (ℕ-discrete (c % 2) 0)
         let low = zero-mul (total s) in
         let high = one-mul (total s) in
         let from = rw f at h in
-        rw e (part-set-after (0 * total s) (total s) i v l (omega arith))
+        rw e (part-set-behind (0 * total s) (total s) l i v (omega arith))
     go (no e) =
         let f : (c + 1) % 2 ≡ 0 = omega arith in
         let g : c % 2 ≡ 1 = omega arith in
@@ -71,8 +64,8 @@ module _ (a : List ℕ) (i v : ℕ) (h : 132 ≤ i) where
         getD-set-other a i 0 v 0 (omega arith),
         getD-set-other a i 1 v 0 (omega arith),
         getD-set-other a i 2 v 0 (omega arith),
-        part-set-after 4 64 i v a (omega arith),
-        part-set-after 68 64 i v a (omega arith),
+        part-set-behind 4 64 a i v (omega arith),
+        part-set-behind 68 64 a i v (omega arith),
       )
 
   epoch-kept : epochOn (set a i v) ≡ epochOn a

@@ -18,18 +18,14 @@ use Rattle.model.specs.Restart.{positionOf, withReplay, readDisk, backup
 use Rattle.model.specs.Image.{retainedWords, imageOf, xorAt, restarted}
 use Rattle.model.proofs.Ledger.Entry.{mask, spanning, share}
 use Rattle.model.proofs.Xor.{xor, ⊕-zero-l, ⊕-zero-r}
-use Rattle.model.proofs.Below.{sum-step}
-use Rattle.model.proofs.Restart.Words.{spanning-in, spanning-before, spanning-after, length-part, getD-part, length-xor-at, xor-at-word, withPages, perform-xor}
-use Rattle.model.proofs.Restart.Gain.{page-within}
+use Rattle.model.proofs.Restart.Words.{length-xor-at, xor-at-word, withPages, perform-xor}
 use Rattle.model.proofs.Restart.Image.{backup-within}
 use Rattle.model.proofs.Restart.Progress.{logLeft, backupLeft, logsLeft, Progress}
+use Rattle.model.proofs.Geometry.{page-end, page-base-step}
+use Rattle.model.proofs.Parts.{length-part, getD-part, spanning-in, spanning-before, spanning-after}
 
 regroup : (p v b g : ℕ) → (p ⊕ v) ⊕ (b ⊕ g) ≡ p ⊕ ((v ⊕ b) ⊕ g)
 regroup p v b g = simp xor
-
-page-base-next : (s : Sizes) (page : ℕ) → pageBase s (page + 1) ≡ pageBase s page + pageWords s page
-unfolding pageBase
-page-base-next s page = sum-step (pageWords s) page
 
 -- what stands from `base` on is a difference there of n words, and what stands from base + n on
 from-base : (base n x v : ℕ) (diff : List ℕ) → length diff ≡ n → (base ≤ x → x < base + n → getD diff (x - base) 0 ≡ v)
@@ -49,21 +45,21 @@ from-base base n x v diff long here = rw long (go (decLt x base) (decLt x (base 
 -- the words of a backup from a page on are the page's and those from the next page on
 module _ (s : Sizes) (at page : ℕ) (backups : List ℕ) (h : page < s .pages) (fits : at + total s ≤ length backups) where
   page-length : length (part (at + pageBase s page) (pageWords s page) backups) ≡ pageWords s page
-  page-length = length-part (at + pageBase s page) (pageWords s page) backups (omega (arith, page-within s page h))
+  page-length = length-part (at + pageBase s page) (pageWords s page) backups (omega (arith, page-end s page h))
 
   page-word : (x : ℕ) → pageBase s page ≤ x → x < pageBase s page + pageWords s page
       → getD (part (at + pageBase s page) (pageWords s page) backups) (x - pageBase s page) 0 ≡ getD (part at (total s) backups) x 0
   page-word x l m =
       getD-part (at + pageBase s page) (pageWords s page) backups (x - pageBase s page) (omega arith)
       ∙ ap (λ (i : ℕ). getD backups i 0) (omega arith)
-      ∙ sym (getD-part at (total s) backups x (omega (arith, page-within s page h)))
+      ∙ sym (getD-part at (total s) backups x (omega (arith, page-end s page h)))
 
   page-less : (x : ℕ)
       → mask (leb (pageBase s page) x) (getD (part at (total s) backups) x 0)
       ≡ share (pageBase s page) (part (at + pageBase s page) (pageWords s page) backups) x
       ⊕ mask (leb (pageBase s (page + 1)) x) (getD (part at (total s) backups) x 0)
   page-less x =
-      rw (page-base-next s page)
+      rw (page-base-step s page)
       (from-base (pageBase s page) (pageWords s page) x (getD (part at (total s) backups) x 0)
       (part (at + pageBase s page) (pageWords s page) backups) page-length (page-word x))
 
@@ -90,7 +86,7 @@ module _ (c : Core) (w : World) (m : Progress c w) (h : c .replay .page < c .siz
   inside : base + length diff ≤ length (w .pages)
   unfolding base diff
   inside =
-      omega (arith, page-within (c .sizes) (c .replay .page) h, m .lengths .pages, page-length (c .sizes) (backupAt (c .sizes) (c .epoch)) (c .replay .page) (w .backups) h fits)
+      omega (arith, page-end (c .sizes) (c .replay .page) h, m .lengths .pages, page-length (c .sizes) (backupAt (c .sizes) (c .epoch)) (c .replay .page) (w .backups) h fits)
 
   backup-words : (x : ℕ) → x < total (c .sizes)
       → getD (xorAt base diff (w .pages)) x 0 ⊕ (backupLeft (backupStep c w .core) w x ⊕ logsLeft c w x) ≡ getD (restarted (imageOf w)) x 0

@@ -7,21 +7,12 @@ use lib.Dec.{eqb}
 use borrow.Author.Tests.{eqb-true, eqb-false, eq-eqb, ne-eqb}
 use Rattle.model.specs.declared.Sizes.{Sizes}
 use Rattle.model.specs.Word.{_⊕_}
-use Rattle.model.proofs.Ledger.Entry.{Entry, isClose, mask, sum, All, pick, adds, closedIn, chosen, onDisk}
+use Rattle.model.proofs.Ledger.Entry.{Entry, mask, sum, All, pick, adds, closedIn, chosen, onDisk}
 use Rattle.model.proofs.Restart.Words.{xorBelow, xor-below-cong, xor-below-none, xor-below-less}
 use Rattle.model.proofs.Restart.Gain.{gain}
 use Rattle.model.proofs.Restart.Entries.{Placed, ClosesLast, Agrees, closed-cons, closed-other, gain-entries}
 use Rattle.model.proofs.Ledger.Order.{entriesScan}
-
--- what holds of all entries holds of those picked
-all-pick : (P : Entry → Type 0) (p : Entry → Bool) (l : List Entry) → All P l → All P (pick p l)
-unfolding pick
-all-pick P p [] h = tt
-all-pick P p (r ∷ l) h = go (p r) (all-pick P p l (h .1))
-  where
-    go : (b : Bool) → All P (pick p l) → All P (cond b (r ∷ pick p l) (pick p l))
-    go true rest = (h .0, rest)
-    go false rest = rest
+use Rattle.model.proofs.Ledger.Picks.{all-pick}
 
 closes-last-pick : (p : Entry → Bool) (l : List Entry) → ClosesLast l → ClosesLast (pick p l)
 unfolding pick

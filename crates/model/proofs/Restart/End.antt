@@ -1,7 +1,6 @@
 -- A restart makes the pages of the image that it began on, and so the order of its steps does not matter.
 use mathlib.Core.Path.{_≡_, refl, sym, ap, _∙_}
 use mathlib.Core.List.{List, [], _∷_, _++_}
-use mathlib.Core.Bool.{not}
 use Prim.Native.Nat.{ℕ, zero, suc, _+_, _≤_, _<_}
 use native.Mathlib.Omega.{arith}
 use lib.Dec.{eqb}
@@ -29,9 +28,10 @@ use Rattle.model.proofs.Run.{perform-append}
 use Rattle.model.proofs.Restart.Words.{xor-below-none}
 use Rattle.model.proofs.Restart.Gain.{gain, length-restarted}
 use Rattle.model.proofs.Restart.Image.{SameDevices, devices-trans, image-devices}
-use Rattle.model.proofs.Restart.Taken.{accepted-row, Taken, taken-call, taken-or-left}
+use Rattle.model.proofs.Restart.Taken.{Taken, taken-call, taken-or-left}
 use Rattle.model.proofs.Restart.Progress.{logLeft, backupLeft, logsLeft, Progress, begin-progress}
 use Rattle.model.proofs.Restart.Steps.{remaining-log, remaining-backup, step-progress}
+use Rattle.model.proofs.Verdict.{row-passed}
 
 -- At the end nothing is left: the pages are the image's.
 module _ (c : Core) (w : World) (m : Progress c w) (none : (i : ℕ) → i < c .sizes .disks + 1 → remaining c i ≡ 0) where
@@ -110,10 +110,10 @@ end-keeps c w =
 end-none : (c : Core) (w : World) (budget : ℕ) → Taken (restartEnd budget) c w → (i : ℕ) → i < c .sizes .disks + 1 → remaining c i ≡ 0
 unfolding restartEndRows
 end-none c w budget t i h =
-    let a = accepted-row _ _ (t .accepted) .1 in
-    let b = accepted-row _ _ a .1 in
-    let d = accepted-row _ _ b .1 in
-    let f = accepted-row _ _ d .0 in
+    let a = row-passed _ _ (t .accepted) .1 in
+    let b = row-passed _ _ a .1 in
+    let d = row-passed _ _ b .1 in
+    let f = row-passed _ _ d .0 in
     eqb-true _ _ (all-each (λ i. eqb (remaining c i) 0) (c .sizes .disks + 1) (not-false _ f) i h)
 
 -- A restart end that is taken leaves the pages, and they are those that the image makes.

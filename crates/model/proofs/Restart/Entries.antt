@@ -1,7 +1,7 @@
 -- The records of a ledger as a log: their gain is the sum that the ledger's invariant speaks of.
 use mathlib.Core.Path.{_≡_, refl, sym, ap, _∙_}
 use mathlib.Core.List.{List, [], _∷_}
-use mathlib.Core.Bool.{Bool, true, false, cond, not, _&&_, _||_}
+use mathlib.Core.Bool.{Bool, true, false, cond, not, _&&_, _||_, Bool·not-not}
 use Prim.Native.Nat.{ℕ}
 use lib.Dec.{leb, ltb, eqb}
 use borrow.Author.Tests.{leb-true, leb-false, lt-ltb, le-ltb, ne-eqb}
@@ -10,7 +10,7 @@ use Rattle.model.specs.declared.Fate.the-variants.{Closed, Unclosed}
 use Rattle.model.specs.Word.{_⊕_}
 use Rattle.model.specs.Sizes.{slotBase}
 use Rattle.model.specs.Record.{change, close, inBackup}
-use Rattle.model.specs.Scan.{Scan, end, item, fateIn}
+use Rattle.model.specs.Scan.{item, fateIn}
 use Rattle.model.specs.Restart.{replays}
 use Rattle.model.proofs.Ledger.Entry.{Entry, isClose, recordOf, mask, sum, some, All, adds, closedIn, chosen}
 use Rattle.model.proofs.Ledger.Order.{entriesScan}
@@ -80,11 +80,7 @@ in-backup-not c epoch = go (leb c epoch) refl
     go false e = lt-ltb epoch c (leb-false c epoch e)
 
 replays-choice : (c epoch : ℕ) (b : Bool) → replays c (cond b Closed Unclosed) epoch ≡ cond b (leb c epoch) (not (leb c epoch))
-replays-choice c epoch true = rw (in-backup-not c epoch) (twice (leb c epoch))
-  where
-    twice : (b : Bool) → not (not b) ≡ b
-    twice true = refl
-    twice false = refl
+replays-choice c epoch true = rw (in-backup-not c epoch) (Bool·not-not (leb c epoch))
 replays-choice c epoch false = in-backup-not c epoch
 
 -- what the test says of the later records' transactions does not hang on the first record

@@ -2,16 +2,15 @@
 use mathlib.Core.Path.{_≡_, refl, sym, ap, _∙_}
 use mathlib.Core.List.{List}
 use mathlib.Core.Bool.{Bool, true, false, cond}
-use Prim.Native.Nat.{ℕ, zero, suc, _+_, _-_, _*_, _≤_, _<_}
+use Prim.Native.Nat.{ℕ, zero, suc, _+_, _-_, _≤_, _<_}
 use native.Mathlib.Omega.{arith}
 use native.Mathlib.Decide.{decLt}
-use native.Mathlib.Nat.{mul-le-mul-right, add-mul, one-mul}
 use lib.ListN.{length, getD}
 use Rattle.model.specs.declared.Sizes.{Sizes}
 use Rattle.model.specs.declared.Decoded.{Decoded}
 use Rattle.model.specs.declared.Decoded.the-variants.{Change, Close, Malformed}
 use Rattle.model.specs.Word.{_⊕_}
-use Rattle.model.specs.Sizes.{slotsIn, widthIn, pageWords, pageBase, slotBase, total}
+use Rattle.model.specs.Sizes.{slotBase, total}
 use Rattle.model.specs.Record.{change, close}
 use Rattle.model.specs.Decode.{span, decodeAt}
 use Rattle.model.specs.Scan.{Scan, end, bad, item, scanned, scan, fateIn}
@@ -19,10 +18,10 @@ use Rattle.model.specs.Restart.{replays}
 use Rattle.model.specs.Image.{Image, xorAt, replayed, logOf, replayedBelow, restarted}
 use Rattle.model.proofs.Ledger.Entry.{mask, share}
 use Rattle.model.proofs.Xor.{⊕-assoc, ⊕-comm, ⊕-zero-r}
-use Rattle.model.proofs.Below.{sum-term}
 use Rattle.model.proofs.Decode.{Found, found}
 use Rattle.model.proofs.Scan.{scan-end, scan-step}
 use Rattle.model.proofs.Restart.Words.{xorBelow, length-xor-at, xor-at-word}
+use Rattle.model.proofs.Geometry.{slot-end-total}
 
 -- what the replayed records of a log add to word x
 unfoldable pub gain : Sizes → ℕ → Scan → ℕ → ℕ
@@ -43,18 +42,6 @@ Fitting s (bad p) = Unit {0}
 Fitting s (item p (close kind number) rest) = Fitting s rest
 Fitting s (item p (change kind page slot number epoch diff) rest) = (slotBase s page slot + length diff ≤ total s) × Fitting s rest
 
--- a page, and a slot of it, lie within the pages
-pub page-within : (s : Sizes) (page : ℕ) → page < s .pages → pageBase s page + pageWords s page ≤ total s
-unfolding pageBase total
-page-within s page h = sum-term (pageWords s) (s .pages) page h
-
-pub slot-within : (s : Sizes) (page slot : ℕ) → page < s .pages → slot < slotsIn s page
-    → slotBase s page slot + widthIn s page ≤ total s
-unfolding slotBase pageWords
-slot-within s page slot h l =
-    let e : (slot + 1) * widthIn s page ≤ slotsIn s page * widthIn s page = mul-le-mul-right (widthIn s page) (omega arith) in
-    omega (arith, page-within s page h, rw (add-mul, one-mul) at e)
-
 pub length-span : (read : ℕ → ℕ) (p n : ℕ) → length (span read p n) ≡ n
 unfolding span
 length-span read p zero = refl
@@ -68,7 +55,7 @@ module _ (s : Sizes) (read : ℕ → ℕ) (stop : ℕ) where
       (fit, fits next (omega arith))
     where
       fit : slotBase s page slot + length (span read (p + 3) width) ≤ total s
-      fit = omega (arith, length-span read (p + 3) width, slot-within s page slot (f .page-in) (f .slot-in))
+      fit = omega (arith, length-span read (p + 3) width, slot-end-total s page slot (f .page-in) (f .slot-in))
   decoded-fitting p (Close kind number next) f rest fits = fits next (omega arith)
   decoded-fitting p Malformed f rest fits = tt
 

@@ -7,23 +7,24 @@ use native.Mathlib.Omega.{arith}
 use native.Mathlib.Nat.{mul-le-mul-right, one-mul, add-zero}
 use lib.Dec.{leb, eqb}
 use lib.ListN.{length, getD}
-use borrow.Author.Tests.{eqb-true, leb-true}
+use borrow.Author.Tests.{leb-true}
 use Rattle.model.specs.declared.Sizes.{Sizes}
 use Rattle.model.specs.Below.{within, allBelow}
 use Rattle.model.specs.Word.{_⊕_, part}
-use Rattle.model.specs.Sizes.{total, logWords, entryInBounds, sizesInBounds}
+use Rattle.model.specs.Sizes.{total, entryInBounds, sizesInBounds}
 use Rattle.model.specs.Anchor.{epochOn, sizesOn, startOn, backupAt}
 use Rattle.model.specs.Decode.{readLog, span}
 use Rattle.model.specs.Scan.{Scan, scan}
 use Rattle.model.specs.World.{World, anchor, backups, logs, pages, work, Action, store, write, cost, act, perform, stores}
-use Rattle.model.specs.Memory.{workWords, lengthsRight}
+use Rattle.model.specs.Memory.{lengthsRight}
 use Rattle.model.specs.Causes.{tailOn, retained}
 use Rattle.model.specs.Image.{retainedWords, imageOf, logOf, restarted}
 use Rattle.model.proofs.Below.{list-cong, getD-list}
 use Rattle.model.proofs.Lengths.{lengths-right}
 use Rattle.model.proofs.Scan.{scan-cong}
-use Rattle.model.proofs.Restart.Words.{length-part, xorBelow, xor-below-cong}
+use Rattle.model.proofs.Restart.Words.{xorBelow, xor-below-cong}
 use Rattle.model.proofs.Restart.Gain.{gain, gains, length-span, restarted-word}
+use Rattle.model.proofs.Parts.{length-part}
 
 pub disks-le : (s : Sizes) → sizesInBounds s ≡ true → s .disks ≤ 8
 unfolding sizesInBounds within

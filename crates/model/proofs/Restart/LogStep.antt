@@ -1,7 +1,7 @@
 -- A restart step from a log keeps the progress: the record that it takes adds to the pages what the rest of the log has less.
 use mathlib.Core.Path.{_≡_, refl, sym, ap, _∙_}
 use mathlib.Core.List.{List, []}
-use mathlib.Core.Bool.{Bool, true, false, cond, not}
+use mathlib.Core.Bool.{Bool, true, false, cond}
 use Prim.Native.Nat.{ℕ, _+_, _≤_, _<_}
 use native.Mathlib.Omega.{arith}
 use native.Mathlib.Decide.{ℕ-discrete}
@@ -27,8 +27,9 @@ use Rattle.model.proofs.Decode.{found-change, found-close}
 use Rattle.model.proofs.Reading.{ending}
 use Rattle.model.proofs.Scan.{scan-change, scan-close}
 use Rattle.model.proofs.Restart.Words.{withPages, perform-xor, xor-below-less}
-use Rattle.model.proofs.Restart.Gain.{gain, slot-within, length-span, choice-length, choice-word}
+use Rattle.model.proofs.Restart.Gain.{gain, length-span, choice-length, choice-word}
 use Rattle.model.proofs.Restart.Progress.{logLeft, backupLeft, logsLeft, Progress}
+use Rattle.model.proofs.Geometry.{slot-end-total}
 
 -- the words stay right where a step adds `v` to a word and what is to come has `v` less
 log-regroup : (p v b g : ℕ) → (p ⊕ v) ⊕ (b ⊕ g) ≡ p ⊕ (b ⊕ (v ⊕ g))
@@ -157,7 +158,7 @@ module _ (c : Core) (w : World) (m : Progress c w) (d : ℕ) (h : d < c .sizes .
       let diff : List ℕ = span (readDisk c w d) (positionOf c d + 3) width in
       let b : Bool = replays (c .epoch) (fateIn number (scan s (readDisk c w d) (tailOf (c .logs) d) next)) epoch in
       let f = found-change s (readDisk c w d) (tailOf (c .logs) d) e in
-      let fits = slot-within s page slot (f .page-in) (f .slot-in) in
+      let fits = slot-end-total s page slot (f .page-in) (f .slot-in) in
       let wide = length-span (readDisk c w d) (positionOf c d + 3) width in
       rw (choose at diff b)
       (moved c w m d next h (omega (arith, f .next-eq)) (f .next-le) (cond b (xorAt at diff (w .pages)) (w .pages))

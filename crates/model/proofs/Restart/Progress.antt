@@ -1,18 +1,16 @@
 -- A restart under way: the pages so far and what the steps to come add make the image's pages. It holds after restart begin.
 use mathlib.Core.Path.{_≡_, refl, sym, ap, _∙_}
 use mathlib.Core.List.{List, []}
-use mathlib.Core.Bool.{true, false, true≢false, cond}
+use mathlib.Core.Bool.{true, false}
 use Prim.Native.Nat.{ℕ, _-_, _≤_, _<_}
 use native.Mathlib.Omega.{arith}
 use lib.Dec.{leb, ltb, leb·zero}
 use lib.ListN.{length, getD, replicate, length-replicate, getD-replicate}
 use lib.Seq.{sets, length-sets}
-use borrow.Author.Tests.{lt-ltb, ltb-false, not-false}
+use borrow.Author.Tests.{ltb-false, not-false}
 use Rattle.model.specs.declared.Stage.the-variants.{Replaying}
 use Rattle.model.specs.declared.Sizes.{Sizes}
 use Rattle.model.specs.declared.Core.{Core}
-use Rattle.model.specs.declared.Fault.{Fault}
-use Rattle.model.specs.declared.Fault.the-variants.{Sound, BadRecord}
 use Rattle.model.specs.Below.{sumBelow}
 use Rattle.model.specs.Word.{_⊕_}
 use Rattle.model.specs.Sizes.{pageBase, total, sizesInBounds}
@@ -22,25 +20,27 @@ use Rattle.model.specs.Scan.{Scan, end, scan}
 use Rattle.model.specs.World.{World, perform, pages}
 use Rattle.model.specs.Memory.{lengthsRight}
 use Rattle.model.specs.State.{startOf, tailOf}
-use Rattle.model.specs.Causes.{sizesWrong, lengthsWrong, tailOn, tailWrong, wrongTail, retained, faultRow}
-use Rattle.model.specs.Checkpoint.{perDisk}
+use Rattle.model.specs.Causes.{sizesWrong, lengthsWrong, tailOn, tailWrong, wrongTail, retained}
 use Rattle.model.specs.Restart.{positionOf, readDisk, imageRows, restartBeginRows, restartBeginTask}
 use Rattle.model.specs.Reference.{taken, outcomeOf}
 use Rattle.model.specs.Call.{restartBegin, resultOf}
 use Rattle.model.specs.Image.{retainedWords, imageOf, logOf, restarted}
 use Rattle.model.proofs.Ledger.Entry.{mask}
 use Rattle.model.proofs.Xor.{⊕-zero-l}
-use Rattle.model.proofs.Below.{first-before, getD-list, length-list}
-use Rattle.model.proofs.Decode.{or-false}
+use Rattle.model.proofs.Below.{first-before}
 use Rattle.model.proofs.Reading.{ending}
-use Rattle.model.proofs.Faults.{fault-none}
+use Rattle.model.proofs.Faults.{fault-none, no-fault}
 use Rattle.model.proofs.Run.{perform-pages}
 use Rattle.model.proofs.Storeless.{nothing-stored}
-use Rattle.model.proofs.Restart.Words.{sets-in, withPages, xorBelow, xor-below-cong}
+use Rattle.model.proofs.Restart.Words.{withPages, xorBelow, xor-below-cong}
 use Rattle.model.proofs.Restart.Gain.{gain, gains, restarted-word}
 use Rattle.model.proofs.Lengths.{Lengths, lengths-right as lengths}
 use Rattle.model.proofs.Restart.Image.{disks-le, length-backup, image-log, SameDevices, memory-devices}
-use Rattle.model.proofs.Restart.Taken.{accepted-row, Taken, taken-call}
+use Rattle.model.proofs.Restart.Taken.{Taken, taken-call}
+use Rattle.model.proofs.Booleans.{or-none}
+use Rattle.model.proofs.Parts.{getD-sets-in}
+use Rattle.model.proofs.Verdict.{row-passed}
+use Rattle.model.proofs.Meaning.{getD-per-disk, length-per-disk}
 
 -- the rest of a disk's log: from the next position up to the tail
 unfoldable pub logLeft : Core → World → ℕ → Scan
@@ -73,16 +73,6 @@ pub record Progress (c : Core) (w : World) : Type 0 where
   pub words : (x : ℕ) → x < total (c .sizes)
       → getD (w .pages) x 0 ⊕ (backupLeft c w x ⊕ logsLeft c w x) ≡ getD (restarted (imageOf w)) x 0
 
--- a number kept for each disk
-pub getD-per-disk : (s : Sizes) (f : ℕ → ℕ) (d : ℕ) → s .disks ≤ 8 → d < s .disks → getD (perDisk s f) d 0 ≡ f d
-unfolding perDisk
-getD-per-disk s f d h l =
-    getD-list (λ d. cond (ltb d (s .disks)) (f d) 0) 8 d 0 (omega arith) ∙ rw (lt-ltb d (s .disks) l)
-
-pub length-per-disk : (s : Sizes) (f : ℕ → ℕ) → length (perDisk s f) ≡ 8
-unfolding perDisk
-length-per-disk s f = length-list (λ d. cond (ltb d (s .disks)) (f d) 0) 8
-
 -- What an accepted restart begin found.
 pub record Checked (w : World) : Type 0 where
   pub bounds : sizesInBounds (sizesOn (w .anchor)) ≡ true
@@ -95,25 +85,20 @@ tail-right : (s : Sizes) (w : World) → ltb (wrongTail s w) (s .disks) ≡ fals
 unfolding wrongTail tailWrong
 tail-right s w e d h =
     let a = first-before (tailWrong s w) (s .disks) d (omega (arith, ltb-false (wrongTail s w) (s .disks) e)) in
-    let b = or-false _ _ a in
-    ltb-false _ _ (or-false _ _ (b .0) .0)
-
--- row 7 applies to every fault
-sound-row : (f : Fault) → faultRow f .applies ≡ false → f ≡ Sound
-sound-row Sound e = refl
-sound-row (BadRecord disk p) e = absurd (true≢false e)
+    let b = or-none _ _ a in
+    ltb-false _ _ (or-none _ _ (b .0) .0)
 
 pub begin-checked : (c : Core) (w : World) → Taken restartBegin c w → Checked w
 unfolding restartBeginRows imageRows sizesWrong lengthsWrong
 begin-checked c w t =
-    let a = accepted-row _ _ (t .accepted) .1 in
-    let b = accepted-row _ _ a .1 in
-    let d = accepted-row _ _ b .1 in
-    let f = accepted-row _ _ d in
-    let g = accepted-row _ _ (f .1) in
-    let h = accepted-row _ _ (g .1) in
+    let a = row-passed _ _ (t .accepted) .1 in
+    let b = row-passed _ _ a .1 in
+    let d = row-passed _ _ b .1 in
+    let f = row-passed _ _ d in
+    let g = row-passed _ _ (f .1) in
+    let h = row-passed _ _ (g .1) in
     let s : Sizes = sizesOn (w .anchor) in
-    let sound = sound-row _ (accepted-row _ _ (h .1) .0) in
+    let sound = no-fault _ (row-passed _ _ (h .1) .0) in
     record {
       bounds = not-false _ (f .0);
       lengths = not-false _ (g .0);
@@ -165,7 +150,7 @@ module _ (w : World) (k : Checked w) where
       let n : ℕ = total (sizesOn (w .anchor)) in
       let long = length-replicate {A = ℕ} n 0 in
       let fits = lengths (sizesOn (w .anchor)) w (k .lengths) .pages in
-      sets-in (w .pages) 0 (replicate n 0) x (omega arith) (omega arith) (omega arith)
+      getD-sets-in (w .pages) 0 (replicate n 0) x (omega arith) (omega arith) (omega arith)
       ∙ getD-replicate n (x - 0) 0 0 (omega arith)
 
   begun-progress : Progress (restartBeginTask w .core) (withPages w (sets (w .pages) 0 (replicate (total (sizesOn (w .anchor))) 0)))

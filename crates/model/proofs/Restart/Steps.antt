@@ -14,10 +14,11 @@ use Rattle.model.specs.Reference.{taken, outcomeOf}
 use Rattle.model.specs.Call.{restartStep, resultOf}
 use Rattle.model.proofs.Storeless.{nothing-stored}
 use Rattle.model.proofs.Restart.Image.{SameDevices, memory-devices}
-use Rattle.model.proofs.Restart.Taken.{accepted-row, Taken, taken-call}
+use Rattle.model.proofs.Restart.Taken.{Taken, taken-call}
 use Rattle.model.proofs.Restart.Progress.{Progress}
 use Rattle.model.proofs.Restart.LogStep.{record-progress}
 use Rattle.model.proofs.Restart.BackupStep.{backup-progress}
+use Rattle.model.proofs.Verdict.{row-passed}
 
 -- what remains of a log, and of the backup
 pub remaining-log : (c : Core) (d : ℕ) → d < c .sizes .disks → remaining c d ≡ tailOf (c .logs) d - positionOf c d
@@ -34,12 +35,12 @@ step-source : (c : Core) (w : World) (source : ℕ) → Taken (restartStep sourc
     → (source ≤ c .sizes .disks) × (remaining c source ≡ 0 → ⊥)
 unfolding restartStepRows sourceMissing
 step-source c w source t =
-    let a = accepted-row _ _ (t .accepted) .1 in
-    let b = accepted-row _ _ a .1 in
-    let d = accepted-row _ _ b .1 in
-    let f = accepted-row _ _ d .1 in
-    let g = accepted-row _ _ f in
-    let h = accepted-row _ _ (g .1) in
+    let a = row-passed _ _ (t .accepted) .1 in
+    let b = row-passed _ _ a .1 in
+    let d = row-passed _ _ b .1 in
+    let f = row-passed _ _ d .1 in
+    let g = row-passed _ _ f in
+    let h = row-passed _ _ (g .1) in
     (ltb-false _ _ (g .0), eqb-false _ _ (h .0))
 
 task-progress : (c : Core) (w : World) (source : ℕ) → Progress c w → source ≤ c .sizes .disks → (remaining c source ≡ 0 → ⊥)

@@ -1,26 +1,15 @@
 -- What a taken call did, what a refused one left, and what the rows of an accepted one say.
 use mathlib.Core.Path.{_≡_, refl}
-use mathlib.Core.List.{List, _∷_}
-use mathlib.Core.Bool.{Bool, true, false, cond}
+use mathlib.Core.Bool.{Bool, true, false}
 use Prim.Native.Nat.{ℕ}
 use native.Mathlib.Omega.{arith}
 use Rattle.model.specs.declared.Core.{Core}
 use Rattle.model.specs.World.{World, perform, finishes}
-use Rattle.model.specs.Refusal.{Row, Verdict, accepted, refused, verdict, Task, conclude}
+use Rattle.model.specs.Refusal.{Verdict, accepted, refused, verdict, Task, conclude}
 use Rattle.model.specs.Reference.{taken, outcomeOf}
 use Rattle.model.specs.Call.{Call, rowsOf, taskOf, budgetOf, resultOf}
 use Rattle.model.proofs.Run.{finished-run}
 use Rattle.model.proofs.Storeless.{storesNothing, storeless-finishes}
-
--- accepted: the first row does not apply, and the others accept
-pub accepted-row : (r : Row) (rows : List Row) → verdict (r ∷ rows) ≡ accepted → (r .applies ≡ false) × (verdict rows ≡ accepted)
-unfolding verdict
-accepted-row r rows e = go (r .applies) refl e
-  where
-    go : (b : Bool) → r .applies ≡ b → cond b (refused (r .number) (r .first) (r .second)) (verdict rows) ≡ accepted
-        → (r .applies ≡ false) × (verdict rows ≡ accepted)
-    go true d e = let z : _≡_ {A = ℕ} 0 1 = cc in absurd (omega arith)
-    go false d e = (d, e)
 
 -- A call that was taken: no row applied, its state is the task's, and all its actions were performed.
 pub record Taken (k : Call) (c : Core) (w : World) : Type 0 where

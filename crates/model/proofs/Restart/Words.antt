@@ -1,81 +1,20 @@
 -- A run of words set in a list, a difference XORed in, and sums below a bound, each word by word.
 use mathlib.Core.Path.{_≡_, refl, sym, ap, _∙_}
-use mathlib.Core.List.{List, [], _∷_}
-use mathlib.Core.Bool.{true, false, and-eq-true-iff}
+use mathlib.Core.List.{List}
 use Prim.Native.Nat.{ℕ, zero, suc, _+_, _-_, _≤_, _<_}
 use native.Mathlib.Omega.{arith}
 use native.Mathlib.Decide.{decLt, ℕ-discrete}
 use native.Mathlib.Nat.{not-suc-le-zero}
-use lib.Dec.{leb, ltb}
-use lib.ListN.{length, getD, set, length-set, length-take, length-drop}
-use lib.Seq.{sets, length-sets, getD-set-same, getD-set-other, getD-take, getD-drop}
-use borrow.Author.Tests.{leb-true, ltb-true, le-leb, lt-leb, lt-ltb, le-ltb}
+use lib.ListN.{length, getD}
+use lib.Seq.{sets, length-sets}
 use Rattle.model.specs.Word.{_⊕_, xors, part}
-use Rattle.model.specs.World.{World, pages, perform, each}
+use Rattle.model.specs.World.{World, pages, perform}
 use Rattle.model.specs.Abort.{xorIn}
 use Rattle.model.specs.Image.{xorAt}
 use Rattle.model.proofs.Ledger.Entry.{mask, spanning, share}
-use Rattle.model.proofs.Xor.{xor, ⊕-assoc, ⊕-zero-r, length-xors, getD-xors-same}
+use Rattle.model.proofs.Xor.{⊕-assoc, ⊕-zero-r, length-xors, getD-xors-same, ⊕-left-comm}
 use Rattle.model.proofs.Run.{perform-pages}
-
--- what the test of a span says
-pub spanning-true : (at n x : ℕ) → spanning at n x ≡ true → (at ≤ x) × (x < at + n)
-unfolding spanning
-spanning-true at n x e =
-    let both = and-eq-true-iff (leb at x) (ltb x (at + n)) .0 e in
-    (leb-true at x (both .0), ltb-true x (at + n) (both .1))
-
-pub spanning-in : (at n x : ℕ) → at ≤ x → x < at + n → spanning at n x ≡ true
-unfolding spanning
-spanning-in at n x h l = rw (le-leb at x h, lt-ltb x (at + n) l)
-
-pub spanning-before : (at n x : ℕ) → x < at → spanning at n x ≡ false
-unfolding spanning
-spanning-before at n x h = rw (lt-leb at x h)
-
-pub spanning-after : (at n x : ℕ) → at + n ≤ x → spanning at n x ≡ false
-unfolding spanning
-spanning-after at n x h = rw (le-leb at x (omega arith), le-ltb x (at + n) h)
-
--- Words set one after the other.
-module _ (l : List ℕ) where
-  pub sets-before : (i : ℕ) (vs : List ℕ) (x : ℕ) → x < i → getD (sets l i vs) x 0 ≡ getD l x 0
-  sets-before i vs x h = go l i vs h
-    where
-      go : (l : List ℕ) (i : ℕ) (vs : List ℕ) → x < i → getD (sets l i vs) x 0 ≡ getD l x 0
-      go l i [] h = refl
-      go l i (v ∷ vs) h = go (set l i v) (suc i) vs (omega arith) ∙ getD-set-other l i x v 0 (omega arith)
-
-  pub sets-after : (i : ℕ) (vs : List ℕ) (x : ℕ) → i + length vs ≤ x → getD (sets l i vs) x 0 ≡ getD l x 0
-  sets-after i vs x h = go l i vs h
-    where
-      go : (l : List ℕ) (i : ℕ) (vs : List ℕ) → i + length vs ≤ x → getD (sets l i vs) x 0 ≡ getD l x 0
-      go l i [] h = refl
-      go l i (v ∷ vs) h = go (set l i v) (suc i) vs (omega arith) ∙ getD-set-other l i x v 0 (omega arith)
-
-pub sets-in : (l : List ℕ) (i : ℕ) (vs : List ℕ) (x : ℕ) → i + length vs ≤ length l → i ≤ x → x < i + length vs
-    → getD (sets l i vs) x 0 ≡ getD vs (x - i) 0
-sets-in l i [] x fits h k = absurd (omega arith)
-sets-in l i (v ∷ vs) x fits h k = go (decLt i x) (λ less. sets-in (set l i v) (suc i) vs x (simp length-set (omega arith)) less (omega arith))
-  where
-    go : Dec (i < x) → (i < x → getD (sets (set l i v) (suc i) vs) x 0 ≡ getD vs (x - suc i) 0)
-        → getD (sets (set l i v) (suc i) vs) x 0 ≡ getD (v ∷ vs) (x - i) 0
-    go (yes less) rest =
-        let e : x - i ≡ suc (x - suc i) = omega arith in
-        rw e (rest less)
-    go (no less) rest =
-        let e : x - i ≡ 0 = omega arith in
-        let z : x ≡ i = omega arith in
-        rw (e, z) (sets-before (set l i v) (suc i) vs i (omega arith) ∙ getD-set-same l i v 0 (omega arith))
-
--- a part of a list, word by word
-pub length-part : (at n : ℕ) (l : List ℕ) → at + n ≤ length l → length (part at n l) ≡ n
-unfolding part
-length-part at n l h = simp (length-take, length-drop) (omega arith)
-
-pub getD-part : (at n : ℕ) (l : List ℕ) (x : ℕ) → x < n → getD (part at n l) x 0 ≡ getD l (at + x) 0
-unfolding part
-getD-part at n l x h = rw (getD-take, getD-drop)
+use Rattle.model.proofs.Parts.{getD-sets-before, getD-sets-behind, length-part, getD-part, getD-sets-in, spanning-in, spanning-before, spanning-after}
 
 -- A difference XORed in at a place adds its share to every word.
 pub length-xor-at : (at : ℕ) (diff words : List ℕ) → length (xorAt at diff words) ≡ length words
@@ -98,14 +37,14 @@ xor-at-word at diff words x fits = go (decLt x at) (decLt x (at + length diff))
         ≡ getD words x 0 ⊕ mask (spanning at (length diff) x) (getD diff (x - at) 0)
     go (yes before) d =
         rw (spanning-before at (length diff) x before)
-        (sets-before words at (xors (part at (length diff) words) diff) x before ∙ sym (⊕-zero-r (getD words x 0)))
+        (getD-sets-before words at (xors (part at (length diff) words) diff) x before ∙ sym (⊕-zero-r (getD words x 0)))
     go (no before) (no after) =
         rw (spanning-after at (length diff) x (omega arith))
-        (sets-after words at (xors (part at (length diff) words) diff) x (omega (arith, long)) ∙ sym (⊕-zero-r (getD words x 0)))
+        (getD-sets-behind words at (xors (part at (length diff) words) diff) x (omega (arith, long)) ∙ sym (⊕-zero-r (getD words x 0)))
     go (no before) (yes after) =
         let back : at + (x - at) ≡ x = omega arith in
         rw (spanning-in at (length diff) x (omega arith) after)
-        (sets-in words at (xors (part at (length diff) words) diff) x (omega (arith, long)) (omega arith) (omega (arith, long))
+        (getD-sets-in words at (xors (part at (length diff) words) diff) x (omega (arith, long)) (omega arith) (omega (arith, long))
         ∙ getD-xors-same (part at (length diff) words) diff same (x - at)
         ∙ ap (λ (v : ℕ). v ⊕ getD diff (x - at) 0)
         (getD-part at (length diff) words (x - at) (omega arith) ∙ ap (λ (i : ℕ). getD words i 0) back))
@@ -141,12 +80,9 @@ unfolding xorBelow
 xor-below-less f g zero d v h here same = absurd (not-suc-le-zero h)
 xor-below-less f g (suc n) d v h here same = go (ℕ-discrete n d) (λ l. xor-below-less f g n d v l here same)
   where
-    regroup : (a b c : ℕ) → a ⊕ (b ⊕ c) ≡ b ⊕ (a ⊕ c)
-    regroup a b c = simp xor
-
     go : Dec (n ≡ d) → (d < n → xorBelow f n ≡ v ⊕ xorBelow g n) → f n ⊕ xorBelow f n ≡ v ⊕ (g n ⊕ xorBelow g n)
     go (yes e) rest =
         let low : xorBelow f n ≡ xorBelow g n = xor-below-cong f g n (λ i l. same i (omega arith)) in
         let top : f n ≡ v ⊕ g n = rw e here in
         rw (low, top) (⊕-assoc v (g n) (xorBelow g n))
-    go (no e) rest = rw (rest (omega (arith, e)), same n e) (regroup (g n) v (xorBelow g n))
+    go (no e) rest = rw (rest (omega (arith, e)), same n e) (⊕-left-comm (g n) v (xorBelow g n))

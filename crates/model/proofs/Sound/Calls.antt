@@ -9,12 +9,13 @@ use Rattle.model.specs.Refusal.{Result, accepted, verdict}
 use Rattle.model.specs.Transaction.{readRows, readTask}
 use Rattle.model.specs.Call.{Call, format, begin, update, read, commit, abort, checkpointBegin, checkpointStep, checkpointEnd, restartBegin, restartStep, restartEnd, newState, rowsOf, taskOf, resultOf}
 use Rattle.model.proofs.Store.Cases.{call-cases}
-use Rattle.model.proofs.Store.Rows.{row-passed, serving-row}
+use Rattle.model.proofs.Store.Rows.{serving-row}
 use Rattle.model.proofs.Sound.Test.{Sized, Passing}
 use Rattle.model.proofs.Sound.Transaction.{begin-passes, update-passes, commit-passes}
 use Rattle.model.proofs.Sound.Abort.{abort-passes}
 use Rattle.model.proofs.Sound.Checkpoint.{checkpoint-begin-passes, checkpoint-step-passes, checkpoint-end-passes}
 use Rattle.model.proofs.Sound.Restart.{format-passes, restart-begin-passes, restart-step-passes, restart-end-passes}
+use Rattle.model.proofs.Verdict.{row-passed}
 
 -- a new state, which is also what an interrupted call hands back
 pub new-passes : Passing newCore

@@ -14,13 +14,13 @@ use Rattle.model.specs.Refusal.{accepted, verdict}
 use Rattle.model.specs.Causes.{whenOpen, whenCopying, spent}
 use Rattle.model.specs.Checkpoint.{perDisk, checkpointBeginRows, checkpointBeginTask, toCopy, lowestToCopy, checkpointStepRows, checkpointStepTask, newStart, checkpointEndRows, checkpointEndTask}
 use Rattle.model.proofs.Below.{first-passes}
-use Rattle.model.proofs.Meaning.{Holds, new-start}
-use Rattle.model.proofs.Restart.Progress.{getD-per-disk, length-per-disk}
-use Rattle.model.proofs.Store.Rows.{row-passed, stage-row, open-serving, copying-serving, serving-sound, sizes-sound, disk-sound, place-sound, checkpoint-sound}
+use Rattle.model.proofs.Meaning.{Holds, new-start, getD-per-disk, length-per-disk}
+use Rattle.model.proofs.Store.Rows.{stage-row, open-serving, copying-serving, serving-sound, sizes-sound, disk-sound, place-sound, checkpoint-sound}
 use Rattle.model.proofs.Sound.Test.{Sized, Passing, serving-test, copying-test}
-use Rattle.model.proofs.Sound.Reserved.{served-is, served-here}
-use Rattle.model.proofs.Sound.Grown.{tail-end}
-use Rattle.model.proofs.Sound.Serving.{disks-max}
+use Rattle.model.proofs.Growth.{tail-end}
+use Rattle.model.proofs.Verdict.{row-passed}
+use Rattle.model.proofs.Places.{served-is, served-here}
+use Rattle.model.proofs.Store.Accepted.{disks-max}
 
 -- Begin: the remembered ends are the logs' ends.
 pub checkpoint-begin-passes : (c : Core) (w : World) → Sized c → verdict (checkpointBeginRows c w) ≡ accepted

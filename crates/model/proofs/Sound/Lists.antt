@@ -3,15 +3,14 @@
 use mathlib.Core.Path.{_≡_}
 use mathlib.Core.List.{List, [], _∷_}
 use mathlib.Core.Bool.{true}
-use Prim.Native.Nat.{ℕ, _+_, _-_, _≤_, _<_}
+use Prim.Native.Nat.{ℕ, _+_, _≤_}
 use native.Mathlib.Omega.{arith}
 use Rattle.model.specs.declared.Sizes.{Sizes}
 use Rattle.model.specs.declared.Logs.{Logs}
 use Rattle.model.specs.declared.Core.{Core}
-use Rattle.model.specs.Sizes.{ringOf}
 use Rattle.model.specs.Scan.{updateWords}
 use Rattle.model.specs.World.{World}
-use Rattle.model.specs.State.{limit, startOf, endOf, placeOf, isOpen, reservedAt, sound}
+use Rattle.model.specs.State.{limit, endOf, placeOf, isOpen, reservedAt, sound}
 use Rattle.model.specs.Refusal.{accepted, verdict}
 use Rattle.model.specs.Causes.{whenServing}
 use Rattle.model.specs.Transaction.{diskOf, commitRows, commitTask}
@@ -22,13 +21,12 @@ use Rattle.model.specs.Machine.{Machine, Event, call, lent, scramble, re
 use Rattle.model.proofs.Restart.Taken.{taken-call}
 use Rattle.model.proofs.Store.Rows.{serving-sound, disk-sound}
 use Rattle.model.proofs.Sound.Test.{Sized, Passing}
-use Rattle.model.proofs.Sound.Reserved.{by-le}
-use Rattle.model.proofs.Sound.Serving.{open-entry}
-use Rattle.model.proofs.Sound.Transaction.{commit-accepted, commit-grown}
-use Rattle.model.proofs.Sound.Abort.{abort-accepted, abort-grown}
+use Rattle.model.proofs.Sound.Transaction.{commit-grown}
+use Rattle.model.proofs.Sound.Abort.{abort-grown}
 use Rattle.model.proofs.Sound.Restart.{format-passes}
 use Rattle.model.specs.Promise.{Always, Closable, ClosingFits}
 use Rattle.model.proofs.Sound.Calls.{sized-kept, sound-kept}
+use Rattle.model.proofs.Store.Accepted.{open-entry, commit-accepted, abort-accepted}
 
 -- an event, allowed or not
 pub event-passes : (m : Machine) (e : Event) → Passing (m .core) → Passing (after m e .core)
@@ -63,8 +61,7 @@ sound-closing c s serving number o =
     let mine = open-entry c number ok o in
     let d : ℕ = diskOf c number in
     let on = disk-sound c d ok (mine .sound .disk) in
-    let all = by-le (c .table) d (placeOf (c .table) number) (mine .at) in
-    let by = mine .by in
+    let all = mine .on in
     record {
       closing = mine .sound .reserved;
       ring = omega (arith, on .room);
@@ -87,7 +84,7 @@ pub commit-closes : (c : Core) (w : World) (number : ℕ) → Sized c → verdic
 commit-closes c w number sized ok =
     let a = commit-accepted c w number ok in
     record {
-      end = commit-grown c w number sized a .here;
+      end = commit-grown c w number sized a .end-longer;
       reserved = sound-closing c (a .sound) (a .serving) number (a .opened) .closing;
     }
 
@@ -95,4 +92,4 @@ pub abort-closes : (c : Core) (w : World) (number : ℕ) → Sized c → verdict
     → Closes c number (updateWords (updatesLeft c w number) + 2) (abortTask c w number .core .logs)
 abort-closes c w number sized ok =
     let a = abort-accepted c w number ok in
-    record { end = abort-grown c w number sized a .here; reserved = a .words }
+    record { end = abort-grown c w number sized a .end-longer; reserved = a .words }

@@ -17,26 +17,25 @@ use Rattle.model.specs.Below.{sumBelow}
 use Rattle.model.specs.Sizes.{sizesInBounds}
 use Rattle.model.specs.Anchor.{sizesOn, startOn}
 use Rattle.model.specs.World.{World}
-use Rattle.model.specs.State.{places, limit, noTable, emptyLogs, openCore, startOf, tailOf, fillOf, endOf, numberAt, servedBy, reservedOn, servingSound, sound}
+use Rattle.model.specs.State.{places, limit, noTable, openCore, startOf, tailOf, endOf, numberAt, servedBy, reservedOn, servingSound, sound}
 use Rattle.model.specs.Refusal.{accepted, verdict}
 use Rattle.model.specs.Causes.{whenReplaying, sizesWrong, tailOn, tailWrong, wrongTail, sourceMissing, spent}
 use Rattle.model.specs.Format.{formatRows, formatTask}
 use Rattle.model.specs.Restart.{imageRows, restartBeginRows, restartBeginTask, remaining, withReplay, readDisk, nextRecord, restartStepRows, backupStep, movedTo, recordStep, restartStepTask, restartEndRows, restartEndTask}
 use Rattle.model.proofs.Below.{first-before}
-use Rattle.model.proofs.Decode.{or-false, found-change, found-close}
+use Rattle.model.proofs.Decode.{found-change, found-close}
 use Rattle.model.proofs.Bounds.{bounded}
-use Rattle.model.proofs.Restart.Progress.{getD-per-disk, length-per-disk}
-use Rattle.model.proofs.Store.Rows.{row-passed, stage-row}
+use Rattle.model.proofs.Store.Rows.{stage-row}
 use Rattle.model.proofs.Sound.Test.{Sized, Passing, serving-test, ReplaySound, replay-sound, replaying-test}
+use Rattle.model.proofs.Booleans.{or-none}
+use Rattle.model.proofs.Verdict.{row-passed}
+use Rattle.model.proofs.Meaning.{getD-per-disk, length-per-disk}
+use Rattle.model.proofs.Growth.{none-buffered}
 
 -- An open state with no transaction and empty logs.
 none-reserved : (d : ℕ) → reservedOn noTable d ≡ 0
 unfolding reservedOn sumBelow servedBy numberAt
 none-reserved d = refl
-
-none-buffered : (tails : List ℕ) (d : ℕ) → d < 8 → fillOf (emptyLogs tails) d ≡ 0
-unfolding fillOf
-none-buffered tails d h = getD-replicate 8 d 0 0 h
 
 module _ (s : Sizes) (epoch : ℕ) (tails : List ℕ) (bounds : sizesInBounds s ≡ true) (eight : length tails ≡ 8)
     (top : (d : ℕ) → d < s .disks → getD tails d 0 ≤ limit) where
@@ -82,8 +81,8 @@ tail-bounds : (s : Sizes) (w : World) → ltb (wrongTail s w) (s .disks) ≡ fal
 unfolding wrongTail tailWrong
 tail-bounds s w e d h =
     let a = first-before (tailWrong s w) (s .disks) d (omega (arith, ltb-false (wrongTail s w) (s .disks) e)) in
-    let b = or-false _ _ a in
-    (ltb-false _ _ (or-false _ _ (b .0) .0), ltb-false _ _ (b .1))
+    let b = or-none _ _ a in
+    (ltb-false _ _ (or-none _ _ (b .0) .0), ltb-false _ _ (b .1))
 
 pub restart-begin-passes : (c : Core) (w : World) → verdict (restartBeginRows c w) ≡ accepted → Passing (restartBeginTask w .core)
 unfolding restartBeginRows imageRows restartBeginTask sizesWrong spent tailOf

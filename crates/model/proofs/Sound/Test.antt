@@ -8,30 +8,18 @@ use lib.ListN.{length, getD}
 use borrow.Author.Tests.{leb-true, ltb-true, le-leb, lt-ltb, eqb-false}
 use Rattle.model.specs.declared.Stage.{Stage}
 use Rattle.model.specs.declared.Stage.the-variants.{Shut, Replaying, Open, Copying}
-use Rattle.model.specs.declared.Logs.{Logs}
-use Rattle.model.specs.declared.Table.{Table}
 use Rattle.model.specs.declared.Core.{Core}
 use Rattle.model.specs.Below.{within, allBelow}
 use Rattle.model.specs.Sizes.{sizesInBounds}
 use Rattle.model.specs.State.{places, limit, startOf, tailOf, endOf, numberAt, diskAtPlace, firstAt, hasUpdate, diskSound, placeSound, servingSound, checkpointSound, replaySound, soundIn, sound}
 use Rattle.model.specs.Causes.{whenReplaying, whenCopying}
 use Rattle.model.proofs.Below.{all-each, each-all}
-use Rattle.model.proofs.Lengths.{all-four}
-use Rattle.model.proofs.Ledger.Sums.{true-false}
+use Rattle.model.proofs.SetPlace.{SizedTable}
 use Rattle.model.proofs.Store.Rows.{DiskSound, PlaceSound, CheckpointSound}
+use Rattle.model.proofs.Growth.{SizedLogs}
+use Rattle.model.proofs.Booleans.{true-false, all-four}
 
 -- The lengths of the arrays.
-pub record SizedLogs (l : Logs) : Type 0 where
-  pub starts : length (l .starts) ≡ 8
-  pub tails : length (l .tails) ≡ 8
-  pub fills : length (l .fills) ≡ 8
-
-pub record SizedTable (t : Table) : Type 0 where
-  pub numbers : length (t .numbers) ≡ places
-  pub disks : length (t .disks) ≡ places
-  pub firsts : length (t .firsts) ≡ places
-  pub reserved : length (t .reserved) ≡ places
-
 pub record Sized (c : Core) : Type 0 where
   pub logs : SizedLogs (c .logs)
   pub table : SizedTable (c .table)

@@ -5,65 +5,50 @@ use mathlib.Core.Bool.{Bool, true, false, cond}
 use Prim.Native.Nat.{ℕ, _+_, _*_, _≤_, _<_}
 use native.Mathlib.Omega.{arith}
 use lib.ListN.{length}
-use borrow.Author.Tests.{leb-false, not-false, eqb-true}
 use Rattle.model.specs.declared.Logs.{Logs}
 use Rattle.model.specs.declared.Core.{Core}
 use Rattle.model.specs.Sizes.{widthIn}
 use Rattle.model.specs.Record.{close, encode, wordsOf, updateKind, commitKind}
 use Rattle.model.specs.World.{World}
-use Rattle.model.specs.State.{places, startOf, endOf, placeOf, isOpen, firstAt, reservedAt, withLog, without, hasUpdate, servingSound, sound}
-use Rattle.model.specs.Room.{hasRoom, loadOf, idlest}
+use Rattle.model.specs.State.{startOf, endOf, placeOf, isOpen, firstAt, reservedAt, withLog, without, hasUpdate, servingSound, sound}
+use Rattle.model.specs.Room.{idlest}
 use Rattle.model.specs.Refusal.{accepted, verdict}
-use Rattle.model.specs.Causes.{whenServing, tableFull, slotMissing, notOpen, valueWrong}
+use Rattle.model.specs.Causes.{whenServing}
 use Rattle.model.specs.Append.{append}
 use Rattle.model.specs.Transaction.{diskOf, beginRows, begun, beginTask, slotWords, updateRecord, updated, updateRows, updateTask, commitRows, commitTask}
 use Rattle.model.proofs.Xor.{length-xors}
-use Rattle.model.proofs.Decode.{or-false}
 use Rattle.model.proofs.Bounds.{bounded}
-use Rattle.model.proofs.Meaning.{Idlest, idlest-found}
-use Rattle.model.proofs.Store.Rows.{row-passed, serving-row, serving-sound, sizes-sound, disk-sound}
+use Rattle.model.proofs.Store.Rows.{serving-sound, sizes-sound, disk-sound}
 use Rattle.model.proofs.Sound.Test.{Sized, Passing}
-use Rattle.model.proofs.Sound.Reserved.{sized-put}
-use Rattle.model.proofs.Sound.Grown.{tail-end, Grown, grown-none, grown-then, flush-grown, append-grown}
-use Rattle.model.proofs.Sound.Serving.{room-found, room-none, small-buffers, disks-max, OpenPlace, open-entry, open-below, entry-sound}
+use Rattle.model.proofs.SetPlace.{sized-put}
+use Rattle.model.proofs.Sound.Serving.{entry-sound}
+use Rattle.model.proofs.Growth.{tail-end, Longer, longer-none, longer-then, flush-longer, append-longer}
+use Rattle.model.proofs.Store.Accepted.{room-found, room-none, small-buffers, disks-max, OpenPlace, open-entry, open-below, Committing, begin-accepted, update-accepted, commit-accepted, Room}
 
 -- Begin: two words more are reserved on the chosen disk, which has room for them.
-chosen-disk : (c : Core) → c .sizes .disks ≤ 8 → idlest c 2 < 8 → Idlest (hasRoom c 2) (loadOf (c .logs)) (c .sizes .disks) (idlest c 2)
-unfolding idlest
-chosen-disk c eight found = idlest-found (hasRoom c 2) (loadOf (c .logs)) (c .sizes .disks) eight found
-
 pub begin-passes : (c : Core) (w : World) → Sized c → verdict (beginRows c w) ≡ accepted → Passing (beginTask c w .core)
-unfolding beginRows tableFull beginTask begun
+unfolding beginTask begun
 begin-passes c w sized ok =
-    let stage = row-passed _ _ ok in
-    let anchor = row-passed _ _ (stage .1) in
-    let lengths = row-passed _ _ (anchor .1) in
-    let full = row-passed _ _ (lengths .1) in
-    let next = row-passed _ _ (full .1) in
-    let room = row-passed _ _ (next .1) in
-    let serving = serving-row c (stage .0) in
-    let good = serving-sound c (serving .0) (serving .1) in
-    let free : placeOf (c .table) 0 < places = leb-false _ _ (full .0) in
-    let chosen = chosen-disk c (disks-max c good) (leb-false _ _ (room .0)) in (
+    let a = begin-accepted c w ok in
+    let good = serving-sound c (a .serving) (a .sound) in (
       record {
         logs = sized .logs;
-        table = sized-put (c .table) (sized .table) (placeOf (c .table) 0) (c .next) (idlest c 2) 0 2 free;
+        table = sized-put (c .table) (sized .table) (placeOf (c .table) 0) (c .next) (idlest c 2) 0 2 (a .free);
         ends = sized .ends;
         positions = sized .positions;
       },
-      entry-sound c (serving .0) (serving .1) sized (idlest c 2) 0 (c .logs) (chosen .below)
-          (grown-none (c .sizes) (idlest c 2) (c .logs) (sized .logs) (small-buffers c good)) (placeOf (c .table) 0) free (c .next) (idlest c 2)
-          0 2 (c .next + 1) 2 (room-found c 2 (idlest c 2) (chosen .passes)) (omega arith)
+      entry-sound c (a .serving) (a .sound) sized (idlest c 2) 0 (c .logs) (a .chosen .below)
+          (longer-none (c .logs) (sized .logs) (small-buffers c good)) (placeOf (c .table) 0) (a .free) (c .next) (idlest c 2)
+          0 2 (c .next + 1) 2 (room-found c 2 (idlest c 2) (a .chosen .passes)) (omega arith)
           (λ some. record { home = refl; closing = omega arith; inside = λ more. absurd (omega arith) }),
     )
 
 -- Update: its record goes to the log, and as many words are reserved to take it back.
 -- the words of an update record, at most those that its room was found for
-update-words : (c : Core) (w : World) (number page slot : ℕ) (value : List ℕ) → valueWrong (c .sizes) page value ≡ false
+update-words : (c : Core) (w : World) (number page slot : ℕ) (value : List ℕ) → length value ≡ widthIn (c .sizes) page
     → length (encode (updateRecord c w number page slot value)) ≤ wordsOf updateKind (widthIn (c .sizes) page)
-unfolding encode updateRecord valueWrong wordsOf
-update-words c w number page slot value right =
-    let long : length value ≡ widthIn (c .sizes) page = eqb-true _ _ (not-false _ right) in
+unfolding encode updateRecord wordsOf
+update-words c w number page slot value long =
     omega (arith, length-xors (slotWords c w page slot) value)
 
 short-words : (c : Core) (page : ℕ) → servingSound c ≡ true → page < c .sizes .pages → wordsOf updateKind (widthIn (c .sizes) page) ≤ 35
@@ -71,7 +56,7 @@ unfolding wordsOf
 short-words c page ok h = omega (arith, bounded (c .sizes) (sizes-sound c ok) .used page h .width-max)
 
 module _ (c : Core) (serving : whenServing (c .stage) ≡ true) (s : sound c ≡ true) (sized : Sized c) (number : ℕ)
-    (o : isOpen (c .table) number ≡ true) (r : ℕ) (l : Logs) (g : Grown (c .sizes) (diskOf c number) r (c .logs) l) where
+    (o : isOpen (c .table) number ≡ true) (r : ℕ) (l : Logs) (g : Longer (c .sizes) (diskOf c number) r (c .logs) l) where
   good : servingSound c ≡ true
   good = serving-sound c serving s
 
@@ -85,8 +70,7 @@ module _ (c : Core) (serving : whenServing (c .stage) ≡ true) (s : sound c ≡
   mine = open-entry c number good o
 
   below : disk < c .sizes .disks
-  unfolding diskOf
-  below = mine .sound .disk
+  below = open-below c number good o
 
   -- the first position is the old one, or the log's end where there was none
   abbrev first : ℕ
@@ -102,7 +86,7 @@ module _ (c : Core) (serving : whenServing (c .stage) ≡ true) (s : sound c ≡
       go true e = let near = mine .sound .first e in (near .0, omega (arith, near .1))
       go false e = (omega (arith, disk-sound c disk good below .ordered, tail-end (c .logs) disk), omega arith)
 
-  update-entry : (k : ℕ) → 2 * r ≤ k → hasRoom c k disk ≡ true → Passing (withLog c l (updated c number r))
+  update-entry : (k : ℕ) → 2 * r ≤ k → Room c disk k → Passing (withLog c l (updated c number r))
   unfolding withLog updated
   update-entry k enough room = (
     record {
@@ -112,7 +96,7 @@ module _ (c : Core) (serving : whenServing (c .stage) ≡ true) (s : sound c ≡
       positions = sized .positions;
     },
     entry-sound c serving s sized disk r l below g place (mine .at) number disk first (reservedAt (c .table) place + r) (c .next) k
-        (room-found c k disk room) (omega (arith, mine .by))
+        room (omega (arith, mine .by))
         (λ some. record { home = refl; closing = omega (arith, mine .sound .reserved); inside = λ more. first-inside }),
   )
 
@@ -132,55 +116,30 @@ module _ (c : Core) (serving : whenServing (c .stage) ≡ true) (s : sound c ≡
 
 pub update-passes : (c : Core) (w : World) (number page slot : ℕ) (value : List ℕ) → Sized c
     → verdict (updateRows c w number page slot value) ≡ accepted → Passing (updateTask c w number page slot value .core)
-unfolding updateRows updateTask notOpen slotMissing
+unfolding updateTask
 update-passes c w number page slot value sized ok =
-    let stage = row-passed _ _ ok in
-    let anchor = row-passed _ _ (stage .1) in
-    let lengths = row-passed _ _ (anchor .1) in
-    let slots = row-passed _ _ (lengths .1) in
-    let opened = row-passed _ _ (slots .1) in
-    let values = row-passed _ _ (opened .1) in
-    let locks = row-passed _ _ (values .1) in
-    let room = row-passed _ _ (locks .1) in
-    let serving = serving-row c (stage .0) in
-    let good = serving-sound c (serving .0) (serving .1) in
-    let o = not-false _ (opened .0) in
+    let a = update-accepted c w number page slot value ok in
+    let good = serving-sound c (a .serving) (a .sound) in
     let words : List ℕ = encode (updateRecord c w number page slot value) in
-    let few = update-words c w number page slot value (values .0) in
-    let short = short-words c page good (leb-false _ _ (or-false _ _ (slots .0) .0)) in
-    let d = open-below c number good o in
-    update-entry c (serving .0) (serving .1) sized number o (length words)
+    let few = update-words c w number page slot value (a .width) in
+    let short = short-words c page good (a .page-lt) in
+    let d : diskOf c number < 8 = omega (arith, open-below c number good (a .opened), disks-max c good) in
+    update-entry c (a .serving) (a .sound) sized number (a .opened) (length words)
     (append (c .sizes) (c .logs) (w .work) (diskOf c number) words .logs)
-    (append-grown (c .sizes) (c .logs) (diskOf c number) (sized .logs) (small-buffers c good) d (w .work) words (omega arith))
-    (2 * wordsOf updateKind (widthIn (c .sizes) page)) (omega arith) (not-false _ (room .0))
-
--- What an accepted commit may rely on.
-pub record Committing (c : Core) (number : ℕ) : Type 0 where
-  pub serving : whenServing (c .stage) ≡ true
-  pub sound : sound c ≡ true
-  pub opened : isOpen (c .table) number ≡ true
-
-pub commit-accepted : (c : Core) (w : World) (number : ℕ) → verdict (commitRows c w number) ≡ accepted → Committing c number
-unfolding commitRows notOpen
-commit-accepted c w number ok =
-    let stage = row-passed _ _ ok in
-    let anchor = row-passed _ _ (stage .1) in
-    let lengths = row-passed _ _ (anchor .1) in
-    let opened = row-passed _ _ (lengths .1) in
-    let serving = serving-row c (stage .0) in
-    record { serving = serving .0; sound = serving .1; opened = not-false _ (opened .0) }
+    (append-longer (c .sizes) (c .logs) (diskOf c number) (sized .logs) (small-buffers c good) d (w .work) words (omega arith))
+    (2 * wordsOf updateKind (widthIn (c .sizes) page)) (omega arith) (a .room)
 
 -- The log of its disk grows by the two words of the closing record.
 pub commit-grown : (c : Core) (w : World) (number : ℕ) → Sized c → Committing c number
-    → Grown (c .sizes) (diskOf c number) 2 (c .logs) (commitTask c w number .core .logs)
+    → Longer (c .sizes) (diskOf c number) 2 (c .logs) (commitTask c w number .core .logs)
 unfolding commitTask withLog encode
 commit-grown c w number sized a =
     let good = serving-sound c (a .serving) (a .sound) in
     let words : List ℕ = encode (close commitKind number) in
     let d : ℕ = diskOf c number in
-    let below = open-below c number good (a .opened) in
-    let added = append-grown (c .sizes) (c .logs) d (sized .logs) (small-buffers c good) below (w .work) words (omega arith) in
-    grown-then added (flush-grown (c .sizes) (append (c .sizes) (c .logs) (w .work) d words .logs) d (added .sized) (added .small) below)
+    let below : d < 8 = omega (arith, open-below c number good (a .opened), disks-max c good) in
+    let added = append-longer (c .sizes) (c .logs) d (sized .logs) (small-buffers c good) below (w .work) words (omega arith) in
+    longer-then added (flush-longer (c .sizes) (append (c .sizes) (c .logs) (w .work) d words .logs) d (added .sized) (added .small) below)
 
 pub commit-passes : (c : Core) (w : World) (number : ℕ) → Sized c → verdict (commitRows c w number) ≡ accepted
     → Passing (commitTask c w number .core)

@@ -21,10 +21,11 @@ use Rattle.model.specs.History.{Put}
 use Rattle.model.proofs.Places.{open-place}
 use Rattle.model.proofs.Ledger.Entry.{Entry, recordOf, isClose, All, pick}
 use Rattle.model.proofs.Ledger.Order.{sizeOf, on, entriesScan}
-use Rattle.model.proofs.Ledger.Sums.{true-false, all-map}
+use Rattle.model.proofs.Ledger.Sums.{all-map}
 use Rattle.model.proofs.Ledger.Lists.{on-append}
 use Rattle.model.proofs.Store.View.{wordsFor, Serving, Served}
 use Rattle.model.proofs.Store.Left.{from, all-there, all-from, early, away, scanned}
+use Rattle.model.proofs.Booleans.{true-false}
 
 -- picking leaves the words of a transaction, where what is not picked is of others
 pub words-picked : (t : ℕ) (p : Entry → Bool) (l : List Entry) → All (λ q. p q ≡ false → eqb (q .number) t ≡ false) l

@@ -7,9 +7,8 @@ use lib.ListN.{length, getD, set, length-set}
 use lib.Seq.{sets, length-sets, getD-set-same, getD-set-other}
 use Rattle.model.specs.Word.{part}
 use Rattle.model.specs.Anchor.{epochWord, slotsAt, widthsAt, rowsAt, epochOn, sizesOn}
-use Rattle.model.proofs.Restart.Words.{sets-before}
-use Rattle.model.proofs.Link.Parts.{part-cong}
-use Rattle.model.proofs.Store.Puts.{run-word, first-word}
+use Rattle.model.proofs.Parts.{part-cong, getD-sets-before, getD-sets-inside}
+use Rattle.model.proofs.Store.Puts.{first-word}
 
 -- The anchor as a format stores it: c := 0, the three numbers, both arrays, both rows, c := 1.
 unfoldable pub laidAnchor : List ℕ → List ℕ → List ℕ → List ℕ → List ℕ → List ℕ
@@ -68,25 +67,25 @@ module _ (a front slots widths rows : List ℕ) (long : length a ≡ 148) (three
   laid-front : (i : ℕ) → i < 3 → getD (laidAnchor a front slots widths rows) i 0 ≡ getD front i 0
   unfolding laidAnchor
   laid-front i h =
-      getD-set-other a5 3 i 1 0 (omega arith) ∙ sets-before a4 132 rows i (omega arith) ∙ sets-before a3 68 widths i (omega arith)
-      ∙ sets-before a2 4 slots i (omega arith) ∙ first-word a1 front i (omega (arith, l1)) (omega arith)
+      getD-set-other a5 3 i 1 0 (omega arith) ∙ getD-sets-before a4 132 rows i (omega arith) ∙ getD-sets-before a3 68 widths i (omega arith)
+      ∙ getD-sets-before a2 4 slots i (omega arith) ∙ first-word a1 front i (omega (arith, l1)) (omega arith)
 
   laid-slots : (i : ℕ) → i < 64 → getD (laidAnchor a front slots widths rows) (4 + i) 0 ≡ getD slots i 0
   unfolding laidAnchor
   laid-slots i h =
-      getD-set-other a5 3 (4 + i) 1 0 (omega arith) ∙ sets-before a4 132 rows (4 + i) (omega arith)
-      ∙ sets-before a3 68 widths (4 + i) (omega arith) ∙ run-word a2 4 slots i (omega (arith, l2)) (omega arith)
+      getD-set-other a5 3 (4 + i) 1 0 (omega arith) ∙ getD-sets-before a4 132 rows (4 + i) (omega arith)
+      ∙ getD-sets-before a3 68 widths (4 + i) (omega arith) ∙ getD-sets-inside a2 4 slots i (omega (arith, l2)) (omega arith)
 
   laid-widths : (i : ℕ) → i < 64 → getD (laidAnchor a front slots widths rows) (68 + i) 0 ≡ getD widths i 0
   unfolding laidAnchor
   laid-widths i h =
-      getD-set-other a5 3 (68 + i) 1 0 (omega arith) ∙ sets-before a4 132 rows (68 + i) (omega arith)
-      ∙ run-word a3 68 widths i (omega (arith, l3)) (omega arith)
+      getD-set-other a5 3 (68 + i) 1 0 (omega arith) ∙ getD-sets-before a4 132 rows (68 + i) (omega arith)
+      ∙ getD-sets-inside a3 68 widths i (omega (arith, l3)) (omega arith)
 
   laid-rows : (i : ℕ) → i < 16 → getD (laidAnchor a front slots widths rows) (132 + i) 0 ≡ getD rows i 0
   unfolding laidAnchor
   laid-rows i h =
-      getD-set-other a5 3 (132 + i) 1 0 (omega arith) ∙ run-word a4 132 rows i (omega (arith, l4)) (omega arith)
+      getD-set-other a5 3 (132 + i) 1 0 (omega arith) ∙ getD-sets-inside a4 132 rows i (omega (arith, l4)) (omega arith)
 
   pub laid-anchor : Laid (laidAnchor a front slots widths rows) front slots widths rows
   unfolding epochOn

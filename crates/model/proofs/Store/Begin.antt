@@ -1,54 +1,36 @@
 -- Begin: a new transaction with no record and no write, on the lowest free place of the table.
 use mathlib.Core.Path.{_≡_, refl, sym, ap, _∙_}
 use mathlib.Core.List.{List, [], _∷_, _++_, map}
-use mathlib.Core.Logic.{inl, inr}
 use mathlib.Core.Bool.{Bool, true, false, cond, _&&_, _||_}
-use Prim.Native.Nat.{ℕ, _+_, _≤_, _<_}
+use Prim.Native.Nat.{ℕ, _+_, _<_}
 use native.Mathlib.Omega.{arith}
 use lib.Dec.{eqb}
-use borrow.Author.Tests.{leb-false, eqb-true, eq-eqb, ne-eqb}
+use borrow.Author.Tests.{eqb-true, eq-eqb, ne-eqb}
 use Rattle.model.specs.declared.Table.{Table}
 use Rattle.model.specs.declared.Core.{Core}
 use Rattle.model.specs.Sizes.{total}
 use Rattle.model.specs.World.{World}
 use Rattle.model.specs.Memory.{ownerOf}
 use Rattle.model.specs.State.{places, startOf, numberAt, diskAtPlace, firstAt, reservedAt, placeOf, isOpen, withPlace, hasUpdate}
-use Rattle.model.specs.Room.{noDisk, hasRoom, loadOf, idlest}
+use Rattle.model.specs.Room.{idlest}
 use Rattle.model.specs.Refusal.{accepted, verdict}
-use Rattle.model.specs.Causes.{tableFull}
 use Rattle.model.specs.Transaction.{diskOf, beginRows, begun, beginTask}
 use Rattle.model.specs.Call.{begin}
 use Rattle.model.specs.Reference.{Reference, writesOf, afterTaken}
 use Rattle.model.specs.History.{Put}
-use Rattle.model.proofs.Meaning.{Chosen, idlest-of}
 use Rattle.model.proofs.Slots.{patchOf}
 use Rattle.model.proofs.WriteSets.{distinct-front, front-writes, front-has}
-use Rattle.model.proofs.Places.{Tabled, place-holds, open-place, other-disk, other-first, other-reserved, put-disk, put-reserved, begin-place, begin-other, begin-open, begin-tabled}
+use Rattle.model.proofs.SetPlace.{put-disk, put-reserved, other-same}
+use Rattle.model.proofs.Places.{Tabled, place-holds, open-place, begin-place, begin-other, begin-open, begin-tabled}
 use Rattle.model.proofs.Ledger.Entry.{Entry, some as someEntry, All}
 use Rattle.model.proofs.Ledger.State.{Same, begun as begunLedger}
 use Rattle.model.proofs.Ledger.Order.{on, boundary}
-use Rattle.model.proofs.Ledger.Sums.{true-false, all-map, all-zip}
-use Rattle.model.proofs.Ledger.Picks.{or-false}
+use Rattle.model.proofs.Ledger.Sums.{all-map, all-zip}
 use Rattle.model.proofs.Ledger.Good.{good-same, begin-good}
 use Rattle.model.proofs.Store.View.{view, before, Safe, Own, wordsFor, Accounts, Epochs, Sets, Owners, Serving, Served}
-use Rattle.model.proofs.Store.Rows.{row-passed}
 use Rattle.model.proofs.Store.Same.{devices-same}
-
--- a begin that is accepted finds a free place, and a disk with room
-free-place : (c : Core) (w : World) → c .sizes .disks ≤ 8 → verdict (beginRows c w) ≡ accepted
-    → (placeOf (c .table) 0 < places) × (idlest c 2 < c .sizes .disks)
-unfolding beginRows tableFull
-free-place c w eight ok =
-    let stage = row-passed _ _ ok in
-    let anchor = row-passed _ _ (stage .1) in
-    let lengths = row-passed _ _ (anchor .1) in
-    let full = row-passed _ _ (lengths .1) in
-    let room = row-passed _ _ (row-passed _ _ (full .1) .1) in
-    (leb-false _ _ (full .0), go (leb-false _ _ (room .0)) (idlest-of c 2 eight))
-  where
-    go : idlest c 2 < noDisk → Chosen (hasRoom c 2) (loadOf (c .logs)) (c .sizes .disks) (idlest c 2) → idlest c 2 < c .sizes .disks
-    go l (inl d) = d .below
-    go l (inr d) = absurd (omega (arith, d .eight))
+use Rattle.model.proofs.Booleans.{true-false, or-none}
+use Rattle.model.proofs.Store.Accepted.{begin-accepted}
 
 -- a number that the entries do not have has no words among them
 words-for-none : (t : ℕ) (l : List Entry) → All (λ e. e .number < t) l → wordsFor t l ≡ 0
@@ -61,11 +43,8 @@ module _ {home : ℕ → ℕ} {puts : List Put} {c : Core} {w : World} {r : Refe
   abbrev place : ℕ
   place = placeOf (c .table) 0
 
-  found : (place < places) × (idlest c 2 < c .sizes .disks)
-  found = free-place c w (v .safe .devices .bounds .disks-max) ok
-
   at : place < places
-  at = found .0
+  at = begin-accepted c w ok .free
 
   tabled : Tabled (c .table)
   tabled = v .accounts .tabled
@@ -114,13 +93,13 @@ module _ {home : ℕ → ℕ} {puts : List Put} {c : Core} {w : World} {r : Refe
     same-place = begin-other (c .table) tabled place (c .next) (idlest c 2) 0 2 at free some new t old (open-place (c .table) t o .0)
 
     same-disk : diskAtPlace T (placeOf T t) ≡ diskAtPlace (c .table) (placeOf (c .table) t)
-    same-disk = rw same-place (other-disk (c .table) tabled place (c .next) (idlest c 2) 0 2 at (placeOf (c .table) t) apart)
+    same-disk = rw same-place (other-same (c .table) place (c .next) (idlest c 2) 0 2 (placeOf (c .table) t) apart .disk)
 
     same-first : firstAt T (placeOf T t) ≡ firstAt (c .table) (placeOf (c .table) t)
-    same-first = rw same-place (other-first (c .table) tabled place (c .next) (idlest c 2) 0 2 at (placeOf (c .table) t) apart)
+    same-first = rw same-place (other-same (c .table) place (c .next) (idlest c 2) 0 2 (placeOf (c .table) t) apart .first)
 
     same-reserved : reservedAt T (placeOf T t) ≡ reservedAt (c .table) (placeOf (c .table) t)
-    same-reserved = rw same-place (other-reserved (c .table) tabled place (c .next) (idlest c 2) 0 2 at (placeOf (c .table) t) apart)
+    same-reserved = rw same-place (other-same (c .table) place (c .next) (idlest c 2) 0 2 (placeOf (c .table) t) apart .reserved)
 
     same-update : hasUpdate T (placeOf T t) ≡ hasUpdate (c .table) (placeOf (c .table) t)
     unfolding hasUpdate
@@ -128,10 +107,10 @@ module _ {home : ℕ → ℕ} {puts : List Put} {c : Core} {w : World} {r : Refe
 
   -- the new one has its disk, the words of its closing record, and no update
   new-disk : diskAtPlace T (placeOf T (c .next)) ≡ idlest c 2
-  new-disk = rw new-place (put-disk (c .table) tabled place (c .next) (idlest c 2) 0 2 at)
+  new-disk = rw new-place (put-disk (c .table) (tabled .sized) place (c .next) (idlest c 2) 0 2 at)
 
   new-reserved : reservedAt T (placeOf T (c .next)) ≡ 2
-  new-reserved = rw new-place (put-reserved (c .table) tabled place (c .next) (idlest c 2) 0 2 at)
+  new-reserved = rw new-place (put-reserved (c .table) (tabled .sized) place (c .next) (idlest c 2) 0 2 at)
 
   no-update : hasUpdate T (placeOf T (c .next)) ≡ false
   unfolding hasUpdate
@@ -207,7 +186,7 @@ module _ {home : ℕ → ℕ} {puts : List Put} {c : Core} {w : World} {r : Refe
         disks =
             λ t o.
             newly t (diskAtPlace T (placeOf T t) < c .sizes .disks) o
-            (λ q. rw (q, new-disk) (found .1))
+            (λ q. rw (q, new-disk) (begin-accepted c w ok .chosen .below))
             (λ p. rw (same-disk t p) (v .accounts .disks t p));
         started =
             λ t o u.
@@ -219,7 +198,7 @@ module _ {home : ℕ → ℕ} {puts : List Put} {c : Core} {w : World} {r : Refe
             newly t (reservedAt T (placeOf T t) ≡ 2 + wordsFor t (F ++ B)) o
             (λ q. rw (q, new-reserved, words-for-none (c .next) (F ++ B) (v .accounts .numbered)))
             (λ p. same-reserved t p ∙ v .accounts .reserved t p ne);
-        settled = all-map (λ e h s. h (or-false _ _ (sym (open-after (e .number)) ∙ s) .0)) (F ++ B) (v .accounts .settled);
+        settled = all-map (λ e h s. h (or-none _ _ (sym (open-after (e .number)) ∙ s) .0)) (F ++ B) (v .accounts .settled);
         numbered = all-map (λ e l. omega arith) (F ++ B) (v .accounts .numbered);
       }
     where

@@ -17,16 +17,17 @@ use Rattle.model.specs.Checkpoint.{perDisk, toCopy, lowestToCopy, newSta
 use Rattle.model.specs.Reference.{Reference}
 use Rattle.model.specs.History.{Put}
 use Rattle.model.proofs.Below.{first-before, list-cong}
-use Rattle.model.proofs.Reader.{cond-cong}
 use Rattle.model.proofs.Run.{perform-append, stores-append, run-append, run-cut, perform-lengths}
 use Rattle.model.proofs.Ledger.Entry.{pick}
 use Rattle.model.proofs.Ledger.Ordered.{keptFrom}
 use Rattle.model.proofs.Store.View.{Kept, Serving, Served}
-use Rattle.model.proofs.Store.Rows.{row-passed, stage-row, copying-not-open}
+use Rattle.model.proofs.Store.Rows.{stage-row, copying-not-open}
 use Rattle.model.proofs.Store.Crash.{kept}
 use Rattle.model.proofs.Store.FlushAll.{flushes, Emptied, none-buffered, flush-below}
 use Rattle.model.proofs.Store.Starts.{Moved, startStores, endStores, end-moved, end-cut}
 use Rattle.model.proofs.Store.Switch.{switchedCore, switch-serving}
+use Rattle.model.proofs.Booleans.{cond-cong}
+use Rattle.model.proofs.Verdict.{row-passed}
 
 -- Numbers for each disk that agree on the disks agree.
 per-disk-cong : (s : Sizes) (f h : ℕ → ℕ) → ((d : ℕ) → d < s .disks → f d ≡ h d) → perDisk s f ≡ perDisk s h

@@ -33,13 +33,13 @@ use Rattle.model.proofs.Storeless.{storeless-finishes}
 use Rattle.model.proofs.Scan.{scan-bad}
 use Rattle.model.proofs.Reading.{ending}
 use Rattle.model.proofs.Faults.{none-fault}
-use Rattle.model.proofs.Restart.Taken.{accepted-row}
 use Rattle.model.proofs.Restart.Progress.{logLeft, Progress}
 use Rattle.model.proofs.Restart.LogStep.{change-well}
 use Rattle.model.proofs.Restart.Steps.{remaining-log}
 use Rattle.model.proofs.Store.Cases.{call-cases}
 use Rattle.model.proofs.Store.Rows.{stage-row}
 use Rattle.model.proofs.Store.View.{Restartable}
+use Rattle.model.proofs.Verdict.{row-passed}
 
 -- Restart begin, rows 2 to 7.
 module _ {w : World} (h : Restartable w) where
@@ -71,7 +71,7 @@ verdict-append : (l k : List Row) → verdict l ≡ accepted → verdict (l ++ k
 unfolding verdict
 verdict-append [] k e = refl
 verdict-append (x ∷ l) k e =
-    let f = accepted-row x l e in
+    let f = row-passed x l e in
     rw (f .0) (verdict-append l k (f .1))
 
 begin-verdict : (c : Core) (w : World) → c .stage ≡ Shut → Restartable w

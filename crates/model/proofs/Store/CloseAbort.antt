@@ -23,17 +23,18 @@ use Rattle.model.proofs.Places.{close-open}
 use Rattle.model.proofs.Ledger.Entry.{Entry, recordOf, isClose, closedIn}
 use Rattle.model.proofs.Ledger.State.{abortedBy, Same}
 use Rattle.model.proofs.Ledger.Order.{sizeOf}
-use Rattle.model.proofs.Ledger.Sums.{true-false}
 use Rattle.model.proofs.Ledger.Picks.{closed-append}
 use Rattle.model.proofs.Ledger.Word.{ofTxn, kept-open}
 use Rattle.model.proofs.Ledger.Good.{Good, good-same}
 use Rattle.model.proofs.Ledger.Close.{abort-good, closes-one}
 use Rattle.model.proofs.Link.Words.{Fit}
-use Rattle.model.proofs.Link.Buffered.{Small, InBuffer, owners-same, epochs-same}
-use Rattle.model.proofs.Store.View.{Kept, view, Accounts, Serving, Served}
+use Rattle.model.proofs.Link.Buffered.{InBuffer, owners-same, epochs-same}
+use Rattle.model.proofs.Store.View.{Kept, view, Accounts, Serving, Served, open-used}
 use Rattle.model.proofs.Store.Logged.{Written, all-more, boundary-logged}
 use Rattle.model.proofs.Store.Closed.{sets-closed, owners-closed, accounts-closed, found-more, words-for-other}
-use Rattle.model.proofs.Store.Put.{open-used, MayPut, put-longer, put-in-buffer, F1, B1, made-sums, made-good, made-accounts, put-safe, put-epochs, put-told, put-cut}
+use Rattle.model.proofs.Store.Put.{MayPut, put-longer, put-in-buffer, F1, B1, made-sums, made-good, made-accounts, put-safe, put-epochs, put-told, put-cut}
+use Rattle.model.proofs.Growth.{Small}
+use Rattle.model.proofs.Booleans.{true-false}
 
 module _ {t : ℕ} {home : ℕ → ℕ} {puts : List Put} {c : Core} {w : World} {r : Reference} {F B : List Entry} (g : Serving t home puts c w r F B)
     (opened : isOpen (c .table) t ≡ true) (below : diskOf c t < c .sizes .disks) (small : Small (c .sizes) (c .logs))

@@ -2,7 +2,7 @@
 use mathlib.Core.Path.{_≡_, refl, sym, ap, _∙_}
 use mathlib.Core.List.{List, [], _∷_, _++_, append-assoc}
 use mathlib.Core.Bool.{Bool, true, false, cond, not, _&&_, _||_, or-true, and-true}
-use Prim.Native.Nat.{ℕ, _+_, _≤_, _<_}
+use Prim.Native.Nat.{ℕ, _+_, _<_}
 use native.Mathlib.Nat.{add-zero}
 use native.Mathlib.Decide.{ℕ-discrete}
 use lib.Dec.{eqb}
@@ -14,17 +14,17 @@ use Rattle.model.specs.declared.Core.{Core}
 use Rattle.model.specs.Sizes.{total, slotsIn, slotBase}
 use Rattle.model.specs.World.{World}
 use Rattle.model.specs.Memory.{ownerAt, ownerOf}
-use Rattle.model.specs.State.{places, startOf, reservedAt, reservedOn, servedBy, numberAt, placeOf, diskAtPlace, firstAt, hasUpdate, isOpen, without, withLog}
+use Rattle.model.specs.State.{startOf, reservedAt, placeOf, diskAtPlace, firstAt, hasUpdate, isOpen, without, withLog}
 use Rattle.model.specs.Transaction.{diskOf}
 use Rattle.model.specs.Reference.{Reference, Write, WriteSet, writesOf, writesSlot, removed}
 use Rattle.model.specs.History.{Put, recordsOn}
-use Rattle.model.proofs.Below.{term-le-sum}
 use Rattle.model.proofs.Bounds.{Bounded}
 use Rattle.model.proofs.WriteSets.{hasSet, distinct-removed, removed-has, writes-removed-other}
-use Rattle.model.proofs.Places.{Tabled, place-holds, open-place, close-other, close-open, close-tabled, other-disk, other-first, other-reserved}
+use Rattle.model.proofs.SetPlace.{SameAt, other-same}
+use Rattle.model.proofs.Places.{Tabled, open-place, close-other, close-open, close-tabled, places-apart}
 use Rattle.model.proofs.Ledger.Entry.{Entry, recordOf, isClose, some, All, closedIn, onDisk}
 use Rattle.model.proofs.Ledger.Order.{on, boundary}
-use Rattle.model.proofs.Ledger.Sums.{true-false, all-map}
+use Rattle.model.proofs.Ledger.Sums.{all-map}
 use Rattle.model.proofs.Ledger.Picks.{some-append, closed-append}
 use Rattle.model.proofs.Ledger.Word.{kept-open}
 use Rattle.model.proofs.Ledger.Lists.{all-flush, some-halves, closed-flush, on-flush, on-more, off-more}
@@ -33,41 +33,29 @@ use Rattle.model.proofs.Store.View.{wordsFor, Accounts, Sets, Owners, S
 use Rattle.model.proofs.Store.Same.{slot-lt}
 use Rattle.model.proofs.Store.Flush.{left, words-for-flush}
 use Rattle.model.proofs.Store.Logged.{all-more, words-for-more, told-more, boundary-logged}
-
--- an open transaction's reserved words count among its disk's
-pub reserved-on : (c : Core) (n : ℕ) → isOpen (c .table) n ≡ true → reservedAt (c .table) (placeOf (c .table) n) ≤ reservedOn (c .table) (diskOf c n)
-unfolding reservedOn servedBy diskOf
-reserved-on c n o =
-    let t = c .table in
-    let at = open-place t n o in
-    let here : numberAt t (placeOf t n) ≡ n = place-holds t n (at .1) in
-    rw (here, ne-eqb n 0 (at .0), eq-eqb (diskOf c n) (diskOf c n) refl) at
-    (term-le-sum (λ i. cond (servedBy t (diskOf c n) i) (reservedAt t i) 0) places (placeOf t n) (at .1))
+use Rattle.model.proofs.Booleans.{true-false}
 
 -- Another open transaction has its place, its disk, its updates, its first record and its reserved words as before.
 module _ (t : Table) (ok : Tabled t) (n : ℕ) (opened : isOpen t n ≡ true) (u : ℕ) (also : isOpen t u ≡ true) (ne : u ≡ n → ⊥) where
   place-same : placeOf (without t n) u ≡ placeOf t u
   place-same = close-other t ok n opened u ne (open-place t u also .0)
 
-  apart : placeOf t u ≡ placeOf t n → ⊥
-  apart e =
-      ne (sym (place-holds t u (open-place t u also .1)) ∙ ap (numberAt t) e ∙ place-holds t n (open-place t n opened .1))
+  there : SameAt t (without t n) (placeOf t u)
+  unfolding without
+  there = other-same t (placeOf t n) 0 0 0 0 (placeOf t u) (places-apart t u n also opened ne)
 
   pub disk-kept : diskAtPlace (without t n) (placeOf (without t n) u) ≡ diskAtPlace t (placeOf t u)
-  unfolding without
-  disk-kept = rw place-same (other-disk t ok (placeOf t n) 0 0 0 0 (open-place t n opened .1) (placeOf t u) apart)
+  disk-kept = rw place-same (there .disk)
 
   pub first-kept : firstAt (without t n) (placeOf (without t n) u) ≡ firstAt t (placeOf t u)
-  unfolding without
-  first-kept = rw place-same (other-first t ok (placeOf t n) 0 0 0 0 (open-place t n opened .1) (placeOf t u) apart)
+  first-kept = rw place-same (there .first)
 
   pub reserved-kept : reservedAt (without t n) (placeOf (without t n) u) ≡ reservedAt t (placeOf t u)
-  unfolding without
-  reserved-kept = rw place-same (other-reserved t ok (placeOf t n) 0 0 0 0 (open-place t n opened .1) (placeOf t u) apart)
+  reserved-kept = rw place-same (there .reserved)
 
   pub has-kept : hasUpdate (without t n) (placeOf (without t n) u) ≡ hasUpdate t (placeOf t u)
-  unfolding hasUpdate without
-  has-kept = rw (place-same, other-reserved t ok (placeOf t n) 0 0 0 0 (open-place t n opened .1) (placeOf t u) apart)
+  unfolding hasUpdate
+  has-kept = rw (place-same, there .reserved)
 
 -- one that is open after the close was open before it, and is another
 pub was-open : (t : Table) → Tabled t → (n : ℕ) → isOpen t n ≡ true → (u : ℕ) → isOpen (without t n) u ≡ true

@@ -5,7 +5,7 @@ use mathlib.Core.List.{List, [], _∷_, _++_, map}
 use mathlib.Core.Bool.{true, false}
 use Prim.Native.Nat.{ℕ, _+_, _≤_, _<_}
 use native.Mathlib.Omega.{arith}
-use native.Mathlib.Decide.{decLt, ℕ-discrete}
+use native.Mathlib.Decide.{ℕ-discrete}
 use lib.ListN.{getD}
 use Rattle.model.specs.declared.Sizes.{Sizes}
 use Rattle.model.specs.declared.Core.{Core}
@@ -14,7 +14,7 @@ use Rattle.model.specs.Record.{encode}
 use Rattle.model.specs.Anchor.{backupAt}
 use Rattle.model.specs.World.{World, Action, perform, stores, run}
 use Rattle.model.specs.Memory.{bufferAt, epochAt, epochOf}
-use Rattle.model.specs.State.{limit, startOf, tailOf, fillOf, endOf, flushed, withLog, without, isOpen}
+use Rattle.model.specs.State.{limit, startOf, fillOf, endOf, flushed, withLog, without, isOpen}
 use Rattle.model.specs.Append.{Appended, append, flush}
 use Rattle.model.specs.Transaction.{diskOf}
 use Rattle.model.specs.Reference.{Reference, writesOf, removed, applied, wordsIn}
@@ -29,19 +29,20 @@ use Rattle.model.proofs.Places.{open-place, close-open}
 use Rattle.model.proofs.Ledger.Entry.{Entry, recordOf, isClose, closedIn, patched}
 use Rattle.model.proofs.Ledger.State.{committedBy, Same}
 use Rattle.model.proofs.Ledger.Order.{Ordered, sizeOf, on}
-use Rattle.model.proofs.Ledger.Sums.{true-false}
 use Rattle.model.proofs.Ledger.Word.{kept-open}
 use Rattle.model.proofs.Ledger.Ordered.{ordered-commit}
 use Rattle.model.proofs.Ledger.Good.{Good, good-same}
 use Rattle.model.proofs.Ledger.Close.{commit-good}
-use Rattle.model.proofs.Link.Words.{Fit, Link, lengths-perform}
-use Rattle.model.proofs.Link.Flush.{flush-link, flush-only, flush-cut, cut-only, arrays-flushed, start-flushed, ends-flushed}
-use Rattle.model.proofs.Link.Buffered.{Small, Longer, InBuffer, owners-same, epochs-same}
-use Rattle.model.proofs.Store.View.{Kept, view, Devices, Safe, Accounts, Epochs, Serving, before}
+use Rattle.model.proofs.Link.Words.{Fit, Link, lengths-perform, arrays-flushed, arrays-longer, below-eight, Arrays}
+use Rattle.model.proofs.Link.Flush.{flush-link, flush-only, flush-cut, cut-only}
+use Rattle.model.proofs.Link.Buffered.{InBuffer, owners-same, epochs-same}
+use Rattle.model.proofs.Store.View.{Kept, view, Devices, Safe, Accounts, Epochs, Serving, before, open-used}
 use Rattle.model.proofs.Store.Flush.{devices-kept, left}
 use Rattle.model.proofs.Store.Logged.{longer, in-buffer, link-logged, ordered-logged, logged-stores}
 use Rattle.model.proofs.Store.Linked.{kept-linked}
 use Rattle.model.proofs.Store.Closed.{all-writes, sets-closed, owners-closed, accounts-closed, committedLog, lists, moved, closed, bounds, found, words, told}
+use Rattle.model.proofs.Growth.{start-flushed, ends-flushed, Small, Longer}
+use Rattle.model.proofs.Booleans.{true-false}
 
 -- the reference after the commit of a transaction
 abbrev pub committedReference : Reference → ℕ → Reference
@@ -89,6 +90,9 @@ module _ {home : ℕ → ℕ} {puts : List Put} {c : Core} {w : World} {r : Refe
   more : Longer (c .sizes) (e .disk) (sizeOf e) (c .logs) (added .logs)
   more = longer (g .safe) e below here small room at-end unclosed fit space in-limit
 
+  arrays : Arrays (c .sizes) (added .logs)
+  arrays = arrays-longer (g .safe .devices .arrays) more
+
   buffer : InBuffer (c .sizes) (e .disk) w addedWorld
   buffer = in-buffer (g .safe) e below here small room at-end unclosed fit space in-limit
 
@@ -112,7 +116,7 @@ module _ {home : ℕ → ℕ} {puts : List Put} {c : Core} {w : World} {r : Refe
   pub closing-cut : (k : ℕ) → k < stores flushing → Kept (run k flushing addedWorld) r
   closing-cut k h =
       let part-way = cut-only (c .sizes) (added .logs) addedWorld (e .disk) k h in
-      kept-linked (g .safe) (flush-cut linked right (more .arrays) (e .disk) below ring-room k h)
+      kept-linked (g .safe) (flush-cut linked right arrays (e .disk) below ring-room k h)
       (part-way .anchor-same ∙ buffer .anchor-same) (part-way .backups-same ∙ buffer .backups-same)
       (same-lengths-trans (run-lengths k flushing addedWorld) (perform-lengths (added .actions) w)) (more .start-same)
 
@@ -125,7 +129,7 @@ module _ {home : ℕ → ℕ} {puts : List Put} {c : Core} {w : World} {r : Refe
   devices : Devices doneCore doneWorld
   devices =
       devices-kept (g .safe .devices) (flushed (added .logs) (e .disk)) (without (c .table) (e .number)) doneWorld start-same
-      (arrays-flushed (c .sizes) (added .logs) (e .disk) (more .arrays) below) (only .anchor-same ∙ buffer .anchor-same) lengths
+      (arrays-flushed (e .disk) arrays) (only .anchor-same ∙ buffer .anchor-same) lengths
 
   -- each log's end is where it was, on the commit's disk behind the closing record
   ends : (d : ℕ) → d < c .sizes .disks → Dec (d ≡ e .disk)
@@ -184,14 +188,14 @@ module _ {home : ℕ → ℕ} {puts : List Put} {c : Core} {w : World} {r : Refe
         good = good;
         link =
             lists F B e (Link (c .sizes) (flushed (added .logs) (e .disk)) doneWorld)
-            (flush-link linked right (more .arrays) (e .disk) below ring-room);
+            (flush-link linked right arrays (e .disk) below ring-room);
         ordered =
             subst (λ (start : ℕ → ℕ). Ordered (c .sizes .disks) start home gone rest)
             (fun-ext (λ d. sym (start-flushed (added .logs) (e .disk) d)))
             (ordered-commit B e (ordered-logged (g .safe) e below here small room at-end unclosed fit space in-limit));
         fit = moved F B e (Fit (c .sizes)) (g .safe .fit) fit;
         ends =
-            λ d h. rw (start-flushed (added .logs) (e .disk) d, ends-flushed (c .sizes) (added .logs) (e .disk) (more .arrays) below d)
+            λ d h. rw (start-flushed (added .logs) (e .disk) d, ends-flushed (added .logs) (e .disk) (more .sized) (below-eight arrays below) d)
             (ends d h (ℕ-discrete d (e .disk)));
         sizes = g .safe .sizes;
         shaped =
@@ -200,18 +204,10 @@ module _ {home : ℕ → ℕ} {puts : List Put} {c : Core} {w : World} {r : Refe
             (all-writes _ (e .number) (r .writeSets) (g .sets .fits)));
       }
 
-  known : e .number < c .next
-  unfolding view
-  known = go (decLt (e .number) (c .next))
-    where
-      go : Dec (e .number < c .next) → e .number < c .next
-      go (yes h) = h
-      go (no h) = true-false opened (g .safe .good .unused (e .number) (omega arith) .1)
-
   accounts : Accounts 0 home doneCore gone rest
   accounts =
       accounts-closed (g .accounts) e gone rest opened closes (λ u ne o z. open-place (c .table) u o .0 z) (moved F B e) (closed F B e closes) (bounds F B e)
-      (flushed (added .logs) (e .disk)) start-same known (found F B e) (words F B e)
+      (flushed (added .logs) (e .disk)) start-same (open-used (g .safe) (e .number) opened .1) (found F B e) (words F B e)
 
   not-change : {X : Type 0} → isClose e ≡ false → X
   not-change o = true-false closes o

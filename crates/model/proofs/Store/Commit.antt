@@ -1,37 +1,36 @@
 -- Commit: its closing record is appended, after a flush if the buffer is full, and its disk is flushed. An accepted commit leaves
 -- an open store with the transaction's writes committed; one that is cut loses nothing that was committed before.
-use mathlib.Core.Path.{_≡_, refl, sym, ap, _∙_}
+use mathlib.Core.Path.{_≡_, refl, ap, _∙_}
 use mathlib.Core.List.{List, [], _∷_, _++_, append-assoc}
 use mathlib.Core.Bool.{true, false}
 use Prim.Native.Nat.{ℕ, _+_, _-_, _≤_, _<_}
 use native.Mathlib.Omega.{arith}
 use native.Mathlib.Decide.{decLt}
-use borrow.Author.Tests.{leb-false, not-false}
+use borrow.Author.Tests.{leb-false}
 use Rattle.model.specs.declared.Sizes.{Sizes}
 use Rattle.model.specs.declared.Core.{Core}
 use Rattle.model.specs.Sizes.{ringOf}
 use Rattle.model.specs.Record.{encode, close, commitKind}
 use Rattle.model.specs.World.{World, Action, perform, stores, run, finishes}
-use Rattle.model.specs.State.{limit, startOf, fillOf, endOf, flushed, withLog, without, placeOf, isOpen}
+use Rattle.model.specs.State.{limit, startOf, fillOf, endOf, flushed, withLog, without, isOpen}
 use Rattle.model.specs.Refusal.{accepted, verdict}
-use Rattle.model.specs.Causes.{notOpen}
 use Rattle.model.specs.Append.{Appended, append, flush}
 use Rattle.model.specs.Transaction.{diskOf, commitRows, commitTask}
 use Rattle.model.specs.Call.{commit}
 use Rattle.model.specs.Reference.{Reference, afterTaken}
 use Rattle.model.specs.History.{Put, putBy}
 use Rattle.model.proofs.Run.{perform-append, stores-append, run-append, run-cut}
-use Rattle.model.proofs.Places.{open-place, place-holds}
+use Rattle.model.proofs.Places.{open-place}
 use Rattle.model.proofs.Ledger.Entry.{Entry, recordOf, isClose}
 use Rattle.model.proofs.Ledger.Order.{sizeOf}
-use Rattle.model.proofs.Ledger.Sums.{true-false}
 use Rattle.model.proofs.Link.Words.{Fit}
-use Rattle.model.proofs.Link.Buffered.{Small}
 use Rattle.model.proofs.Store.View.{Kept, Served}
-use Rattle.model.proofs.Store.Rows.{row-passed, serving-row, serving-sound, disk-sound, place-sound}
+use Rattle.model.proofs.Store.Rows.{serving-sound}
 use Rattle.model.proofs.Store.Ready.{Ready, ready}
-use Rattle.model.proofs.Store.Closed.{reserved-on}
 use Rattle.model.proofs.Store.Closing.{committedReference, closing-append, closing-cut, closing-serves}
+use Rattle.model.proofs.Growth.{Small}
+use Rattle.model.proofs.Booleans.{true-false}
+use Rattle.model.proofs.Store.Accepted.{small-buffers, open-entry, open-below, own-room, commit-accepted}
 
 -- What an accepted commit may rely on: the transaction is open, on a disk with room for its closing record.
 record Allowed (c : Core) (n : ℕ) : Type 0 where
@@ -42,24 +41,16 @@ record Allowed (c : Core) (n : ℕ) : Type 0 where
   in-limit : endOf (c .logs) (diskOf c n) + 2 ≤ limit
 
 allowed : (c : Core) (w : World) (n : ℕ) → verdict (commitRows c w n) ≡ accepted → Allowed c n
-unfolding commitRows notOpen diskOf endOf
-allowed c w n e =
-    let r1 = row-passed _ _ e in
-    let r2 = row-passed _ _ (r1 .1) in
-    let r5 = row-passed _ _ (r2 .1) in
-    let r9 = row-passed _ _ (r5 .1) in
-    let o : isOpen (c .table) n ≡ true = not-false _ (r9 .0) in
-    let serving = serving-row c (r1 .0) in
-    let sound = serving-sound c (serving .0) (serving .1) in
-    let at = open-place (c .table) n o in
-    let place = place-sound c (placeOf (c .table) n) sound (at .1) (λ z. at .0 (sym (place-holds (c .table) n (at .1)) ∙ z)) in
-    let disk = disk-sound c (diskOf c n) sound (place .disk) in
+allowed c w n ok =
+    let a = commit-accepted c w n ok in
+    let good = serving-sound c (a .serving) (a .sound) in
+    let room = own-room c n good (a .opened) 2 (open-entry c n good (a .opened) .sound .reserved) in
     record {
-      opened = o;
-      below = place .disk;
-      small = λ d h. disk-sound c d sound h .fill;
-      space = omega (arith, disk .room, disk .ordered, place .reserved, reserved-on c n o);
-      in-limit = omega (arith, disk .limit, place .reserved, reserved-on c n o);
+      opened = a .opened;
+      below = open-below c n good (a .opened);
+      small = small-buffers c good;
+      space = room .0;
+      in-limit = room .1;
     }
 
 -- the closing record of transaction n at position p of disk d

@@ -25,7 +25,7 @@ use Rattle.model.specs.History.{Put, compensation}
 use Rattle.model.proofs.Run.{perform-append, stores-written}
 use Rattle.model.proofs.Lengths.{lengths-right}
 use Rattle.model.proofs.Geometry.{pageOf, slotStart, slot-start, slot-in, slot-end-total}
-use Rattle.model.proofs.Restart.Words.{withPages, perform-xor, xor-at-word, length-xor-at, spanning-true}
+use Rattle.model.proofs.Restart.Words.{withPages, perform-xor, xor-at-word, length-xor-at}
 use Rattle.model.proofs.Ledger.Entry.{Entry, recordOf, isClose, mask, spanning, share, adds}
 use Rattle.model.proofs.Ledger.State.{logged, Same}
 use Rattle.model.proofs.Ledger.Order.{sizeOf}
@@ -33,12 +33,14 @@ use Rattle.model.proofs.Ledger.Word.{ofTxn}
 use Rattle.model.proofs.Ledger.Good.{Good, good-same}
 use Rattle.model.proofs.Ledger.Update.{compensate-good}
 use Rattle.model.proofs.Link.Words.{Fit}
-use Rattle.model.proofs.Link.Buffered.{Small, InBuffer, owners-same, epochs-same}
-use Rattle.model.proofs.Store.View.{Kept, view, Serving}
+use Rattle.model.proofs.Link.Buffered.{InBuffer, owners-same, epochs-same}
+use Rattle.model.proofs.Store.View.{Kept, view, Serving, open-used}
 use Rattle.model.proofs.Store.Same.{owners-same as owners-kept}
 use Rattle.model.proofs.Store.Logged.{Written}
 use Rattle.model.proofs.Store.LogEnd.{capped, early}
-use Rattle.model.proofs.Store.Put.{open-used, MayPut, put, put-longer, put-in-buffer, F1, B1, made-good, put-sums, put-safe, put-epochs, put-own, put-told, put-cut}
+use Rattle.model.proofs.Store.Put.{MayPut, put, put-longer, put-in-buffer, F1, B1, made-good, put-sums, put-safe, put-epochs, put-own, put-told, put-cut}
+use Rattle.model.proofs.Growth.{Small}
+use Rattle.model.proofs.Parts.{spanning-true}
 
 -- An update as an abort reads it names a slot and has its width.
 pub record Slotted (s : Sizes) (u : Update) : Type 0 where

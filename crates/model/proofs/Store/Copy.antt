@@ -2,15 +2,13 @@
 use mathlib.Core.Path.{_≡_, refl, sym, ap, _∙_}
 use mathlib.Core.List.{List, [], _∷_, _++_}
 use mathlib.Core.Bool.{Bool, true, false, cond}
-use Prim.Native.Nat.{ℕ, _+_, _≤_, _<_}
+use Prim.Native.Nat.{ℕ, _+_, _<_}
 use native.Mathlib.Omega.{arith}
 use native.Mathlib.Decide.{ℕ-discrete}
 use lib.Dec.{ltb}
-use lib.ListN.{length, getD, length-set}
+use lib.ListN.{length-set}
 use lib.Seq.{sets, length-sets}
 use borrow.Author.Tests.{ltb-true, ltb-false, lt-ltb, le-ltb}
-use Rattle.model.specs.declared.Sizes.{Sizes}
-use Rattle.model.specs.declared.Logs.{Logs}
 use Rattle.model.specs.declared.Core.{Core}
 use Rattle.model.specs.Sizes.{pageBase, pageWords, total}
 use Rattle.model.specs.World.{World, backups, work, store, write, perform, run, finishes, each}
@@ -18,38 +16,30 @@ use Rattle.model.specs.Memory.{epochAt, epochOf, lengthsRight}
 use Rattle.model.specs.State.{startOf, fillOf, endOf}
 use Rattle.model.specs.Refusal.{accepted, verdict}
 use Rattle.model.specs.Causes.{whenOpen, tailOn}
-use Rattle.model.specs.Checkpoint.{perDisk, checkpointBeginRows, checkpointBeginTask, lowestToCopy, checkpointStepRows, copyPage, checkpointStepTask}
+use Rattle.model.specs.Checkpoint.{checkpointBeginRows, checkpointBeginTask, lowestToCopy, checkpointStepRows, copyPage, checkpointStepTask}
 use Rattle.model.specs.Reference.{Reference}
 use Rattle.model.specs.History.{Put}
-use Rattle.model.proofs.Below.{getD-list}
 use Rattle.model.proofs.Geometry.{pageOf, page-of, page-in, slotStart, slot-in}
 use Rattle.model.proofs.Ledger.Entry.{Entry, All, spanning}
 use Rattle.model.proofs.Ledger.State.{Same, copied}
-use Rattle.model.proofs.Ledger.Order.{wordsOf, on}
-use Rattle.model.proofs.Ledger.Lists.{length-words-append}
+use Rattle.model.proofs.Ledger.Order.{on}
 use Rattle.model.proofs.Ledger.Positions.{boundary-end}
-use Rattle.model.proofs.Ledger.Sums.{true-false, all-map}
+use Rattle.model.proofs.Ledger.Sums.{all-map}
 use Rattle.model.proofs.Ledger.Good.{Good, good-same}
 use Rattle.model.proofs.Ledger.Checkpoint.{copy-good}
-use Rattle.model.proofs.Link.Words.{Link}
+use Rattle.model.proofs.Link.Words.{Link, log-end}
 use Rattle.model.proofs.Restart.Aside.{Aside, aside-append, aside-backup}
 use Rattle.model.proofs.Store.View.{Kept, view, before, Devices, Epochs, Serving, Served}
-use Rattle.model.proofs.Store.Rows.{row-passed, stage-row, copying-not-open, copying-serving, serving-sound, disk-sound}
-use Rattle.model.proofs.Store.Page.{at, words, after, covers, spans, copying, page-lt, page-first, stepped, fits, size-words, other-word, current-word, epoch-page, epoch-other, owner-word, buffer-words}
+use Rattle.model.proofs.Store.Rows.{stage-row, copying-not-open, copying-serving, serving-sound, disk-sound}
+use Rattle.model.proofs.Store.Page.{at, words, after, copying, page-lt, page-first, stepped, fits, size-words, other-word, current-word, epoch-page, epoch-other, owner-word, buffer-words}
 use Rattle.model.proofs.Store.Same.{devices-same, accounts-same, sets-same, owners-same}
 use Rattle.model.proofs.Store.Steady.{kept-aside}
+use Rattle.model.proofs.Booleans.{true-false}
+use Rattle.model.proofs.Parts.{spanning-true, spanning-in}
+use Rattle.model.proofs.Verdict.{row-passed}
+use Rattle.model.proofs.Meaning.{getD-per-disk}
 
 -- ---- checkpoint begin
--- a number for each disk
-pub per-disk : (s : Sizes) (f : ℕ → ℕ) (d : ℕ) → s .disks ≤ 8 → d < s .disks → getD (perDisk s f) d 0 ≡ f d
-unfolding perDisk
-per-disk s f d eight h = getD-list (λ i. cond (ltb i (s .disks)) (f i) 0) 8 d 0 (omega arith) ∙ rw (lt-ltb d (s .disks) h)
-
--- a disk's log ends where its entries do
-pub log-end : {s : Sizes} {l : Logs} {w : World} {F B : List Entry} → Link s l w F B → (d : ℕ) → d < s .disks
-    → endOf l d ≡ startOf l d + length (wordsOf (on d F ++ on d B))
-unfolding endOf
-log-end {F = F} {B = B} k d h = omega (arith, k .tail d h, k .fill d h, length-words-append (on d F) (on d B))
 
 module _ {home : ℕ → ℕ} {puts : List Put} {c : Core} {w : World} {r : Reference} {F B : List Entry}
     (ok : verdict (checkpointBeginRows c w) ≡ accepted) (v : Serving 0 home puts c w r F B) where
@@ -66,7 +56,7 @@ module _ {home : ℕ → ℕ} {puts : List Put} {c : Core} {w : World} {r : Refe
         capped = v .epochs .capped;
         early = all-map (λ e h b. h (rw opened refl)) (F ++ B) (v .epochs .early);
         ends = λ e d h.
-            rw (per-disk (c .sizes) (endOf (c .logs)) d (v .safe .devices .bounds .disks-max) h, log-end (v .safe .link) d h)
+            rw (getD-per-disk (c .sizes) (endOf (c .logs)) d (v .safe .devices .bounds .disks-max) h, log-end (v .safe .link) d h)
             (boundary-end (startOf (c .logs) d) (on d F ++ on d B));
       }
 
@@ -123,14 +113,14 @@ module _ {home : ℕ → ℕ} {puts : List Put} {c : Core} {w : World} {r : Refe
   page-word : (i : ℕ) → inPage i ≡ true → pageOf (c .sizes) i ≡ p
   unfolding inPage
   page-word i e =
-      let near = spans (pageBase (c .sizes) p) (pageWords (c .sizes) p) i e in
+      let near = spanning-true (pageBase (c .sizes) p) (pageWords (c .sizes) p) i e in
       page-of (c .sizes) p i below (near .0) (near .1)
 
   other-page : (i : ℕ) → i < total (c .sizes) → inPage i ≡ false → pageOf (c .sizes) i ≡ p → ⊥
   unfolding inPage
   other-page i h e same =
       let near = rw same at (page-in (c .sizes) i h) in
-      true-false (covers (pageBase (c .sizes) p) (pageWords (c .sizes) p) i (near .1) (near .2)) e
+      true-false (spanning-in (pageBase (c .sizes) p) (pageWords (c .sizes) p) i (near .1) (near .2)) e
 
   -- the page was not copied before, and is now
   old-epoch : epochOf (c .sizes) (w .work) p ≡ c .epoch

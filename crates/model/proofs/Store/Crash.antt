@@ -1,43 +1,39 @@
 -- The power may go at any moment: what holds of an open store makes its image restart to the committed contents.
 use mathlib.Core.Path.{_≡_, refl, sym, ap, ap₂, subst, _∙_}
-use mathlib.Core.List.{List, [], _∷_, _++_}
-use mathlib.Core.Bool.{Bool, true, false, cond, not, _&&_}
-use Prim.Native.Nat.{ℕ, zero, suc, _+_, _≤_, _<_}
+use mathlib.Core.List.{List, [], _∷_}
+use Prim.Native.Nat.{ℕ, _+_, _≤_, _<_}
 use native.Mathlib.Omega.{arith}
-use lib.Dec.{ltb, eqb, leb·suc-zero}
 use lib.ListN.{length, getD}
 use lib.Seq.{ext-getD}
-use borrow.Author.Tests.{ltb-true, ltb-false, eqb-true, eqb-false, lt-ltb, le-ltb, eq-eqb, ne-eqb}
+use borrow.Author.Tests.{eqb-false}
 use Rattle.model.specs.declared.Sizes.{Sizes}
 use Rattle.model.specs.declared.Core.{Core}
 use Rattle.model.specs.Word.{_⊕_}
 use Rattle.model.specs.Sizes.{total, ringOf}
-use Rattle.model.specs.Anchor.{sizesOn, epochOn, backupAt}
+use Rattle.model.specs.Anchor.{backupAt}
 use Rattle.model.specs.World.{World}
-use Rattle.model.specs.Memory.{lengthsRight}
 use Rattle.model.specs.Scan.{end}
 use Rattle.model.specs.State.{limit, startOf, tailOf, endOf}
-use Rattle.model.specs.Image.{Image, imageOf, logOf, restarted}
+use Rattle.model.specs.Image.{imageOf, logOf, restarted}
 use Rattle.model.specs.Reference.{Reference, wordsIn}
-use Rattle.model.proofs.Xor.{⊕-zero-l, ⊕-zero-r, ⊕-assoc, ⊕-comm}
 use Rattle.model.proofs.Bounds.{in-bounds}
 use Rattle.model.proofs.Reading.{ending}
 use Rattle.model.proofs.Slots.{words-length}
-use Rattle.model.proofs.Ledger.Entry.{Entry, isClose, adds, All, closedIn, chosen, mask, sum, pick, onDisk}
-use Rattle.model.proofs.Ledger.Order.{Ordered, on, Laid, entriesScan}
-use Rattle.model.proofs.Ledger.Sums.{sum-append, sum-zero, sum-ext, sum-xor, all-map, all-of, mask-zero}
+use Rattle.model.proofs.Ledger.Entry.{Entry, adds, All, closedIn, chosen, mask, sum}
+use Rattle.model.proofs.Ledger.Order.{on, entriesScan}
+use Rattle.model.proofs.Ledger.Sums.{all-map}
 use Rattle.model.proofs.Ledger.Picks.{all-pick}
 use Rattle.model.proofs.Ledger.Lists.{all-left}
-use Rattle.model.proofs.Ledger.Positions.{laid-append}
 use Rattle.model.proofs.Ledger.Ordered.{closed-same, closes-last, closesLast}
-use Rattle.model.proofs.Ledger.Good.{Good, recovers}
-use Rattle.model.proofs.Link.Words.{Fit, Link, image-log, retained-scan}
-use Rattle.model.proofs.Restart.Words.{xorBelow, xor-below-cong, getD-part}
+use Rattle.model.proofs.Ledger.Good.{recovers}
+use Rattle.model.proofs.Link.Words.{Fit, image-log, retained-scan}
+use Rattle.model.proofs.Restart.Words.{xor-below-cong}
 use Rattle.model.proofs.Restart.Gain.{gain, gains, restarted-word, length-restarted}
 use Rattle.model.proofs.Restart.Image.{length-backup}
 use Rattle.model.proofs.Restart.Entries.{gain-entries, ClosesLast}
 use Rattle.model.proofs.Restart.Disks.{sum-by-disk}
-use Rattle.model.proofs.Store.View.{Kept, Restartable, view, Devices, Safe}
+use Rattle.model.proofs.Store.View.{Kept, Restartable, view, Safe, flushed-laid}
+use Rattle.model.proofs.Parts.{getD-part}
 
 -- no entry behind a closing record has its number
 last-entries : (l : List Entry) → closesLast l → ClosesLast l
@@ -61,12 +57,9 @@ module _ {x : ℕ} {home : ℕ → ℕ} {c : Core} {w : World} {r : Reference} {
   part-of : ℕ → Entry → ℕ
   part-of i e = mask (chosen (closedIn F) (c .epoch) e) (adds i e)
 
-  laid : (d : ℕ) → d < s .disks → Laid (startOf (c .logs) d) (on d F)
-  laid d h = laid-append (startOf (c .logs) d) (on d F) (on d B) (g .ordered .laid d h) .0
-
   log : (d : ℕ) → d < s .disks → logOf (imageOf w) d ≡ entriesScan (on d F)
   log d h =
-      image-log (g .link) d h (g .devices .sizes) (g .devices .starts d h) fit (laid d h)
+      image-log (g .link) d h (g .devices .sizes) (g .devices .starts d h) fit (flushed-laid g d h)
 
   log-gain : (i d : ℕ) → d < s .disks → gain s (c .epoch) (logOf (imageOf w) d) i ≡ sum (part-of i) (on d F)
   unfolding part-of on
@@ -121,7 +114,7 @@ module _ {x : ℕ} {home : ℕ → ℕ} {c : Core} {w : World} {r : Reference} {
         lengths = rw (g .devices .sizes) (g .devices .lengths);
         formatted = rw (g .devices .epoch) (g .devices .formatted);
         tails = λ d. rw (g .devices .sizes) (λ h. rw (g .devices .starts d h, g .link .stored d h) (within-ring d h));
-        clean = λ d. rw (g .devices .sizes) (λ h. rw (retained-scan (g .link) d h (g .devices .starts d h) fit (laid d h)) (entries-end (on d F)));
+        clean = λ d. rw (g .devices .sizes) (λ h. rw (retained-scan (g .link) d h (g .devices .starts d h) fit (flushed-laid g d h)) (entries-end (on d F)));
       }
 
   -- a restart from this moment on gives what is committed

@@ -27,19 +27,21 @@ use Rattle.model.proofs.Below.{all-each}
 use Rattle.model.proofs.Run.{perform-append, perform-backups, perform-work, stores-append, stores-stored}
 use Rattle.model.proofs.Counts.{stores-list, restart-end-stores}
 use Rattle.model.proofs.Bounds.{Bounded, bounded}
-use Rattle.model.proofs.Lengths.{Lengths, lengths-right, all-four}
+use Rattle.model.proofs.Lengths.{Lengths, lengths-right}
 use Rattle.model.proofs.Slots.{Shaped}
 use Rattle.model.proofs.Ledger.Entry.{All}
-use Rattle.model.proofs.Ledger.Sums.{true-false}
 use Rattle.model.proofs.Link.Words.{lengths-perform}
 use Rattle.model.proofs.Restart.Image.{backup-within}
 use Rattle.model.proofs.Restart.Aside.{Aside, aside-append, aside-backup, aside-starts}
-use Rattle.model.proofs.Store.Rows.{row-passed, stage-row}
+use Rattle.model.proofs.Store.Rows.{stage-row}
 use Rattle.model.proofs.Store.View.{Kept, Served}
 use Rattle.model.proofs.Store.Steady.{kept-aside}
-use Rattle.model.proofs.Store.Puts.{setEach, length-set-each, set-each-other, set-each-in, perform-each-start, run-before, lengths-made, freshWork, run-word, fresh-epoch, fresh-owner}
+use Rattle.model.proofs.Store.Puts.{setEach, length-set-each, set-each-other, set-each-in, perform-each-start, run-before, lengths-made, freshWork, fresh-epoch, fresh-owner}
 use Rattle.model.proofs.Store.Anchor.{sizes-same}
 use Rattle.model.proofs.Store.Fresh.{Freshly, fresh-serving}
+use Rattle.model.proofs.Booleans.{true-false, all-four}
+use Rattle.model.proofs.Parts.{getD-sets-inside}
+use Rattle.model.proofs.Verdict.{row-passed}
 
 -- What the steps of a restart lead to: the state says what the anchor and the tails say, and the pages have the committed words.
 pub record AtEnd (c : Core) (w : World) (r : Reference) : Type 0 where
@@ -180,7 +182,7 @@ module _ (c : Core) (w : World) (r : Reference) (m : AtEnd c w r) (found : EndFo
         short = found .short;
         backup =
             λ i h.
-            run-word (w .backups) (backupAt s n) (w .pages) i (omega (arith, backup-within s n, found .lengths .pages, found .lengths .backups))
+            getD-sets-inside (w .backups) (backupAt s n) (w .pages) i (omega (arith, backup-within s n, found .lengths .pages, found .lengths .backups))
             (omega (arith, found .lengths .pages));
         pages = λ i h. ap (λ (l : List ℕ). getD l i 0) (m .pages);
         epochs = λ p h. fresh-epoch s n (w .work) (found .lengths .work) p (omega (arith, b .pages-max));

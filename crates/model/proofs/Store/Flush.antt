@@ -6,7 +6,6 @@ use Prim.Native.Nat.{ℕ, _+_, _≤_, _<_}
 use native.Mathlib.Omega.{arith}
 use native.Mathlib.Nat.{zero-add, add-assoc}
 use lib.Dec.{eqb}
-use lib.ListN.{length, getD}
 use Rattle.model.specs.declared.Logs.{Logs}
 use Rattle.model.specs.declared.Sizes.{Sizes}
 use Rattle.model.specs.declared.Table.{Table}
@@ -14,7 +13,7 @@ use Rattle.model.specs.declared.Core.{Core}
 use Rattle.model.specs.Sizes.{total, ringOf}
 use Rattle.model.specs.World.{World, perform, run, stores}
 use Rattle.model.specs.Memory.{epochOf, lengthsRight}
-use Rattle.model.specs.State.{startOf, fillOf, endOf, flushed, withLog, diskAtPlace, placeOf, isOpen, firstAt}
+use Rattle.model.specs.State.{startOf, endOf, flushed, withLog, placeOf, firstAt}
 use Rattle.model.specs.Anchor.{sizesOn, epochOn, startOn}
 use Rattle.model.specs.Append.{flush}
 use Rattle.model.specs.Transaction.{diskOf}
@@ -23,19 +22,20 @@ use Rattle.model.specs.History.{Put}
 use Rattle.model.proofs.Lengths.{Lengths, lengths-right}
 use Rattle.model.proofs.Run.{SameLengths, perform-lengths, run-lengths}
 use Rattle.model.proofs.Flush.{OnlyLogs}
-use Rattle.model.proofs.Ledger.Entry.{Entry, All, some, pick, onDisk, closedIn}
-use Rattle.model.proofs.Ledger.State.{Ledger, flushedDisk, Same}
-use Rattle.model.proofs.Ledger.Order.{Ordered, on, sizeOf, boundary}
+use Rattle.model.proofs.Ledger.Entry.{Entry, All, some, pick, onDisk}
+use Rattle.model.proofs.Ledger.State.{flushedDisk, Same}
+use Rattle.model.proofs.Ledger.Order.{on, sizeOf}
 use Rattle.model.proofs.Ledger.Sums.{all-map}
-use Rattle.model.proofs.Ledger.Good.{Good, good-same}
+use Rattle.model.proofs.Ledger.Good.{good-same}
 use Rattle.model.proofs.Ledger.Flush.{flush-good}
 use Rattle.model.proofs.Ledger.Picks.{some-append}
 use Rattle.model.proofs.Ledger.Lists.{all-flush, closed-flush, on-flush, some-halves}
 use Rattle.model.proofs.Ledger.Ordered.{ordered-flush}
-use Rattle.model.proofs.Link.Words.{Fit, Arrays, Link}
-use Rattle.model.proofs.Link.Flush.{flush-link, flush-only, flush-cut, cut-only, arrays-flushed, start-flushed, ends-flushed}
-use Rattle.model.proofs.Store.View.{view, Devices, Safe, Own, wordsFor, Accounts, Epochs, Sets, Owners, Serving, before}
+use Rattle.model.proofs.Link.Words.{Fit, Arrays, arrays-flushed, below-eight}
+use Rattle.model.proofs.Link.Flush.{flush-link, flush-only, flush-cut, cut-only}
+use Rattle.model.proofs.Store.View.{view, Devices, Safe, wordsFor, Accounts, Epochs, Serving, before}
 use Rattle.model.proofs.Store.Same.{owners-same}
+use Rattle.model.proofs.Growth.{start-flushed, ends-flushed}
 
 -- lists of the same lengths are as right
 pub lengths-same : (s : Sizes) {v w : World} → SameLengths v w → lengthsRight s w ≡ true → lengthsRight s v ≡ true
@@ -104,12 +104,12 @@ module _ {x : ℕ} {home : ℕ → ℕ} {c : Core} {w : World} {r : Reference} {
       record {
         devices =
             devices-kept (g .devices) (flushed (c .logs) d) (c .table) flushedWorld (start-flushed (c .logs) d)
-            (arrays-flushed (c .sizes) (c .logs) d (g .devices .arrays) below) (only .anchor-same) (perform-lengths _ w);
+            (arrays-flushed d (g .devices .arrays)) (only .anchor-same) (perform-lengths _ w);
         good = good-same same (flush-good home (g .ordered .homed) (g .good) d);
         link = flush-link (g .link) right (g .devices .arrays) d below room;
         ordered = ordered-flush (g .ordered) d;
         fit = all-flush (Fit (c .sizes)) (onDisk d) F B (g .fit);
-        ends = λ e h. rw (ends-flushed (c .sizes) (c .logs) d (g .devices .arrays) below e) (g .ends e h);
+        ends = λ e h. rw (ends-flushed (c .logs) d (g .devices .arrays .sized) (below-eight (g .devices .arrays) below) e) (g .ends e h);
         sizes = g .sizes;
         shaped = g .shaped;
       }

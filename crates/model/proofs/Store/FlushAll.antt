@@ -4,7 +4,6 @@ use mathlib.Core.List.{List, [], _∷_, _++_}
 use mathlib.Core.Bool.{Bool, true, false}
 use Prim.Native.Nat.{ℕ, zero, suc, _-_, _≤_, _<_}
 use native.Mathlib.Omega.{arith}
-use native.Mathlib.Decide.{ℕ-discrete}
 use lib.Dec.{ltb}
 use borrow.Author.Tests.{ltb-true, ltb-false, eq-eqb}
 use Rattle.model.specs.declared.Logs.{Logs}
@@ -21,11 +20,12 @@ use Rattle.model.proofs.Ledger.Entry.{Entry, All, pick, onDisk}
 use Rattle.model.proofs.Ledger.Order.{on}
 use Rattle.model.proofs.Ledger.Sums.{all-right}
 use Rattle.model.proofs.Ledger.Lists.{on-emptied, on-other-kept}
-use Rattle.model.proofs.Link.Words.{Arrays}
-use Rattle.model.proofs.Link.Flush.{flush-only, end-flushed, tail-flushed-other, fill-flushed-other}
+use Rattle.model.proofs.Link.Words.{Arrays, below-eight}
+use Rattle.model.proofs.Link.Flush.{flush-only}
 use Rattle.model.proofs.Store.View.{Kept, Serving}
 use Rattle.model.proofs.Store.Crash.{kept}
 use Rattle.model.proofs.Store.Flush.{left, flush-serving, cut-safe}
+use Rattle.model.proofs.Growth.{ends-flushed, tail-flushed-other, fill-flushed-other}
 
 -- entries of no disk are none
 none-left : (disks : ℕ) (l : List Entry) → All (λ r. r .disk < disks) l → ((d : ℕ) → d < disks → on d l ≡ []) → l ≡ []
@@ -124,12 +124,7 @@ module _ {x : ℕ} {home : ℕ → ℕ} {puts : List Put} {c : Core} {w : World}
     moved = subst (λ (l : List Action). perform l now .work ≡ now .work) same (flush-only (c .sizes) (e .logs) now n .work-same)
 
     ends-more : (d : ℕ) → d < c .sizes .disks → endOf (flushed (e .logs) n) d ≡ endOf (c .logs) d
-    unfolding endOf
-    ends-more d h = go (ℕ-discrete d n)
-      where
-        go : Dec (d ≡ n) → endOf (flushed (e .logs) n) d ≡ endOf (c .logs) d
-        go (yes here) = rw here (end-flushed (c .sizes) (e .logs) n arrays below ∙ e .ends n below)
-        go (no other) = omega (arith, tail-flushed-other (e .logs) n d other, fill-flushed-other (e .logs) n d other, e .ends d h)
+    ends-more d h = ends-flushed (e .logs) n (arrays .sized) (below-eight arrays below) d ∙ e .ends d h
 
     none-more : (d : ℕ) → d < suc n → on d (left n (e .buffered)) ≡ []
     none-more =

@@ -21,17 +21,17 @@ use Rattle.model.specs.Format.{formatRows, formatStores, freshMemory, fo
 use Rattle.model.specs.Reference.{blank}
 use Rattle.model.proofs.Run.{perform-append, perform-anchor, perform-backups, perform-pages, perform-work}
 use Rattle.model.proofs.Bounds.{Bounded, bounded}
-use Rattle.model.proofs.Lengths.{Lengths, lengths-right, length-part}
+use Rattle.model.proofs.Lengths.{Lengths, lengths-right}
 use Rattle.model.proofs.Ring.{tails-apart, disk-within}
 use Rattle.model.proofs.Slots.{blank-shaped, blank-words}
-use Rattle.model.proofs.Restart.Words.{getD-part}
 use Rattle.model.proofs.Restart.Image.{backup-within}
 use Rattle.model.proofs.Link.Words.{lengths-perform}
-use Rattle.model.proofs.Store.Rows.{row-passed}
 use Rattle.model.proofs.Store.View.{Served}
 use Rattle.model.proofs.Store.Puts.{setEach, set-each-in, perform-each-log, lengths-made, freshWork, same-word, fresh-epoch, fresh-owner}
 use Rattle.model.proofs.Store.Anchor.{laidAnchor, Laid, laid-anchor}
 use Rattle.model.proofs.Store.Fresh.{Freshly, fresh-serving}
+use Rattle.model.proofs.Parts.{length-part, getD-part}
+use Rattle.model.proofs.Verdict.{row-passed}
 
 -- what a format's actions do, for any words that they put
 laid-world : (s : Sizes) (w : World) (front slots widths rows zeros owners copies : List ℕ)

@@ -30,6 +30,7 @@ use Rattle.model.proofs.Ledger.Good.{Good, fresh-good, good-same}
 use Rattle.model.proofs.Link.Words.{Link}
 use Rattle.model.proofs.Store.View.{view, Devices, Safe, Accounts, Epochs, Sets, Owners, Served}
 use Rattle.model.proofs.Store.Same.{slot-lt}
+use Rattle.model.proofs.Growth.{none-buffered}
 
 -- What the devices, the memories and the reference are, where the store is openCore s n tails.
 pub record Freshly (s : Sizes) (n : ℕ) (tails : List ℕ) (v : World) (r : Reference) : Type 0 where
@@ -73,7 +74,10 @@ none-open t = go (isOpen noTable t) refl
 
 none-tabled : Tabled noTable
 none-tabled =
-    record { numbers = refl; disks = refl; firsts = refl; reserved = refl; distinct = λ i h z. absurd (z (none-number i h)) }
+    record {
+      sized = record { numbers = refl; disks = refl; firsts = refl; reserved = refl };
+      distinct = λ i h z. absurd (z (none-number i h));
+    }
 
 never : {X : Type 0} (t : ℕ) → isOpen noTable t ≡ true → X
 never t e = absurd (true≢false (sym e ∙ none-open t))
@@ -90,7 +94,7 @@ module _ {s : Sizes} {n : ℕ} {tails : List ℕ} {v : World} {r : Reference} (f
         epoch = f .epoch;
         formatted = f .formatted;
         starts = f .starts;
-        arrays = record { starts = f .eight; tails = f .eight; fills = refl; disks = f .bounds .disks-max; ring = omega (arith, f .bounds .ring-min) };
+        arrays = record { sized = record { starts = f .eight; tails = f .eight; fills = refl }; disks = f .bounds .disks-max; ring = omega (arith, f .bounds .ring-min) };
       }
 
   -- its ledger is a fresh one
@@ -115,10 +119,6 @@ module _ {s : Sizes} {n : ℕ} {tails : List ℕ} {v : World} {r : Reference} (f
       (fresh-good n (λ i. getD (v .pages) i 0) (λ i. getD (v .backups) (backupAt s (n + 1) + i) 0)
       (λ i. getD (v .work) (slotStart s i) 0))
 
-  none-buffered : (d : ℕ) → d < 8 → fillOf (emptyLogs tails) d ≡ 0
-  unfolding fillOf
-  none-buffered d h = getD-replicate 8 d 0 0 h
-
   fresh-link : Link s (emptyLogs tails) v [] []
   unfolding startOf tailOf on pick wordsOf encodeAll bufferOf part
   fresh-link =
@@ -126,15 +126,15 @@ module _ {s : Sizes} {n : ℕ} {tails : List ℕ} {v : World} {r : Reference} (f
         held = λ d h. tt;
         tail = λ d h. omega arith;
         stored = f .stored;
-        buffer = λ d h. rw (none-buffered d (omega (arith, f .bounds .disks-max)));
-        fill = λ d h. none-buffered d (omega (arith, f .bounds .disks-max));
+        buffer = λ d h. rw (none-buffered tails d (omega (arith, f .bounds .disks-max)));
+        fill = λ d h. none-buffered tails d (omega (arith, f .bounds .disks-max));
       }
 
   fresh-ends : (d : ℕ) → d < s .disks
       → (endOf (emptyLogs tails) d ≤ startOf (emptyLogs tails) d + ringOf s d) × (endOf (emptyLogs tails) d ≤ limit)
   unfolding endOf tailOf startOf
   fresh-ends d h =
-      let none : fillOf (emptyLogs tails) d ≡ 0 = none-buffered d (omega (arith, f .bounds .disks-max)) in
+      let none : fillOf (emptyLogs tails) d ≡ 0 = none-buffered tails d (omega (arith, f .bounds .disks-max)) in
       (omega arith, omega (arith, f .short d h))
 
   fresh-ordered : Ordered (s .disks) (startOf (emptyLogs tails)) (λ t. 0) [] []

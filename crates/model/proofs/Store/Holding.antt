@@ -1,27 +1,20 @@
 -- What holds between any two events, and how a call that is refused, taken or cut keeps it.
-use mathlib.Core.Path.{_≡_, refl, sym, ap, subst, _∙_}
-use mathlib.Core.List.{List, [], _∷_}
-use mathlib.Core.Bool.{Bool, true, false, cond}
+use mathlib.Core.Path.{_≡_, refl}
+use mathlib.Core.List.{List, []}
+use mathlib.Core.Bool.{true, false, cond}
 use Prim.Native.Nat.{ℕ}
-use Rattle.model.specs.declared.Stage.{Stage}
-use Rattle.model.specs.declared.Stage.the-variants.{Shut, Replaying, Open, Copying}
-use Rattle.model.specs.declared.Core.{Core}
-use Rattle.model.specs.declared.Answer.{Answer}
-use Rattle.model.specs.declared.Answer.the-variants.{Finished, Refused, Interrupted}
-use Rattle.model.specs.World.{World, perform, run, made, finishes}
+use Rattle.model.specs.declared.Stage.the-variants.{Shut}
+use Rattle.model.specs.World.{World, perform, run, finishes}
 use Rattle.model.specs.State.{newCore}
-use Rattle.model.specs.Refusal.{Row, Result, Task, verdict, accepted, row}
-use Rattle.model.specs.Causes.{whenShut, whenReplaying, whenOpen, whenCopying, whenServing, stageForbids}
-use Rattle.model.specs.Call.{Call, rowsOf, taskOf, budgetOf, resultOf}
+use Rattle.model.specs.Refusal.{Result, Task, verdict, accepted}
+use Rattle.model.specs.Call.{Call, rowsOf, taskOf, budgetOf}
 use Rattle.model.specs.Reference.{Reference, WriteSet, withSets, taken, outcomeOf, isBegin, afterTaken, heard, hear}
-use Rattle.model.specs.Machine.{Machine, Event, call, result, outcome, after, referred}
+use Rattle.model.specs.Machine.{Machine, call, result, outcome, after, referred}
 use Rattle.model.specs.History.{Put, toldBy, told}
 use Rattle.model.proofs.Run.{finished-run}
-use Rattle.model.proofs.Ledger.Sums.{true-false}
 use Rattle.model.proofs.Restart.Progress.{Progress}
 use Rattle.model.proofs.Store.View.{Kept, Served}
-use Rattle.model.proofs.Store.Cases.{call-cases, finishedBy, cutBy, refusedBy}
-use Rattle.model.proofs.Store.Rows.{row-passed, stage-row}
+use Rattle.model.proofs.Store.Cases.{call-cases}
 
 -- A shut store has devices that restart to the committed contents, a replaying one too, and how far it got; an open one serves.
 pub data Holding (puts : List Put) (m : Machine) (r : Reference) : Type 0 where

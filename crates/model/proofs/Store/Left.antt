@@ -2,42 +2,39 @@
 use mathlib.Core.Path.{_≡_, refl, sym, ap, _∙_}
 use mathlib.Core.List.{List, [], _∷_, _++_}
 use mathlib.Core.Bool.{Bool, true, false, cond, _&&_, and-false}
-use Prim.Native.Nat.{ℕ, _+_, _-_, _≤_, _<_}
-use native.Mathlib.Omega.{arith}
-use lib.Dec.{leb, ltb, eqb}
-use borrow.Author.Tests.{ltb-false, le-leb, eqb-false, ne-eqb, not-false}
+use Prim.Native.Nat.{ℕ, _+_, _≤_, _<_}
+use lib.Dec.{leb, eqb}
+use borrow.Author.Tests.{le-leb, eqb-false, ne-eqb}
 use Rattle.model.specs.declared.Sizes.{Sizes}
 use Rattle.model.specs.declared.Core.{Core}
-use Rattle.model.specs.declared.Fault.{Fault}
-use Rattle.model.specs.declared.Fault.the-variants.{Sound, BadRecord}
 use Rattle.model.specs.Word.{_⊕_}
 use Rattle.model.specs.Sizes.{ringOf}
 use Rattle.model.specs.Record.{Record, change, close, updateKind}
-use Rattle.model.specs.Scan.{Scan, end, bad, item, faultIn, updatesIn, updateWords}
+use Rattle.model.specs.Scan.{Scan, item, updatesIn, updateWords}
 use Rattle.model.specs.World.{World}
-use Rattle.model.specs.State.{limit, startOf, endOf, isOpen, placeOf, firstAt, reservedAt, hasUpdate, servingSound}
+use Rattle.model.specs.State.{limit, startOf, endOf, isOpen, placeOf, firstAt, hasUpdate}
 use Rattle.model.specs.Refusal.{accepted, verdict}
-use Rattle.model.specs.Causes.{notOpen, faultRow}
 use Rattle.model.specs.Transaction.{diskOf}
-use Rattle.model.specs.Abort.{abortScan, updatesLeft, abortFault, abortRows}
+use Rattle.model.specs.Abort.{abortScan, updatesLeft, abortRows}
 use Rattle.model.specs.Reference.{Reference}
 use Rattle.model.specs.History.{Put}
 use Rattle.model.proofs.RoundTrip.{WellFormed}
-use Rattle.model.proofs.Places.{open-place, place-holds}
+use Rattle.model.proofs.Places.{open-place}
 use Rattle.model.proofs.Xor.{⊕-zero-l}
 use Rattle.model.proofs.Ledger.Entry.{Entry, recordOf, All, sum, pick, mask, adds, onDisk}
 use Rattle.model.proofs.Ledger.Order.{on, entriesScan}
-use Rattle.model.proofs.Ledger.Sums.{true-false, sum-zero, all-append, all-map}
+use Rattle.model.proofs.Ledger.Sums.{sum-zero, all-append, all-map}
 use Rattle.model.proofs.Ledger.Picks.{all-pick}
 use Rattle.model.proofs.Ledger.Lists.{on-append}
 use Rattle.model.proofs.Ledger.Word.{ofTxn}
 use Rattle.model.proofs.Link.Words.{Fit}
-use Rattle.model.proofs.Link.Buffered.{Small}
 use Rattle.model.proofs.Link.Abort.{sumUpdates, abort-scan, updates-add}
 use Rattle.model.proofs.Store.View.{Serving}
-use Rattle.model.proofs.Store.Rows.{row-passed, serving-row, serving-sound, disk-sound, place-sound}
-use Rattle.model.proofs.Store.Closed.{reserved-on}
+use Rattle.model.proofs.Store.Rows.{serving-sound}
 use Rattle.model.proofs.Store.Compensate.{Slotted}
+use Rattle.model.proofs.Growth.{Small}
+use Rattle.model.proofs.Booleans.{true-false}
+use Rattle.model.proofs.Store.Accepted.{small-buffers, open-below, own-room, abort-accepted}
 
 -- picking leaves a sum that what is not picked adds nothing to
 pub sum-picked : {A : Type 0} (p : A → Bool) (f : A → ℕ) (l : List A) → All (λ q. p q ≡ false → f q ≡ 0) l → sum f (pick p l) ≡ sum f l
@@ -152,46 +149,15 @@ pub record MayAbort (c : Core) (w : World) (t : ℕ) : Type 0 where
   pub room : endOf (c .logs) (diskOf c t) + (updateWords (updatesLeft c w t) + 2) ≤ startOf (c .logs) (diskOf c t) + ringOf (c .sizes) (diskOf c t)
   pub in-limit : endOf (c .logs) (diskOf c t) + (updateWords (updatesLeft c w t) + 2) ≤ limit
 
-no-fault : (f : Fault) → faultRow f .applies ≡ false → f ≡ Sound
-no-fault Sound h = refl
-no-fault (BadRecord disk p) h = true-false refl h
-
-fault-rest : (disk : ℕ) (x : Scan) (rest : Fault) → faultIn disk x rest ≡ Sound → rest ≡ Sound
-unfolding faultIn
-fault-rest disk end rest h = h
-fault-rest disk (bad p) rest h = let z : _≡_ {A = ℕ} 0 1 = cc in absurd (omega arith)
-fault-rest disk (item p q more) rest h = fault-rest disk more rest h
-
--- row 7: the words of the updates are no more than are reserved for them
-fault-words : (c : Core) (w : World) (t : ℕ) → faultRow (abortFault c w t) .applies ≡ false
-    → updateWords (updatesLeft c w t) ≤ reservedAt (c .table) (placeOf (c .table) t) - 2
-unfolding abortFault
-fault-words c w t h = go _ refl (fault-rest _ _ _ (no-fault (abortFault c w t) h))
-  where
-    go : (b : Bool) → ltb (reservedAt (c .table) (placeOf (c .table) t) - 2) (updateWords (updatesLeft c w t)) ≡ b
-        → cond b (BadRecord (diskOf c t) (firstAt (c .table) (placeOf (c .table) t))) Sound ≡ Sound
-        → updateWords (updatesLeft c w t) ≤ reservedAt (c .table) (placeOf (c .table) t) - 2
-    go true e k = let z : _≡_ {A = ℕ} 0 1 = cc in absurd (omega arith)
-    go false e k = ltb-false _ _ e
-
 pub may-abort : (c : Core) (w : World) (t : ℕ) → verdict (abortRows c w t) ≡ accepted → MayAbort c w t
-unfolding abortRows notOpen diskOf endOf
-may-abort c w t v =
-    let r1 = row-passed _ _ v in
-    let r2 = row-passed _ _ (r1 .1) in
-    let r5 = row-passed _ _ (r2 .1) in
-    let r7 = row-passed _ _ (r5 .1) in
-    let r9 = row-passed _ _ (r7 .1) in
-    let serves = serving-row c (r1 .0) in
-    let fine : servingSound c ≡ true = serving-sound c (serves .0) (serves .1) in
-    let opened : isOpen (c .table) t ≡ true = not-false _ (r9 .0) in
-    let p = open-place (c .table) t opened in
-    let at = place-sound c (placeOf (c .table) t) fine (p .1) (λ z. p .0 (sym (place-holds (c .table) t (p .1)) ∙ z)) in
-    let disk = disk-sound c (diskOf c t) fine (at .disk) in
+may-abort c w t ok =
+    let a = abort-accepted c w t ok in
+    let good = serving-sound c (a .serving) (a .sound) in
+    let room = own-room c t good (a .opened) (updateWords (updatesLeft c w t) + 2) (a .words) in
     record {
-      opened = opened;
-      below = at .disk;
-      small = λ e h. disk-sound c e fine h .fill;
-      room = omega (arith, disk .room, disk .ordered, at .reserved, reserved-on c t opened, fault-words c w t (r7 .0));
-      in-limit = omega (arith, disk .limit, at .reserved, reserved-on c t opened, fault-words c w t (r7 .0));
+      opened = a .opened;
+      below = open-below c t good (a .opened);
+      small = small-buffers c good;
+      room = room .0;
+      in-limit = room .1;
     }

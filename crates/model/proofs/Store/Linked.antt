@@ -16,13 +16,11 @@ use Rattle.model.specs.Image.{imageOf, retainedWords, restarted}
 use Rattle.model.specs.Reference.{Reference}
 use Rattle.model.proofs.Run.{SameLengths}
 use Rattle.model.proofs.Reading.{ending}
-use Rattle.model.proofs.Ledger.Entry.{Entry, All}
-use Rattle.model.proofs.Ledger.Order.{on, Laid}
+use Rattle.model.proofs.Ledger.Entry.{Entry}
 use Rattle.model.proofs.Ledger.Lists.{all-left}
-use Rattle.model.proofs.Ledger.Positions.{laid-append}
 use Rattle.model.proofs.Link.Words.{Fit, Link, retained, retained-scan}
 use Rattle.model.proofs.Restart.Image.{image-same}
-use Rattle.model.proofs.Store.View.{Restartable, Kept, Safe}
+use Rattle.model.proofs.Store.View.{Restartable, Kept, Safe, flushed-laid}
 use Rattle.model.proofs.Store.Crash.{kept}
 use Rattle.model.proofs.Store.Flush.{lengths-same}
 
@@ -52,13 +50,10 @@ module _ {x : ℕ} {home : ℕ → ℕ} {c : Core} {m : Logs} {w v : World} {r :
   tail-linked : (d : ℕ) → d < s .disks → tailOn s v d ≡ tailOn s w d
   tail-linked d h = omega (arith, j .stored d h, j .tail d h, same d, g .link .stored d h, g .link .tail d h)
 
-  laid : (d : ℕ) → d < s .disks → Laid (startOf (c .logs) d) (on d F)
-  laid d h = laid-append (startOf (c .logs) d) (on d F) (on d B) (g .ordered .laid d h) .0
-
   scan-linked : (d : ℕ) → d < s .disks → retainedScan s v d ≡ retainedScan s w d
   scan-linked d h =
       let fit = all-left (Fit s) F B (g .fit) in
-      retained-scan j d h (start d h) fit (rw (same d) (laid d h)) ∙ sym (retained-scan (g .link) d h (g .devices .starts d h) fit (laid d h))
+      retained-scan j d h (start d h) fit (rw (same d) (flushed-laid g d h)) ∙ sym (retained-scan (g .link) d h (g .devices .starts d h) fit (flushed-laid g d h))
 
   restartable-linked : Restartable w → Restartable v
   restartable-linked h =

@@ -7,8 +7,6 @@ use native.Mathlib.Omega.{arith}
 use lib.Dec.{ltb, eqb}
 use lib.ListN.{length, getD}
 use borrow.Author.Tests.{ltb-true, le-ltb, eqb-true}
-use Rattle.model.specs.declared.Sizes.{Sizes}
-use Rattle.model.specs.declared.Logs.{Logs}
 use Rattle.model.specs.declared.Core.{Core}
 use Rattle.model.specs.World.{World}
 use Rattle.model.specs.Memory.{epochOf}
@@ -18,8 +16,8 @@ use Rattle.model.specs.Reference.{Reference}
 use Rattle.model.specs.History.{Put}
 use Rattle.model.proofs.Ledger.Entry.{Entry}
 use Rattle.model.proofs.Ledger.Order.{sizeOf, wordsOf, on, boundary}
-use Rattle.model.proofs.Ledger.Lists.{length-words, length-words-append}
-use Rattle.model.proofs.Link.Words.{Link}
+use Rattle.model.proofs.Ledger.Lists.{length-words}
+use Rattle.model.proofs.Link.Words.{log-end}
 use Rattle.model.proofs.Store.View.{Serving, before}
 
 -- a boundary is no later than the end
@@ -32,12 +30,6 @@ boundary-to q p (r ∷ l) h = go (eqb q p) refl h (boundary-to q (p + sizeOf r) 
         → (boundary q (p + sizeOf r) l ≡ true → q ≤ p + sizeOf r + length (wordsOf l)) → q ≤ p + length (wordsOf (r ∷ l))
     go true e x ih = omega (arith, eqb-true q p e)
     go false e x ih = omega (arith, ih x, length-words r l)
-
--- the end of a disk's log is the end of its entries
-pub log-end : {s : Sizes} {l : Logs} {w : World} {F B : List Entry} → Link s l w F B → (d : ℕ) → d < s .disks
-    → endOf l d ≡ startOf l d + length (wordsOf (on d F ++ on d B))
-unfolding endOf
-log-end {F = F} {B = B} k d below = omega (arith, k .tail d below, k .fill d below, length-words-append (on d F) (on d B))
 
 -- An entry at the end of its disk's log, with the copy epoch of its page.
 module _ {x : ℕ} {home : ℕ → ℕ} {puts : List Put} {c : Core} {w : World} {r : Reference} {F B : List Entry} (g : Serving x home puts c w r F B)

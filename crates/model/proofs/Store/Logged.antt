@@ -1,24 +1,22 @@
 -- A record appended where the buffer has room for it, and words of the memories written after it.
 use mathlib.Core.Path.{_≡_, refl, sym, ap, subst, fun-ext, _∙_}
 use mathlib.Core.List.{List, [], _∷_, _++_, map, append-assoc, append-nil}
-use mathlib.Core.Bool.{Bool, true, false, not, cond, _&&_, _||_}
+use mathlib.Core.Bool.{Bool, true, false, cond, _&&_}
 use Prim.Native.Nat.{ℕ, _+_, _≤_, _<_}
 use native.Mathlib.Omega.{arith}
 use native.Mathlib.Nat.{add-zero}
 use native.Mathlib.Decide.{ℕ-discrete}
-use lib.Dec.{ltb, eqb}
+use lib.Dec.{eqb}
 use lib.ListN.{length, getD}
-use borrow.Author.Tests.{eqb-true, eqb-false, eq-eqb, ne-eqb}
+use borrow.Author.Tests.{eq-eqb, ne-eqb}
 use Rattle.model.specs.declared.Sizes.{Sizes}
 use Rattle.model.specs.declared.Table.{Table}
-use Rattle.model.specs.declared.Logs.{Logs}
 use Rattle.model.specs.declared.Core.{Core}
 use Rattle.model.specs.Sizes.{total, ringOf}
 use Rattle.model.specs.Record.{Record, encode}
 use Rattle.model.specs.World.{World, perform, stores}
 use Rattle.model.specs.Memory.{bufferAt, epochAt, epochOf}
-use Rattle.model.specs.State.{limit, startOf, tailOf, fillOf, endOf, withLog, placeOf, isOpen, firstAt, reservedAt, hasUpdate, diskAtPlace}
-use Rattle.model.specs.Causes.{whenOpen, whenServing}
+use Rattle.model.specs.State.{limit, startOf, fillOf, endOf, withLog, placeOf, isOpen, firstAt, reservedAt, hasUpdate, diskAtPlace}
 use Rattle.model.specs.Append.{Appended, append}
 use Rattle.model.specs.Transaction.{diskOf}
 use Rattle.model.specs.Reference.{Reference}
@@ -29,17 +27,19 @@ use Rattle.model.proofs.Slots.{Shaped}
 use Rattle.model.proofs.Places.{Tabled}
 use Rattle.model.proofs.Ledger.Entry.{Entry, recordOf, isClose, some, All, closedIn}
 use Rattle.model.proofs.Ledger.Order.{Ordered, sizeOf, wordsOf, on, boundary}
-use Rattle.model.proofs.Ledger.Sums.{true-false, all-append, all-map, all-zip}
+use Rattle.model.proofs.Ledger.Sums.{all-append, all-map, all-zip}
 use Rattle.model.proofs.Ledger.Picks.{some-append, closed-append}
 use Rattle.model.proofs.Ledger.Lists.{on-more, on-less, length-words-append}
 use Rattle.model.proofs.Ledger.Positions.{boundary-more}
 use Rattle.model.proofs.Ledger.Ordered.{ordered-append}
 use Rattle.model.proofs.Ledger.Good.{Good}
-use Rattle.model.proofs.Link.Words.{Fit, Arrays, Link, lengths-perform}
-use Rattle.model.proofs.Link.Buffered.{Small, Longer, InBuffer, epochs-same, link-frame}
-use Rattle.model.proofs.Link.Append.{append-longer, append-in-buffer, append-room, room-logs, room-stores}
+use Rattle.model.proofs.Link.Words.{Fit, Link, lengths-perform, arrays-longer}
+use Rattle.model.proofs.Link.Buffered.{InBuffer, epochs-same, link-frame}
+use Rattle.model.proofs.Link.Append.{entry-longer, append-in-buffer, append-room, room-stores}
 use Rattle.model.proofs.Store.View.{view, Devices, Safe, Own, wordsFor, Accounts, Epochs, Since, before}
 use Rattle.model.proofs.Store.Flush.{lengths-same, devices-kept, words-for-append}
+use Rattle.model.proofs.Growth.{Small, Longer}
+use Rattle.model.proofs.Booleans.{true-false}
 
 -- After v only words of the memories were written, none of them a buffer's.
 pub record Written (s : Sizes) (v u : World) : Type 0 where
@@ -116,7 +116,7 @@ module _ {x : ℕ} {home : ℕ → ℕ} {c : Core} {w : World} {r : Reference} {
   short = omega arith
 
   pub longer : Longer (c .sizes) (e .disk) (sizeOf e) (c .logs) (logged .logs)
-  longer = append-longer w (g .devices .arrays) small (e .disk) below e short
+  longer = entry-longer w (g .devices .arrays) small (e .disk) below e short
 
   pub in-buffer : InBuffer (c .sizes) (e .disk) w loggedWorld
   in-buffer = append-in-buffer w (g .devices .arrays) small (e .disk) below e short
@@ -154,7 +154,7 @@ module _ {x : ℕ} {home : ℕ → ℕ} {c : Core} {w : World} {r : Reference} {
 
     pub devices-written : (t : Table) → Devices (withLog c (logged .logs) t) u
     devices-written t =
-        devices-kept (g .devices) (logged .logs) t u (longer .start-same) (longer .arrays) (k .anchor-same ∙ in-buffer .anchor-same)
+        devices-kept (g .devices) (logged .logs) t u (longer .start-same) (arrays-longer (g .devices .arrays) longer) (k .anchor-same ∙ in-buffer .anchor-same)
         lengths-written
 
     -- what a restart rests on, once the ledger is good

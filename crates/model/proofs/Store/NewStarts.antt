@@ -2,20 +2,19 @@
 use mathlib.Core.Path.{_≡_, refl, sym, ap, _∙_}
 use mathlib.Core.Logic.{_⊎_, inl, inr}
 use mathlib.Core.List.{List, [], _∷_, _++_, map, map-append, append-assoc, append-nil}
-use mathlib.Core.Bool.{Bool, true, false, cond, not, _&&_, _||_, and-eq-true-iff}
+use mathlib.Core.Bool.{Bool, true, false, cond, _&&_, _||_, and-eq-true-iff}
 use Prim.Native.Nat.{ℕ, _+_, _≤_, _<_}
 use native.Mathlib.Omega.{arith}
 use native.Mathlib.Nat.{zero-add}
 use lib.Dec.{leb, eqb}
 use lib.ListN.{getD}
-use borrow.Author.Tests.{lt-ltb, le-leb, lt-leb, eqb-true, eqb-false, eq-eqb, ne-eqb}
-use Rattle.model.specs.declared.Table.{Table}
+use borrow.Author.Tests.{lt-ltb, le-leb, lt-leb, eqb-true, eq-eqb, ne-eqb}
 use Rattle.model.specs.declared.Core.{Core}
 use Rattle.model.specs.Sizes.{total}
 use Rattle.model.specs.World.{World}
 use Rattle.model.specs.Record.{Record}
 use Rattle.model.specs.Memory.{epochOf}
-use Rattle.model.specs.State.{places, startOf, numberAt, diskAtPlace, firstAt, reservedAt, hasUpdate, servedBy, placeOf, isOpen}
+use Rattle.model.specs.State.{places, startOf, numberAt, firstAt, reservedAt, hasUpdate, placeOf, isOpen}
 use Rattle.model.specs.Causes.{whenOpen}
 use Rattle.model.specs.Checkpoint.{newStart}
 use Rattle.model.specs.Transaction.{diskOf}
@@ -23,16 +22,17 @@ use Rattle.model.specs.Reference.{Reference}
 use Rattle.model.specs.History.{Put}
 use Rattle.model.proofs.Meaning.{Holds, new-start}
 use Rattle.model.proofs.Geometry.{pageOf, page-in}
-use Rattle.model.proofs.Places.{open-place, place-open, place-holds}
+use Rattle.model.proofs.Places.{open-place, place-open, place-holds, served-is, served-here}
 use Rattle.model.proofs.Ledger.Entry.{Entry, recordOf, some, All, pick, onDisk}
 use Rattle.model.proofs.Ledger.Order.{Ordered, sizeOf, on, Laid, boundary}
-use Rattle.model.proofs.Ledger.Sums.{true-false, all-map, all-zip}
+use Rattle.model.proofs.Ledger.Sums.{all-map, all-zip}
 use Rattle.model.proofs.Ledger.Lists.{all-left, pick-swap, pick-whole, some-pick}
 use Rattle.model.proofs.Ledger.Positions.{size-ge, laid-append, laid-from, boundary-from}
 use Rattle.model.proofs.Ledger.Ordered.{keptFrom}
 use Rattle.model.proofs.Ledger.Checkpoint.{MaySwitch}
 use Rattle.model.proofs.Ledger.Switch.{Placed, switch-old, switch-closed, switch-last}
 use Rattle.model.proofs.Store.View.{view, Own, wordsFor, Since, Serving, before}
+use Rattle.model.proofs.Booleans.{true-false}
 
 -- a boundary from s on is one of the entries from s on
 boundary-kept : (p s q : ℕ) (l : List Entry) → Laid p l → boundary s p l ≡ true → boundary q p l ≡ true → s ≤ q
@@ -120,21 +120,6 @@ open-entries : (O : ℕ → Bool) (P : ℕ → Entry → Type 0) (l : List Entry
 open-entries O P [] h = tt
 open-entries O P (e ∷ l) h = ((λ o. h (e .number) o .0 refl), open-entries O P l (λ t o. h t o .1))
 
--- a place that serves a disk holds a transaction of it
-served-place : (t : Table) (d i : ℕ) → servedBy t d i ≡ true → (numberAt t i ≡ 0 → ⊥) × (diskAtPlace t i ≡ d)
-unfolding servedBy
-served-place t d i h = go (eqb (numberAt t i) 0) (eqb (diskAtPlace t i) d) refl refl h
-  where
-    go : (a b : Bool) → eqb (numberAt t i) 0 ≡ a → eqb (diskAtPlace t i) d ≡ b → not a && b ≡ true
-        → (numberAt t i ≡ 0 → ⊥) × (diskAtPlace t i ≡ d)
-    go true b p q z = true-false z refl
-    go false true p q z = (eqb-false _ _ p, eqb-true _ _ q)
-    go false false p q z = true-false z refl
-
-place-served : (t : Table) (d i : ℕ) → (numberAt t i ≡ 0 → ⊥) → diskAtPlace t i ≡ d → servedBy t d i ≡ true
-unfolding servedBy
-place-served t d i h k = rw (ne-eqb (numberAt t i) 0 h, eq-eqb (diskAtPlace t i) d k)
-
 -- where an open transaction's first record lies, and the end of a disk that the checkpoint's begin remembered
 abbrev pub firstOf : Core → ℕ → ℕ
 firstOf c t = firstAt (c .table) (placeOf (c .table) t)
@@ -168,7 +153,7 @@ module _ {home : ℕ → ℕ} {puts : List Put} {c : Core} {w : World} {r : Refe
       go (inr x) =
           let i : ℕ = x .0 in
           let t : ℕ = numberAt (c .table) i in
-          let at = served-place (c .table) d i (x .2 .0) in
+          let at = served-is (c .table) d i (x .2 .0) in
           let place : placeOf (c .table) t ≡ i = g .accounts .tabled .distinct i (x .1) (at .0) in
           let o : isOpen (c .table) t ≡ true = place-open (c .table) t (at .0) (rw place (x .1)) in
           rw (x .3) (rw (place, at .1) at (first-boundary t o (rw place (x .2 .1))))
@@ -184,7 +169,7 @@ module _ {home : ℕ → ℕ} {puts : List Put} {c : Core} {w : World} {r : Refe
       let at = open-place (c .table) t o in
       let there : numberAt (c .table) (placeOf (c .table) t) ≡ t = place-holds (c .table) t (at .1) in
       new-start c (diskOf c t) .at-most-first (placeOf (c .table) t) (at .1)
-      (place-served (c .table) (diskOf c t) (placeOf (c .table) t) (λ z. at .0 (sym there ∙ z)) refl, h)
+      (served-here (c .table) (diskOf c t) (placeOf (c .table) t) (λ z. at .0 (sym there ∙ z)) refl, h)
 
   reach : All (λ e. isOpen (c .table) (e .number) ≡ true → newStart c (e .disk) ≤ firstOf c (e .number)) F
   reach = all-zip one F own-entries (flat _ (g .safe .ordered .homed))

@@ -1,16 +1,15 @@
 -- A page copied to the other backup: which one it is, and the slices after it.
-use mathlib.Core.Path.{_≡_, refl, sym, ap, _∙_}
+use mathlib.Core.Path.{_≡_, sym, ap, _∙_}
 use mathlib.Core.Logic.{_⊎_, inl, inr}
 use mathlib.Core.List.{List, [], _∷_}
-use mathlib.Core.Bool.{Bool, true, false, cond, _&&_}
-use Prim.Native.Nat.{ℕ, zero, suc, _+_, _-_, _*_, _%_, _≤_, _<_}
+use mathlib.Core.Bool.{Bool, true, false, cond}
+use Prim.Native.Nat.{ℕ, _+_, _-_, _*_, _%_, _≤_, _<_}
 use native.Mathlib.Omega.{arith}
 use native.Mathlib.Decide.{ℕ-discrete}
-use native.Mathlib.Nat.{zero-mul, one-mul, add-zero}
-use lib.Dec.{leb, ltb}
-use lib.ListN.{length, getD, set, drop, length-set}
+use native.Mathlib.Nat.{zero-mul, one-mul}
+use lib.ListN.{length, getD, set, drop}
 use lib.Seq.{sets, getD-set-same, getD-set-other, getD-take, getD-drop}
-use borrow.Author.Tests.{leb-true, leb-false, ltb-true, ltb-false, le-leb, lt-ltb}
+use borrow.Author.Tests.{leb-true, leb-false, le-leb}
 use Rattle.model.specs.declared.Sizes.{Sizes}
 use Rattle.model.specs.declared.Core.{Core}
 use Rattle.model.specs.Below.{firstBelow}
@@ -25,46 +24,15 @@ use Rattle.model.specs.Causes.{whenCopying}
 use Rattle.model.specs.Checkpoint.{toCopy, lowestToCopy, checkpointStepRows, copyPage, checkpointStepTask}
 use Rattle.model.proofs.Below.{first-passes, first-before}
 use Rattle.model.proofs.Run.{perform-append, perform-backups}
-use Rattle.model.proofs.Lengths.{Lengths, lengths-right, length-part}
+use Rattle.model.proofs.Lengths.{Lengths, lengths-right}
 use Rattle.model.proofs.Geometry.{page-end}
 use Rattle.model.proofs.Ledger.Entry.{spanning}
-use Rattle.model.proofs.Ledger.Sums.{true-false}
-use Rattle.model.proofs.Link.Parts.{getD-sets-before, getD-sets-behind, part-sets-before}
+use Rattle.model.proofs.Parts.{getD-sets-before, getD-sets-behind, part-sets-before, length-part, getD-sets-inside, spanning-true, spanning-false}
 use Rattle.model.proofs.Restart.Image.{backup-within}
 use Rattle.model.proofs.Store.View.{Devices}
-use Rattle.model.proofs.Store.Rows.{row-passed, stage-row}
-
--- a word of a run
-getD-sets-inside : (l : List ℕ) (i : ℕ) (vs : List ℕ) (k : ℕ) → i + length vs ≤ length l → k < length vs → getD (sets l i vs) (i + k) 0 ≡ getD vs k 0
-getD-sets-inside l i [] k h j = absurd (omega arith)
-getD-sets-inside l i (x ∷ vs) zero h j =
-    rw add-zero (getD-sets-before (set l i x) (suc i) vs i (omega arith) ∙ getD-set-same l i x 0 (omega arith))
-getD-sets-inside l i (x ∷ vs) (suc k) h j =
-    let e : i + suc k ≡ suc i + k = omega arith in
-    rw e (getD-sets-inside (set l i x) (suc i) vs k (rw length-set (omega arith)) (omega arith))
-
--- a word within a span, or outside it
-pub spans : (at n i : ℕ) → spanning at n i ≡ true → (at ≤ i) × (i < at + n)
-unfolding spanning
-spans at n i = go (leb at i) (ltb i (at + n)) refl refl
-  where
-    go : (a b : Bool) → leb at i ≡ a → ltb i (at + n) ≡ b → a && b ≡ true → (at ≤ i) × (i < at + n)
-    go true true p q z = (leb-true at i p, ltb-true i (at + n) q)
-    go true false p q z = true-false refl (sym z)
-    go false b p q z = true-false refl (sym z)
-
-pub covers : (at n i : ℕ) → at ≤ i → i < at + n → spanning at n i ≡ true
-unfolding spanning
-covers at n i h k = rw (le-leb at i h, lt-ltb i (at + n) k)
-
-misses : (at n i : ℕ) → spanning at n i ≡ false → (i < at) ⊎ (at + n ≤ i)
-unfolding spanning
-misses at n i = go (leb at i) (ltb i (at + n)) refl refl
-  where
-    go : (a b : Bool) → leb at i ≡ a → ltb i (at + n) ≡ b → a && b ≡ false → (i < at) ⊎ (at + n ≤ i)
-    go true true p q z = true-false refl z
-    go true false p q z = inr (ltb-false i (at + n) q)
-    go false b p q z = inl (leb-false at i p)
+use Rattle.model.proofs.Store.Rows.{stage-row}
+use Rattle.model.proofs.Booleans.{true-false}
+use Rattle.model.proofs.Verdict.{row-passed}
 
 -- the two backups lie apart
 backups-apart : (s : Sizes) (c : ℕ) → (backupAt s c + total s ≤ backupAt s (c + 1)) ⊎ (backupAt s (c + 1) + total s ≤ backupAt s c)
@@ -152,12 +120,12 @@ module _ {c : Core} {w : World} (ok : verdict (checkpointStepRows c w) ≡ accep
       → cond b (getD (w .pages) i 0) (getD (w .backups) (backupAt (c .sizes) (c .epoch + 1) + i) 0)
       ≡ getD (after .backups) (backupAt (c .sizes) (c .epoch + 1) + i) 0
   other-word i h true e =
-      let near = spans from size i e in
+      let near = spanning-true from size i e in
       let k : i ≡ from + (i - from) = omega arith in
       let j : backupAt (c .sizes) (c .epoch + 1) + i ≡ at + (i - from) = omega arith in
       rw j (ap (λ (x : ℕ). getD (w .pages) x 0) k ∙ sym (word (i - from) (omega arith))
       ∙ sym (getD-sets-inside (w .backups) at words (i - from) end-within (omega (arith, size-words))))
-  other-word i h false e = go (misses from size i e)
+  other-word i h false e = go (spanning-false from size i e)
     where
       go : (i < from) ⊎ (from + size ≤ i)
           → getD (w .backups) (backupAt (c .sizes) (c .epoch + 1) + i) 0 ≡ getD (after .backups) (backupAt (c .sizes) (c .epoch + 1) + i) 0

@@ -1,8 +1,8 @@
 -- While the store is open, its page memory is a plain table of slots: the committed contents with the open write sets over them.
 use mathlib.Core.Path.{_≡_, refl, sym, ap, ap₂, subst, _∙_}
-use mathlib.Core.List.{List, [], _∷_, _++_, map}
+use mathlib.Core.List.{List, [], _∷_, map}
 use mathlib.Core.Bool.{Bool, true, false, cond, not, _&&_, _||_, and-eq-true-iff}
-use Prim.Native.Nat.{ℕ, zero, suc, _+_, _-_, _≤_, _<_}
+use Prim.Native.Nat.{ℕ, _≤_, _<_}
 use native.Mathlib.Omega.{arith}
 use native.Mathlib.Decide.{ℕ-discrete}
 use lib.Dec.{leb, eqb}
@@ -14,36 +14,28 @@ use Rattle.model.specs.declared.Core.{Core}
 use Rattle.model.specs.Sizes.{total, slotsIn, widthIn, slotBase}
 use Rattle.model.specs.World.{World}
 use Rattle.model.specs.Memory.{ownerAt, ownerOf}
-use Rattle.model.specs.State.{isOpen, inTable}
+use Rattle.model.specs.State.{isOpen}
 use Rattle.model.specs.Refusal.{verdict, accepted}
 use Rattle.model.specs.Causes.{locked, slotMissing}
 use Rattle.model.specs.Transaction.{readRows, readWords, slotWords}
-use Rattle.model.specs.Reference.{Reference, Write, WriteSet, writesOf, applied, laidOver, plainTable, writesSlot, writtenByOther, slotIndex, wordsIn}
+use Rattle.model.specs.Reference.{Reference, Write, WriteSet, writesOf, laidOver, plainTable, writesSlot, writtenByOther, slotIndex, wordsIn}
 use Rattle.model.specs.Call.{read}
 use Rattle.model.specs.Machine.{Machine, outcome, result}
 use Rattle.model.specs.History.{Put}
 use Rattle.model.specs.Promise.{PlainTable}
-use Rattle.model.proofs.Bounds.{Bounded}
 use Rattle.model.proofs.Geometry.{slotStart, slot-start}
 use Rattle.model.proofs.Lengths.{lengths-right}
 use Rattle.model.proofs.Slots.{patchOf, Fits, Shaped, applied-shaped, words-applied, words-length, words-at}
 use Rattle.model.proofs.WriteSets.{hasSet, Distinct}
-use Rattle.model.proofs.Ledger.Entry.{Entry, All, Patch, patch, patched, spanning}
-use Rattle.model.proofs.Ledger.Sums.{true-false, all-map, all-zip}
-use Rattle.model.proofs.Ledger.Picks.{or-false}
-use Rattle.model.proofs.Ledger.Good.{Good, plain-table, plain-table-free}
-use Rattle.model.proofs.Restart.Words.{spanning-in}
+use Rattle.model.proofs.Ledger.Entry.{Entry, All, patch, patched, spanning}
+use Rattle.model.proofs.Ledger.Sums.{all-map, all-zip}
+use Rattle.model.proofs.Ledger.Good.{plain-table, plain-table-free}
 use Rattle.model.proofs.Restart.Taken.{taken-call}
 use Rattle.model.proofs.Store.View.{view, Serving, Served}
 use Rattle.model.proofs.Store.Same.{slot-lt}
-use Rattle.model.proofs.Store.Rows.{row-passed}
-
--- two tests that give each other are one
-both-ways : (a b : Bool) → (a ≡ true → b ≡ true) → (b ≡ true → a ≡ true) → a ≡ b
-both-ways true true f g = refl
-both-ways true false f g = true-false (f refl) refl
-both-ways false true f g = true-false (g refl) refl
-both-ways false false f g = refl
+use Rattle.model.proofs.Booleans.{true-false, or-none, both-ways, or-right}
+use Rattle.model.proofs.Parts.{spanning-in}
+use Rattle.model.proofs.Verdict.{row-passed}
 
 -- a write set in the list is found under its number
 own-writes : (sets : List WriteSet) → Distinct sets
@@ -62,7 +54,7 @@ own-writes (x ∷ xs) d =
         → All (λ (y : WriteSet). (writesOf (y .number) (x ∷ xs) ≡ y .writes) × (hasSet (y .number) (x ∷ xs) ≡ true)) l
     later whole [] n h = tt
     later whole (y ∷ l) n h =
-        let k = or-false (eqb (y .number) (x .number)) (hasSet (x .number) l) n in
+        let k = or-none (eqb (y .number) (x .number)) (hasSet (x .number) l) n in
         (here y (λ e. true-false (eq-eqb (y .number) (x .number) (sym e)) (k .0)) (h .0), later whole l (k .1) (h .1))
 
 -- the write sets laid over a word, first to last
@@ -93,7 +85,7 @@ fold-none : (s : Sizes) (i o : ℕ) (sets : List WriteSet) → hasSet o sets ≡
 unfolding hasSet foldSets Idle
 fold-none s i o [] n h v = refl
 fold-none s i o (x ∷ xs) n h v =
-    let k = or-false (eqb (x .number) o) (hasSet o xs) n in
+    let k = or-none (eqb (x .number) o) (hasSet o xs) n in
     ap (foldSets s i xs) (h .0 (eqb-false (x .number) o (k .0)) v) ∙ fold-none s i o xs (k .1) (h .1) v
 
 fold-one : (s : Sizes) (i o : ℕ) (sets : List WriteSet) → Distinct sets → hasSet o sets ≡ true → All (Idle s i o) sets → (v : ℕ)
@@ -115,10 +107,6 @@ unfolding hasSet writesOf writtenByOther
 found-other number page slot h [] a b ne = true-false a refl
 found-other number page slot h (x ∷ xs) a b ne = go (eqb (x .number) h) refl a b (λ a b. found-other number page slot h xs a b ne)
   where
-    or-right : (a b : Bool) → b ≡ true → (a || b) ≡ true
-    or-right true b e = refl
-    or-right false b e = e
-
     go : (t : Bool) → eqb (x .number) h ≡ t → (t || hasSet h xs) ≡ true → writesSlot page slot (cond t (x .writes) (writesOf h xs)) ≡ true
         → (hasSet h xs ≡ true → writesSlot page slot (writesOf h xs) ≡ true → writtenByOther number page slot xs ≡ true)
         → ((not (eqb (x .number) number) && writesSlot page slot (x .writes)) || writtenByOther number page slot xs) ≡ true
@@ -144,7 +132,7 @@ read-slot : (c : Core) (w : World) (reader page slot : ℕ) → verdict (readRow
 unfolding readRows slotMissing
 read-slot c w reader page slot v =
     let r5 = row-passed _ _ (row-passed _ _ (row-passed _ _ v .1) .1) .1 in
-    let r8 = or-false (leb (c .sizes .pages) page) (leb (slotsIn (c .sizes) page) slot) (row-passed _ _ r5 .0) in
+    let r8 = or-none (leb (c .sizes .pages) page) (leb (slotsIn (c .sizes) page) slot) (row-passed _ _ r5 .0) in
     (leb-false _ _ (r8 .0), leb-false _ _ (r8 .1))
 
 -- where a write set has a write to a slot, what it leaves in the slot's first word does not hang on what was there

@@ -4,7 +4,6 @@ use mathlib.Core.List.{List, [], _∷_, _++_, append-assoc}
 use mathlib.Core.Bool.{true, false}
 use Prim.Native.Nat.{ℕ, _+_, _≤_, _<_}
 use native.Mathlib.Omega.{arith}
-use native.Mathlib.Decide.{decLt}
 use lib.ListN.{getD}
 use Rattle.model.specs.declared.Sizes.{Sizes}
 use Rattle.model.specs.declared.Table.{Table}
@@ -21,31 +20,21 @@ use Rattle.model.specs.Reference.{Reference}
 use Rattle.model.specs.History.{Put, recordsOn}
 use Rattle.model.proofs.Run.{perform-append, stores-append, run-cut}
 use Rattle.model.proofs.Slots.{Shaped}
-use Rattle.model.proofs.Places.{open-place}
 use Rattle.model.proofs.Ledger.Entry.{Entry, recordOf, isClose, sum, closedIn}
 use Rattle.model.proofs.Ledger.State.{Same}
 use Rattle.model.proofs.Ledger.Order.{sizeOf, on, boundary}
-use Rattle.model.proofs.Ledger.Sums.{true-false, all-map}
+use Rattle.model.proofs.Ledger.Sums.{all-map}
 use Rattle.model.proofs.Ledger.Picks.{some-append}
 use Rattle.model.proofs.Ledger.Word.{sum-snoc}
 use Rattle.model.proofs.Ledger.Good.{Good, good-same}
-use Rattle.model.proofs.Link.Words.{Fit}
-use Rattle.model.proofs.Link.Buffered.{Small, Longer, InBuffer}
-use Rattle.model.proofs.Link.Append.{append-longer, append-in-buffer}
-use Rattle.model.proofs.Store.View.{Kept, view, Safe, Accounts, Epochs, Since, Serving, before}
+use Rattle.model.proofs.Link.Words.{Fit, log-end}
+use Rattle.model.proofs.Link.Buffered.{InBuffer}
+use Rattle.model.proofs.Link.Append.{entry-longer, append-in-buffer}
+use Rattle.model.proofs.Store.View.{Kept, view, Safe, Accounts, Epochs, Since, Serving, before, open-used}
 use Rattle.model.proofs.Store.Ready.{Ready, ready, ready-sums}
-use Rattle.model.proofs.Store.LogEnd.{boundary-to, log-end}
+use Rattle.model.proofs.Store.LogEnd.{boundary-to}
 use Rattle.model.proofs.Store.Logged.{Written, told-more, boundary-logged, logged, logged-stores, safe-written, epochs-written, accounts-logged}
-
--- a transaction in the table has a number that was handed out
-pub open-used : {x : ℕ} {home : ℕ → ℕ} {c : Core} {w : World} {r : Reference} {F B : List Entry} → Safe x home c w r F B
-    → (t : ℕ) → isOpen (c .table) t ≡ true → (1 ≤ t) × (t < c .next)
-unfolding view
-open-used {c = c} g t opened = (omega (arith, open-place (c .table) t opened .0), go (decLt t (c .next)))
-  where
-    go : Dec (t < c .next) → t < c .next
-    go (yes h) = h
-    go (no h) = true-false opened (g .good .unused t (omega arith) .1)
+use Rattle.model.proofs.Growth.{Small, Longer}
 
 -- The entry is of an open transaction, on its disk and at the end there, and the log has room for it.
 pub record MayPut (c : Core) (e : Entry) : Type 0 where
@@ -68,7 +57,7 @@ module _ {x : ℕ} {home : ℕ → ℕ} {puts : List Put} {c : Core} {w : World}
   put = append (c .sizes) (c .logs) (w .work) (e .disk) (encode (recordOf e))
 
   pub put-longer : Longer (c .sizes) (e .disk) (sizeOf e) (c .logs) (put .logs)
-  put-longer = append-longer w (g .safe .devices .arrays) (may .small) (e .disk) (may .below) e (may .short)
+  put-longer = entry-longer w (g .safe .devices .arrays) (may .small) (e .disk) (may .below) e (may .short)
 
   pub put-in-buffer : InBuffer (c .sizes) (e .disk) w (perform (put .actions) w)
   put-in-buffer = append-in-buffer w (g .safe .devices .arrays) (may .small) (e .disk) (may .below) e (may .short)

@@ -17,7 +17,7 @@ use Rattle.model.specs.Memory.{bufferAt, epochAt, workWords, epochOf, le
 use Rattle.model.proofs.Below.{below-suc}
 use Rattle.model.proofs.Run.{perform-append, covered-append, covered-cut, covered-all}
 use Rattle.model.proofs.Lengths.{Lengths}
-use Rattle.model.proofs.Restart.Words.{sets-before, sets-in}
+use Rattle.model.proofs.Parts.{getD-sets-before, getD-sets-inside}
 
 -- the words of the disks below n, each set at its disk's place
 unfoldable pub setEach : (ℕ → ℕ) → (ℕ → ℕ) → ℕ → List ℕ → List ℕ
@@ -76,22 +76,16 @@ lengths-made s w h = rw (eq-eqb _ _ (h .pages), eq-eqb _ _ (h .backups), eq-eqb 
 unfoldable pub freshWork : Sizes → ℕ → List ℕ → List ℕ
 freshWork s epoch l = sets (sets l 0 (replicate (total s) 0)) (epochAt s 0) (replicate 64 epoch)
 
--- a run of words, read within it
-pub run-word : (l : List ℕ) (i : ℕ) (xs : List ℕ) (k : ℕ) → i + length xs ≤ length l → k < length xs
-    → getD (sets l i xs) (i + k) 0 ≡ getD xs k 0
-run-word l i xs k fits h =
-    sets-in l i xs (i + k) fits (omega arith) (omega arith) ∙ ap (λ (j : ℕ). getD xs j 0) (omega arith)
-
 -- a run from the first word on
 pub first-word : (l xs : List ℕ) (k : ℕ) → length xs ≤ length l → k < length xs → getD (sets l 0 xs) k 0 ≡ getD xs k 0
 first-word l xs k fits h =
-    ap (λ (j : ℕ). getD (sets l 0 xs) j 0) (omega arith) ∙ run-word l 0 xs k (omega arith) h
+    ap (λ (j : ℕ). getD (sets l 0 xs) j 0) (omega arith) ∙ getD-sets-inside l 0 xs k (omega arith) h
 
 -- a run of words all the same
 pub same-word : (l : List ℕ) (i n x k : ℕ) → i + n ≤ length l → k < n → getD (sets l i (replicate n x)) (i + k) 0 ≡ x
 same-word l i n x k fits h =
     let long : length (replicate n x) ≡ n = length-replicate n x in
-    run-word l i (replicate n x) k (omega (arith, long)) (omega (arith, long)) ∙ getD-replicate n k x 0 h
+    getD-sets-inside l i (replicate n x) k (omega (arith, long)) (omega (arith, long)) ∙ getD-replicate n k x 0 h
 
 -- the copy epoch of every page, read from the fresh memory
 pub fresh-epoch : (s : Sizes) (epoch : ℕ) (l : List ℕ) → length l ≡ workWords s → (p : ℕ) → p < 64
@@ -109,7 +103,7 @@ unfolding freshWork epochAt bufferAt workWords
 fresh-owner s epoch l long i h =
     let owners : List ℕ = replicate (total s) 0 in
     let many : length owners ≡ total s = length-replicate (total s) 0 in
-    sets-before (sets l 0 owners) (epochAt s 0) (replicate 64 epoch) i (omega arith)
+    getD-sets-before (sets l 0 owners) (epochAt s 0) (replicate 64 epoch) i (omega arith)
     ∙ first-word l owners i (omega arith) (omega arith)
     ∙ getD-replicate (total s) i 0 0 h
 

@@ -1,6 +1,6 @@
 -- Before a record is appended the buffer has room for it, after a flush if need be; cut inside that flush, nothing is lost.
 use mathlib.Core.Path.{_≡_, refl, sym, ap, _∙_}
-use mathlib.Core.List.{List, [], _∷_, _++_}
+use mathlib.Core.List.{List, [], _++_}
 use mathlib.Core.Bool.{Bool, true, false, not}
 use Prim.Native.Nat.{ℕ, _+_, _≤_, _<_}
 use native.Mathlib.Omega.{arith}
@@ -11,25 +11,23 @@ use borrow.Author.Tests.{leb-true, leb-false, le-leb, lt-leb}
 use Rattle.model.specs.declared.Logs.{Logs}
 use Rattle.model.specs.declared.Core.{Core}
 use Rattle.model.specs.Word.{_⊕_}
-use Rattle.model.specs.Sizes.{ringOf}
 use Rattle.model.specs.World.{World, Action, perform, run, stores}
 use Rattle.model.specs.State.{startOf, fillOf, endOf, flushed, withLog}
-use Rattle.model.specs.Append.{Appended, append, appendIf, flush}
+use Rattle.model.specs.Append.{append, flush}
 use Rattle.model.specs.Reference.{Reference}
 use Rattle.model.specs.History.{Put}
-use Rattle.model.proofs.Flush.{OnlyLogs}
+use Rattle.model.proofs.Flush.{OnlyLogs, none-changed}
 use Rattle.model.proofs.Xor.{⊕-assoc}
 use Rattle.model.proofs.Ledger.Entry.{Entry, sum, pick, onDisk}
 use Rattle.model.proofs.Ledger.Order.{on}
 use Rattle.model.proofs.Ledger.Sums.{sum-append}
 use Rattle.model.proofs.Ledger.Picks.{sum-pick}
-use Rattle.model.proofs.Link.Words.{Arrays}
-use Rattle.model.proofs.Link.Flush.{flush-only, fill-flushed, end-flushed, start-flushed}
-use Rattle.model.proofs.Link.Buffered.{Small}
-use Rattle.model.proofs.Link.Append.{small-flushed}
-use Rattle.model.proofs.Store.View.{Kept, Safe, Serving}
+use Rattle.model.proofs.Link.Flush.{flush-only}
+use Rattle.model.proofs.Store.View.{Kept, Serving}
 use Rattle.model.proofs.Store.Crash.{kept}
-use Rattle.model.proofs.Store.Flush.{flushedCore, left, flush-serving, cut-safe}
+use Rattle.model.proofs.Store.Flush.{left, flush-serving, cut-safe}
+use Rattle.model.proofs.Growth.{fill-flushed, ends-flushed, start-flushed, Small, flush-longer, Longer}
+use Rattle.model.proofs.Link.Words.{below-eight}
 
 -- The store with room for n words in the buffer of disk d: `flushing` is the flush, or nothing.
 pub record Ready (x : ℕ) (home : ℕ → ℕ) (puts : List Put) (c : Core) (w : World) (r : Reference) (d n : ℕ) : Type 0 where
@@ -79,7 +77,7 @@ module _ {x : ℕ} {home : ℕ → ℕ} {puts : List Put} {c : Core} {w : World}
         small = small;
         starts = λ e. refl;
         ends = refl;
-        only = record { anchor-same = refl; pages-same = refl; backups-same = refl; work-same = refl };
+        only = none-changed w;
         split = λ words e. refl;
         cut = λ k l. absurd (omega arith);
       }
@@ -90,8 +88,11 @@ module _ {x : ℕ} {home : ℕ → ℕ} {puts : List Put} {c : Core} {w : World}
   only : OnlyLogs w (perform flushing w)
   only = flush-only (c .sizes) (c .logs) w d
 
+  longer : Longer (c .sizes) d 0 (c .logs) (flushed (c .logs) d)
+  longer = flush-longer (c .sizes) (c .logs) d (g .safe .devices .arrays .sized) small (below-eight (g .safe .devices .arrays) below)
+
   emptied : fillOf (flushed (c .logs) d) d ≡ 0
-  emptied = fill-flushed (c .sizes) (c .logs) d (g .safe .devices .arrays) below
+  emptied = fill-flushed (c .logs) d (g .safe .devices .arrays .sized) (below-eight (g .safe .devices .arrays) below)
 
   split : 64 < fillOf (c .logs) d + n → (words : List ℕ) → length words ≡ n
       → append (c .sizes) (c .logs) (w .work) d words
@@ -120,9 +121,9 @@ module _ {x : ℕ} {home : ℕ → ℕ} {puts : List Put} {c : Core} {w : World}
         buffered = left d B;
         serving = flush-serving g d below;
         room = omega (arith, emptied);
-        small = small-flushed d (g .safe .devices .arrays) below small;
+        small = longer .small;
         starts = start-flushed (c .logs) d;
-        ends = end-flushed (c .sizes) (c .logs) d (g .safe .devices .arrays) below;
+        ends = ends-flushed (c .logs) d (g .safe .devices .arrays .sized) (below-eight (g .safe .devices .arrays) below) d;
         only = only;
         split = split over;
         cut = λ k l. kept (cut-safe (g .safe) d below k l);

@@ -1,9 +1,7 @@
 -- What an accepted call may rely on: none of its rows applies, so its stage is right and the state is within its bounds.
 use mathlib.Core.Path.{_≡_, refl, sym}
-use mathlib.Core.List.{List, _∷_}
-use mathlib.Core.Bool.{Bool, true, false, cond, not, _&&_, _||_, and-eq-true-iff}
+use mathlib.Core.Bool.{Bool, true, false, not, _&&_, _||_}
 use Prim.Native.Nat.{ℕ, _+_, _-_, _≤_, _<_}
-use native.Mathlib.Omega.{arith}
 use lib.Dec.{leb, ltb}
 use lib.ListN.{getD}
 use borrow.Author.Tests.{leb-true, ltb-true, ne-eqb, not-false}
@@ -13,23 +11,9 @@ use Rattle.model.specs.declared.Core.{Core}
 use Rattle.model.specs.Below.{within, allBelow}
 use Rattle.model.specs.Sizes.{ringOf, sizesInBounds}
 use Rattle.model.specs.State.{places, limit, startOf, tailOf, fillOf, endOf, numberAt, diskAtPlace, firstAt, reservedAt, hasUpdate, reservedOn, diskSound, placeSound, servingSound, checkpointSound, soundIn, sound}
-use Rattle.model.specs.Refusal.{Row, accepted, refused, verdict}
 use Rattle.model.specs.Causes.{whenOpen, whenCopying, whenServing, stageForbids}
 use Rattle.model.proofs.Below.{all-each}
-use Rattle.model.proofs.Ledger.Sums.{true-false}
-
--- The rows of an accepted call, one after the other: the first does not apply, and the others accept it too.
-pub row-passed : (x : Row) (rows : List Row) → verdict (x ∷ rows) ≡ accepted → (x .applies ≡ false) × (verdict rows ≡ accepted)
-unfolding verdict
-row-passed x rows e = go (x .applies) refl e
-  where
-    go : (b : Bool) → x .applies ≡ b → cond b (refused (x .number) (x .first) (x .second)) (verdict rows) ≡ accepted
-        → (x .applies ≡ false) × (verdict rows ≡ accepted)
-    go true d e = let z : _≡_ {A = ℕ} 0 1 = cc in absurd (omega arith)
-    go false d e = (d, e)
-
-both : (a b : Bool) → a && b ≡ true → (a ≡ true) × (b ≡ true)
-both a b e = and-eq-true-iff a b .0 e
+use Rattle.model.proofs.Booleans.{true-false, both, in-range}
 
 -- Row 1: the stage is one that the call is for, and the state is sound.
 pub stage-row : (allowed : Stage → Bool) (c : Core) → stageForbids allowed c ≡ false → (allowed (c .stage) ≡ true) × (sound c ≡ true)
@@ -77,12 +61,6 @@ serving-sound c = go (c .stage)
     go Replaying e h = true-false refl (sym e)
     go Open e h = h
     go Copying e h = both (servingSound c) (checkpointSound c) h .0
-
-in-range : (low high n : ℕ) → within low high n ≡ true → (low ≤ n) × (n ≤ high)
-unfolding within
-in-range low high n e =
-    let t = both (leb low n) (leb n high) e in
-    (leb-true low n (t .0), leb-true n high (t .1))
 
 -- its sizes are within their bounds
 pub sizes-sound : (c : Core) → servingSound c ≡ true → sizesInBounds (c .sizes) ≡ true

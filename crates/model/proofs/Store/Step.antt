@@ -1,5 +1,5 @@
 -- Every call keeps what holds, whether it is refused, taken or cut.
-use mathlib.Core.Path.{_≡_, refl, sym, ap, subst, _∙_}
+use mathlib.Core.Path.{_≡_, refl, sym, ap, _∙_}
 use mathlib.Core.List.{List, [], _∷_, _++_, append-nil}
 use mathlib.Core.Bool.{Bool, true, false}
 use Prim.Native.Nat.{ℕ}
@@ -7,30 +7,26 @@ use Rattle.model.specs.declared.Stage.{Stage}
 use Rattle.model.specs.declared.Stage.the-variants.{Shut, Replaying, Open, Copying}
 use Rattle.model.specs.declared.Sizes.{Sizes}
 use Rattle.model.specs.declared.Core.{Core}
-use Rattle.model.specs.World.{World, perform, run, finishes}
+use Rattle.model.specs.World.{perform, finishes}
 use Rattle.model.specs.State.{newCore}
-use Rattle.model.specs.Refusal.{Row, row, verdict, accepted, Result}
+use Rattle.model.specs.Refusal.{Row, row, verdict, accepted}
 use Rattle.model.specs.Causes.{whenShut, whenReplaying, whenOpen, whenCopying, whenServing, stageForbids}
-use Rattle.model.specs.Transaction.{beginRows, beginTask, updateRows, readRows, readTask, commitRows}
+use Rattle.model.specs.Transaction.{beginRows, beginTask, updateRows, readTask, commitRows}
 use Rattle.model.specs.Abort.{abortRows}
-use Rattle.model.specs.Format.{formatRows}
 use Rattle.model.specs.Checkpoint.{checkpointBeginRows, checkpointBeginTask, checkpointStepRows, checkpointEndRows}
 use Rattle.model.specs.Restart.{restartBeginRows, restartStepRows, restartEndRows}
 use Rattle.model.specs.Call.{Call, format, begin, update, read, commit, abort, checkpointBegin, checkpointStep, checkpointEnd, restartBegin, restartStep, restartEnd, newState, rowsOf, taskOf, budgetOf, resultOf}
-use Rattle.model.specs.Reference.{Reference, Outcome, taken, outcomeOf, afterTaken, withSets}
-use Rattle.model.specs.Anchor.{sizesOn}
-use Rattle.model.specs.Image.{imageOf, restarted}
-use Rattle.model.specs.Machine.{Machine, Event, call, result, outcome, isRefused, after, referred, allowedCall}
+use Rattle.model.specs.Reference.{Reference, taken, outcomeOf}
+use Rattle.model.specs.Machine.{Machine, call, result, outcome, isRefused, after, referred, allowedCall}
 use Rattle.model.specs.History.{Put, told}
-use Rattle.model.proofs.Ledger.Sums.{true-false}
 use Rattle.model.proofs.Storeless.{storesNothing, storeless-finishes}
 use Rattle.model.proofs.Run.{perform-lengths}
-use Rattle.model.proofs.Restart.Taken.{Taken, taken-call}
+use Rattle.model.proofs.Restart.Taken.{taken-call}
 use Rattle.model.proofs.Restart.Progress.{Progress, begin-progress}
 use Rattle.model.proofs.Restart.Steps.{step-progress}
 use Rattle.model.proofs.Restart.End.{end-gives}
-use Rattle.model.proofs.Store.View.{Kept, Served, Serving, Safe}
-use Rattle.model.proofs.Store.Rows.{row-passed, stage-row, open-serving, copying-serving}
+use Rattle.model.proofs.Store.View.{Kept, Served}
+use Rattle.model.proofs.Store.Rows.{stage-row, open-serving, copying-serving}
 use Rattle.model.proofs.Store.Crash.{kept}
 use Rattle.model.proofs.Store.Steady.{kept-devices}
 use Rattle.model.proofs.Store.Begin.{begin-serves}
@@ -41,6 +37,8 @@ use Rattle.model.proofs.Store.Commit.{commit-serves, commit-cut}
 use Rattle.model.proofs.Store.CheckpointEnd.{checkpoint-end-serves, checkpoint-end-cut}
 use Rattle.model.proofs.Store.Abort.{abort-serves, abort-cut}
 use Rattle.model.proofs.Store.Holding.{Holding, shut, replaying, serving, kept-sets, call-keeps}
+use Rattle.model.proofs.Booleans.{true-false}
+use Rattle.model.proofs.Verdict.{row-passed}
 
 -- whatever the stage, the devices restart to what is committed
 pub holding-kept : {puts : List Put} {m : Machine} {r : Reference} → Holding puts m r → Kept (m .world) r

@@ -24,7 +24,7 @@ use Rattle.model.proofs.Run.{SameLengths}
 use Rattle.model.proofs.Ledger.Entry.{Entry, All, pick}
 use Rattle.model.proofs.Ledger.State.{switched, Same}
 use Rattle.model.proofs.Ledger.Order.{Ordered, wordsOf, on, boundary}
-use Rattle.model.proofs.Ledger.Sums.{true-false, all-map}
+use Rattle.model.proofs.Ledger.Sums.{all-map}
 use Rattle.model.proofs.Ledger.Picks.{all-pick}
 use Rattle.model.proofs.Ledger.Lists.{all-left, words-none}
 use Rattle.model.proofs.Ledger.Positions.{Suffix, boundary-from}
@@ -33,12 +33,13 @@ use Rattle.model.proofs.Ledger.Good.{good-same}
 use Rattle.model.proofs.Ledger.Checkpoint.{switch-good}
 use Rattle.model.proofs.Ledger.Switch.{placed-kept}
 use Rattle.model.proofs.Link.Words.{Link}
-use Rattle.model.proofs.Restart.Progress.{getD-per-disk, length-per-disk}
 use Rattle.model.proofs.Store.View.{view, Devices, Safe, Accounts, Epochs, Since, Serving, before}
 use Rattle.model.proofs.Store.Same.{sets-same, owners-same}
 use Rattle.model.proofs.Store.Flush.{lengths-same}
 use Rattle.model.proofs.Store.NewStarts.{firstOf, boundary-later, since-later, first-boundary, new-boundary, start-early, first-stays, reserved-stays, placed, page-copied, may}
 use Rattle.model.proofs.Store.Starts.{Moved, backup-back}
+use Rattle.model.proofs.Booleans.{true-false}
+use Rattle.model.proofs.Meaning.{getD-per-disk, length-per-disk}
 
 -- the state that a checkpoint's end leaves
 abbrev pub switchedCore : Core → Core
@@ -100,9 +101,11 @@ module _ {home : ℕ → ℕ} {puts : List Put} {c : Core} {w : World} {r : Refe
           starts = λ d h. moved .starts d h ∙ sym (start-now d h);
           arrays =
               record {
-                starts = length-per-disk (c .sizes) (newStart c);
-                tails = length-per-disk (c .sizes) (endOf (c .logs));
-                fills = length-replicate {A = ℕ} 8 0;
+                sized = record {
+                  starts = length-per-disk (c .sizes) (newStart c);
+                  tails = length-per-disk (c .sizes) (endOf (c .logs));
+                  fills = length-replicate {A = ℕ} 8 0;
+                };
                 disks = eight;
                 ring = g .safe .devices .arrays .ring;
               };

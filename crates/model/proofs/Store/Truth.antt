@@ -5,12 +5,10 @@ use mathlib.Core.Bool.{Bool, true, false, cond, _&&_, _||_, and-false, and-eq-tr
 use Prim.Native.Nat.{ℕ, _+_, _≤_, _<_}
 use native.Mathlib.Omega.{arith}
 use lib.Dec.{leb, eqb}
-use lib.ListN.{length, getD}
 use borrow.Author.Tests.{le-leb, eqb-true, eqb-false, eq-eqb, ne-eqb}
-use Rattle.model.specs.declared.Sizes.{Sizes}
 use Rattle.model.specs.declared.Core.{Core}
-use Rattle.model.specs.Record.{Record, encodeAll}
-use Rattle.model.specs.Scan.{Scan, scan, item, placed, Update, updatesIn, updateWords, oldest}
+use Rattle.model.specs.Record.{encodeAll}
+use Rattle.model.specs.Scan.{Scan, Update, updatesIn, updateWords, oldest}
 use Rattle.model.specs.World.{World}
 use Rattle.model.specs.Memory.{bufferOf}
 use Rattle.model.specs.Image.{retainedWords}
@@ -22,15 +20,16 @@ use Rattle.model.specs.History.{Put, recordsOn}
 use Rattle.model.specs.Promise.{logScan, LogOf, Truth}
 use Rattle.model.proofs.Ledger.Entry.{Entry, recordOf, isClose, some, All, pick, onDisk}
 use Rattle.model.proofs.Ledger.Order.{on, sizeOf, wordsOf, Laid, entriesScan}
-use Rattle.model.proofs.Ledger.Sums.{true-false, all-map, all-zip, all-append, all-right}
+use Rattle.model.proofs.Ledger.Sums.{all-map, all-append, all-right}
 use Rattle.model.proofs.Ledger.Picks.{all-pick}
 use Rattle.model.proofs.Ledger.Lists.{all-left, pick-whole, on-append, words-append, some-pick}
 use Rattle.model.proofs.Ledger.Positions.{size-ge, laid-from, boundary-start}
-use Rattle.model.proofs.Link.Words.{Fit, retained, placed-entries}
+use Rattle.model.proofs.Link.Words.{retained, placed-entries}
 use Rattle.model.proofs.Link.Abort.{scan-from}
 use Rattle.model.proofs.Store.View.{wordsFor, Serving, Served}
 use Rattle.model.proofs.Places.{open-place}
 use Rattle.model.proofs.Store.AbortRows.{words-picked, update-words}
+use Rattle.model.proofs.Booleans.{true-false}
 
 module _ {home : ℕ → ℕ} {puts : List Put} {c : Core} {w : World} {r : Reference} {F B : List Entry} (g : Serving 0 home puts c w r F B)
     (d : ℕ) (below : d < c .sizes .disks) where

@@ -20,10 +20,10 @@ use Rattle.model.proofs.Xor.{⊕-assoc, ⊕-zero-r}
 use Rattle.model.proofs.Run.{perform-append, stores-append, run-append, run-cut}
 use Rattle.model.proofs.Ledger.Entry.{Entry, All, sum}
 use Rattle.model.proofs.Ledger.Word.{ofTxn}
-use Rattle.model.proofs.Link.Buffered.{Small}
 use Rattle.model.proofs.Link.Abort.{sumUpdates}
 use Rattle.model.proofs.Store.View.{Kept, Serving}
 use Rattle.model.proofs.Store.Compensate.{Slotted, Compensated, compensated}
+use Rattle.model.proofs.Growth.{Small}
 
 -- the records of the compensations of some updates
 abbrev pub compensations : Core → World → ℕ → List Update → List Put

@@ -1,22 +1,20 @@
 -- An update keeps what holds of an open store; cut inside the flush that makes room for its record, it loses nothing.
-use mathlib.Core.Path.{_≡_, refl, sym, subst, _∙_}
+use mathlib.Core.Path.{_≡_, refl, subst}
 use mathlib.Core.List.{List, [], _∷_, _++_, append-assoc}
-use mathlib.Core.Bool.{true, false, cond, not, _&&_, and-eq-true-iff}
-use Prim.Native.Nat.{ℕ, _+_, _-_, _*_, _≤_, _<_}
+use mathlib.Core.Bool.{true, false, cond}
+use Prim.Native.Nat.{ℕ, _+_, _≤_, _<_}
 use native.Mathlib.Omega.{arith}
-use lib.Dec.{leb}
 use lib.ListN.{length}
-use borrow.Author.Tests.{leb-true, leb-false, eqb-true, ne-eqb, not-false}
+use borrow.Author.Tests.{leb-false, ne-eqb}
 use Rattle.model.specs.declared.Table.{Table}
 use Rattle.model.specs.declared.Core.{Core}
-use Rattle.model.specs.Sizes.{slotsIn, widthIn, slotBase, ringOf}
-use Rattle.model.specs.Record.{Record, encode, wordsOf, updateKind}
+use Rattle.model.specs.Sizes.{widthIn, slotBase, ringOf}
+use Rattle.model.specs.Record.{Record, encode, wordsOf}
 use Rattle.model.specs.World.{World, Action, write, pages, work, cost, act, perform, stores, run, finishes, each}
 use Rattle.model.specs.Memory.{ownerAt, ownerOf}
-use Rattle.model.specs.State.{limit, startOf, endOf, withLog, isOpen, placeOf, firstAt, reservedAt, hasUpdate, withPlace, reservedOn, servingSound}
-use Rattle.model.specs.Room.{hasRoom}
+use Rattle.model.specs.State.{limit, startOf, endOf, withLog, isOpen, placeOf, firstAt, reservedAt, hasUpdate, withPlace, servingSound}
 use Rattle.model.specs.Refusal.{accepted, verdict}
-use Rattle.model.specs.Causes.{whenServing, stageForbids, slotMissing, notOpen, valueWrong, locked}
+use Rattle.model.specs.Causes.{locked}
 use Rattle.model.specs.Append.{Appended, append}
 use Rattle.model.specs.Transaction.{diskOf, slotWords, updateRecord, updated, updateRows, updateTask}
 use Rattle.model.specs.Call.{update}
@@ -24,87 +22,47 @@ use Rattle.model.specs.Reference.{Reference, afterTaken}
 use Rattle.model.specs.History.{Put, putBy}
 use Rattle.model.proofs.Run.{perform-append, perform-pages, run-cut, stores-append, stores-written}
 use Rattle.model.proofs.Counts.{append-fits}
-use Rattle.model.proofs.Places.{open-place, place-holds}
 use Rattle.model.proofs.Ledger.Entry.{Entry, recordOf, isClose}
 use Rattle.model.proofs.Ledger.Order.{sizeOf}
-use Rattle.model.proofs.Ledger.Sums.{true-false}
-use Rattle.model.proofs.Ledger.Picks.{or-false}
-use Rattle.model.proofs.Link.Buffered.{Small}
 use Rattle.model.proofs.Store.View.{Kept, Serving, Served}
-use Rattle.model.proofs.Store.Rows.{row-passed, serving-row, serving-sound, disk-sound, PlaceSound, place-sound}
+use Rattle.model.proofs.Store.Rows.{serving-sound}
 use Rattle.model.proofs.Store.Ready.{Ready, ready}
 use Rattle.model.proofs.Store.UpdateRoom.{Allowed, updateEntry, slotChanged, noted, update-size}
 use Rattle.model.proofs.Store.UpdateTable.{serving-updated}
+use Rattle.model.proofs.Growth.{Small}
+use Rattle.model.proofs.Booleans.{true-false}
+use Rattle.model.proofs.Store.Accepted.{small-buffers, open-entry, open-below, Updating, update-accepted}
 
--- None of its rows applies.
-module _ (c : Core) (w : World) (number page slot : ℕ) (value : List ℕ) (ok : verdict (updateRows c w number page slot value) ≡ accepted) where
-  rows : (stageForbids whenServing c ≡ false) × (slotMissing (c .sizes) page slot ≡ false) × (notOpen c number ≡ false)
-      × (valueWrong (c .sizes) page value ≡ false) × (locked c w number page slot ≡ false)
-      × (not (hasRoom c (2 * wordsOf updateKind (widthIn (c .sizes) page)) (diskOf c number)) ≡ false)
-  unfolding updateRows
-  rows =
-      let r1 = row-passed _ _ ok in
-      let r2 = row-passed _ _ (r1 .1) in
-      let r5 = row-passed _ _ (r2 .1) in
-      let r8 = row-passed _ _ (r5 .1) in
-      let r9 = row-passed _ _ (r8 .1) in
-      let r10 = row-passed _ _ (r9 .1) in
-      let r11 = row-passed _ _ (r10 .1) in
-      let r14 = row-passed _ _ (r11 .1) in
-      (r1 .0, r8 .0, r9 .0, r10 .0, r11 .0, r14 .0)
-
+-- What its rows say.
+module _ {c : Core} {w : World} {number page slot : ℕ} {value : List ℕ} (a : Updating c w number page slot value) where
   within-bounds : servingSound c ≡ true
-  within-bounds =
-      let t = serving-row c (rows .0) in
-      serving-sound c (t .0) (t .1)
-
-  is-open : isOpen (c .table) number ≡ true
-  unfolding notOpen
-  is-open = not-false (isOpen (c .table) number) (rows .2)
-
-  there : PlaceSound c (placeOf (c .table) number)
-  there =
-      let p = open-place (c .table) number is-open in
-      place-sound c (placeOf (c .table) number) within-bounds (p .1) (λ z. p .0 (sym (place-holds (c .table) number (p .1)) ∙ z))
-
-  slot-there : (page < c .sizes .pages) × (slot < slotsIn (c .sizes) page)
-  unfolding slotMissing
-  slot-there =
-      let t = or-false (leb (c .sizes .pages) page) (leb (slotsIn (c .sizes) page) slot) (rows .1) in
-      (leb-false (c .sizes .pages) page (t .0), leb-false (slotsIn (c .sizes) page) slot (t .1))
+  within-bounds = serving-sound c (a .serving) (a .sound)
 
   not-others : (u : ℕ) → isOpen (c .table) u ≡ true → (u ≡ number → ⊥) → u ≡ ownerOf (c .sizes) (w .work) page slot → ⊥
   unfolding locked isOpen
-  not-others u o ne owns = true-false (rw (← owns, o, ne-eqb u number ne)) (rows .4)
+  not-others u o ne owns = true-false (rw (← owns, o, ne-eqb u number ne)) (a .unlocked)
 
-  pub update-allowed : Allowed c w number page slot value
-  unfolding diskOf valueWrong
+  update-allowed : Allowed c w number page slot value
   update-allowed =
+      let mine = open-entry c number within-bounds (a .opened) in
       record {
-        opened = is-open;
-        disk = there .disk;
-        reserved = there .reserved;
-        page-lt = slot-there .0;
-        slot-lt = slot-there .1;
-        width = eqb-true (length value) (widthIn (c .sizes) page) (not-false _ (rows .3));
+        opened = a .opened;
+        disk = open-below c number within-bounds (a .opened);
+        reserved = mine .sound .reserved;
+        page-lt = a .page-lt;
+        slot-lt = a .slot-lt;
+        width = a .width;
         free = not-others;
       }
 
-  pub update-small : Small (c .sizes) (c .logs)
-  update-small d below = disk-sound c d within-bounds below .fill
+  update-small : Small (c .sizes) (c .logs)
+  update-small = small-buffers c within-bounds
 
-  -- row 14: the record fits the ring and the bound of positions
-  pub update-room : (endOf (c .logs) (diskOf c number) + (3 + widthIn (c .sizes) page) ≤ startOf (c .logs) (diskOf c number) + ringOf (c .sizes) (diskOf c number))
+  -- the record fits the ring and the bound of positions
+  update-room : (endOf (c .logs) (diskOf c number) + (3 + widthIn (c .sizes) page) ≤ startOf (c .logs) (diskOf c number) + ringOf (c .sizes) (diskOf c number))
       × (endOf (c .logs) (diskOf c number) + (3 + widthIn (c .sizes) page) ≤ limit)
-  unfolding hasRoom wordsOf
-  update-room =
-      let d = diskOf c number in
-      let need = 2 * (3 + widthIn (c .sizes) page) in
-      let used = endOf (c .logs) d - startOf (c .logs) d + reservedOn (c .table) d + need in
-      let reach = endOf (c .logs) d + reservedOn (c .table) d + need in
-      let ring = leb used (ringOf (c .sizes) d) in
-      let h = and-eq-true-iff ring (leb reach limit) .0 (not-false (ring && leb reach limit) (rows .5)) in
-      (omega (arith, leb-true used (ringOf (c .sizes) d) (h .0)), omega (arith, leb-true reach limit (h .1)))
+  unfolding wordsOf
+  update-room = (omega (arith, a .room .ring), omega (arith, a .room .top))
 
 -- cut before a part without stores, a list is cut inside what stands before it
 cut-short : (budget : ℕ) (l m : List Action) → stores m ≡ 0 → finishes budget (l ++ m) ≡ false → budget < stores l
@@ -115,7 +73,7 @@ cut-short budget l m none h = omega (arith, leb-false (stores (l ++ m)) budget h
 module _ {home : ℕ → ℕ} {puts : List Put} {c : Core} {w : World} {r : Reference} {F B : List Entry} (g : Serving 0 home puts c w r F B)
     (number page slot : ℕ) (value : List ℕ) (ok : verdict (updateRows c w number page slot value) ≡ accepted) where
   may : Allowed c w number page slot value
-  may = update-allowed c w number page slot value ok
+  may = update-allowed (update-accepted c w number page slot value ok)
 
   abbrev d : ℕ
   d = diskOf c number
@@ -132,7 +90,7 @@ module _ {home : ℕ → ℕ} {puts : List Put} {c : Core} {w : World} {r : Refe
 
   y : Ready 0 home puts c w r d (length words)
   y =
-      ready g d (length words) (may .disk) (update-small c w number page slot value ok)
+      ready g d (length words) (may .disk) (update-small (update-accepted c w number page slot value ok))
       (omega (arith, size, g .safe .devices .bounds .used page (may .page-lt) .width-max))
 
   -- the state and the world between the two
@@ -201,7 +159,7 @@ module _ {home : ℕ → ℕ} {puts : List Put} {c : Core} {w : World} {r : Refe
   after : After (recordOf (updateEntry c' v number page slot value)) (tableOf (length (encode (recordOf (updateEntry c' v number page slot value)))))
   unfolding withLog diskOf sizeOf
   after =
-      let h = update-room c w number page slot value ok in
+      let h = update-room (update-accepted c w number page slot value ok) in
       serving-updated (y .serving) number page slot value may' (y .small) (omega (arith, size', y .room))
       (omega (arith, size, size', h .0, y .starts d, y .ends)) (omega (arith, size, size', h .1, y .ends))
 

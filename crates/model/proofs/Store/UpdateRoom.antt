@@ -4,7 +4,6 @@ use mathlib.Core.List.{List, [], _∷_, _++_, map, map-append}
 use mathlib.Core.Bool.{Bool, true, false, cond}
 use Prim.Native.Nat.{ℕ, _+_, _-_, _≤_, _<_}
 use native.Mathlib.Omega.{arith}
-use native.Mathlib.Decide.{decLt}
 use lib.Dec.{eqb}
 use lib.ListN.{length, getD, set}
 use lib.Seq.{sets, getD-set-same, getD-set-other}
@@ -22,21 +21,20 @@ use Rattle.model.specs.Transaction.{diskOf, slotWords}
 use Rattle.model.specs.Reference.{Reference, Write, writesOf, added, withSets}
 use Rattle.model.specs.History.{Put}
 use Rattle.model.proofs.Xor.{⊕-self-left, ⊕-zero-r, length-xors-same, getD-xors-same}
-use Rattle.model.proofs.Lengths.{Lengths, lengths-right, length-part}
+use Rattle.model.proofs.Lengths.{Lengths, lengths-right}
 use Rattle.model.proofs.Geometry.{pageOf, slotStart, slot-start, slot-in, slot-apart, slot-end-total}
 use Rattle.model.proofs.Slots.{patchOf}
 use Rattle.model.proofs.WriteSets.{added-writes}
 use Rattle.model.proofs.Places.{open-place}
-use Rattle.model.proofs.Restart.Words.{spanning-true, spanning-in, sets-in, sets-before, sets-after, getD-part}
 use Rattle.model.proofs.Ledger.Entry.{Entry, isClose, recordOf, spanning, adds, closedIn}
 use Rattle.model.proofs.Ledger.State.{updated, Same}
 use Rattle.model.proofs.Ledger.Order.{sizeOf}
-use Rattle.model.proofs.Ledger.Sums.{true-false}
 use Rattle.model.proofs.Ledger.Good.{Good, good-same}
 use Rattle.model.proofs.Ledger.Update.{MayUpdate, adds-in, adds-out, update-good}
 use Rattle.model.proofs.Link.Words.{Fit}
 use Rattle.model.proofs.Link.Buffered.{InBuffer, owners-same, epochs-same}
 use Rattle.model.proofs.Store.View.{view, Serving}
+use Rattle.model.proofs.Parts.{length-part, getD-part, getD-sets-in, spanning-true, getD-sets-outside}
 
 -- What an accepted update may rely on: its transaction is open, its slot is there and not another's, its value as wide.
 pub record Allowed (c : Core) (w : World) (number page slot : ℕ) (value : List ℕ) : Type 0 where
@@ -71,15 +69,6 @@ slotChanged v at value number =
 -- the reference after it
 abbrev pub noted : Reference → ℕ → ℕ → ℕ → List ℕ → Reference
 noted r number page slot value = withSets r (added number (record { page = page; slot = slot; value = value }) (r .writeSets))
-
--- words outside the run that is set stay
-sets-out : (l : List ℕ) (at : ℕ) (vs : List ℕ) (i : ℕ) → spanning at (length vs) i ≡ false → getD (sets l at vs) i 0 ≡ getD l i 0
-sets-out l at vs i h = go (decLt i at) (decLt i (at + length vs))
-  where
-    go : Dec (i < at) → Dec (i < at + length vs) → getD (sets l at vs) i 0 ≡ getD l i 0
-    go (yes before) d = sets-before l at vs i before
-    go (no before) (yes end) = true-false (spanning-in at (length vs) i (omega arith) end) h
-    go (no before) (no end) = sets-after l at vs i (omega arith)
 
 module _ {home : ℕ → ℕ} {puts : List Put} {c : Core} {w : World} {r : Reference} {F B : List Entry} (g : Serving 0 home puts c w r F B)
     (number page slot : ℕ) (value : List ℕ) (may : Allowed c w number page slot value) where
@@ -180,10 +169,10 @@ module _ {home : ℕ → ℕ} {puts : List Put} {c : Core} {w : World} {r : Refe
         go true h =
             ap (λ (x : ℕ). getD (w .pages) i 0 ⊕ x) (adds-in i e is-change (rw diff-width h) ∙ differs i h)
             ∙ ⊕-self-left (getD (w .pages) i 0) (getD value (i - at) 0)
-            ∙ sym (sets-in (w .pages) at value i (omega (arith, inside, right .pages, may .width)) (near i h .0) (rw (may .width) (near i h .1)))
+            ∙ sym (getD-sets-in (w .pages) at value i (omega (arith, inside, right .pages, may .width)) (near i h .0) (rw (may .width) (near i h .1)))
         go false h =
             ap (λ (x : ℕ). getD (w .pages) i 0 ⊕ x) (adds-out i e (rw diff-width h)) ∙ ⊕-zero-r (getD (w .pages) i 0)
-            ∙ sym (sets-out (w .pages) at value i h)
+            ∙ sym (getD-sets-outside (w .pages) at value i h)
 
     -- an owner or a copy epoch other than the slot's owner
     work-other : (j : ℕ) → (j ≡ at → ⊥) → getD (set (v .work) at number) j 0 ≡ getD (v .work) j 0

@@ -4,7 +4,7 @@ use mathlib.Core.List.{List, [], _∷_, _++_, append-assoc}
 use mathlib.Core.Bool.{Bool, true, false, cond, _&&_, _||_, or-true}
 use Prim.Native.Nat.{ℕ, _+_, _≤_, _<_}
 use native.Mathlib.Omega.{arith}
-use native.Mathlib.Decide.{ℕ-discrete, decLt}
+use native.Mathlib.Decide.{ℕ-discrete}
 use lib.Dec.{ltb, eqb}
 use lib.ListN.{length, getD, length-set}
 use lib.Seq.{length-sets, getD-set-other}
@@ -23,19 +23,21 @@ use Rattle.model.specs.History.{Put}
 use Rattle.model.proofs.Lengths.{lengths-right}
 use Rattle.model.proofs.Run.{perform-lengths}
 use Rattle.model.proofs.WriteSets.{has-added, distinct-added}
-use Rattle.model.proofs.Places.{open-place, place-holds, put-disk, put-first, put-reserved, other-disk, other-first, other-reserved, update-place, update-open, update-tabled}
+use Rattle.model.proofs.SetPlace.{put-disk, put-first, put-reserved, other-same}
+use Rattle.model.proofs.Places.{open-place, place-holds, places-apart, update-place, update-open, update-tabled}
 use Rattle.model.proofs.Ledger.Entry.{Entry, recordOf, some, closedIn}
 use Rattle.model.proofs.Ledger.Order.{sizeOf, on, boundary}
-use Rattle.model.proofs.Ledger.Sums.{true-false, all-map}
+use Rattle.model.proofs.Ledger.Sums.{all-map}
 use Rattle.model.proofs.Ledger.Picks.{some-append}
 use Rattle.model.proofs.Ledger.Positions.{boundary-end}
-use Rattle.model.proofs.Link.Words.{Fit}
-use Rattle.model.proofs.Link.Buffered.{Small, InBuffer, owners-same}
-use Rattle.model.proofs.Store.View.{view, Sets, Owners, Serving}
+use Rattle.model.proofs.Link.Words.{Fit, log-end}
+use Rattle.model.proofs.Link.Buffered.{InBuffer, owners-same}
+use Rattle.model.proofs.Store.View.{Sets, Owners, Serving, open-used}
 use Rattle.model.proofs.Store.Logged.{Written, told-more, boundary-logged, in-buffer, safe-written, epochs-written, Entered, accounts-logged}
-use Rattle.model.proofs.Store.LogEnd.{boundary-to, log-end, capped, early}
+use Rattle.model.proofs.Store.LogEnd.{boundary-to, capped, early}
 use Rattle.model.proofs.Store.UpdateRoom.{Allowed, updateEntry, slotChanged, noted, at-lt, update-size, update-fit, update-unclosed, good-updated}
 use Rattle.model.proofs.Store.UpdateOwners.{fits-added, owners-updated}
+use Rattle.model.proofs.Growth.{Small}
 
 module _ {home : ℕ → ℕ} {puts : List Put} {c : Core} {w : World} {r : Reference} {F B : List Entry} (g : Serving 0 home puts c w r F B)
     (number page slot : ℕ) (value : List ℕ) (may : Allowed c w number page slot value) (small : Small (c .sizes) (c .logs))
@@ -75,8 +77,7 @@ module _ {home : ℕ → ℕ} {puts : List Put} {c : Core} {w : World} {r : Refe
 
   -- two open transactions have two places
   apart : (n : ℕ) → isOpen (c .table) n ≡ true → (n ≡ number → ⊥) → placeOf (c .table) n ≡ place → ⊥
-  apart n o ne same =
-      ne (sym (place-holds (c .table) n (open-place (c .table) n o .1)) ∙ ap (numberAt (c .table)) same ∙ holds)
+  apart n o = places-apart (c .table) n number o (may .opened)
 
   -- its first record's place: as it was, or the end of the log
   first-edge : boundary first (startOf (c .logs) d) (on d F ++ on d B) ≡ true
@@ -91,10 +92,10 @@ module _ {home : ℕ → ℕ} {puts : List Put} {c : Core} {w : World} {r : Refe
   first-le = omega (arith, log-end (g .safe .link) d (may .disk), boundary-to first (startOf (c .logs) d) (on d F ++ on d B) first-edge)
 
   first-is : firstAt t (placeOf t number) ≡ first
-  first-is = ap (firstAt t) (same-place number) ∙ put-first (c .table) (g .accounts .tabled) place number d first reserve placed
+  first-is = ap (firstAt t) (same-place number) ∙ put-first (c .table) (g .accounts .tabled .sized) place number d first reserve placed
 
   reserved-is : reservedAt t (placeOf t number) ≡ reserve
-  reserved-is = ap (reservedAt t) (same-place number) ∙ put-reserved (c .table) (g .accounts .tabled) place number d first reserve placed
+  reserved-is = ap (reservedAt t) (same-place number) ∙ put-reserved (c .table) (g .accounts .tabled .sized) place number d first reserve placed
 
   -- one of its entries is the first: an old one, or this one
   begun : some (λ q. eqb (q .number) number && eqb (q .position) first) (F ++ (B ++ e ∷ [])) ≡ true
@@ -118,15 +119,15 @@ module _ {home : ℕ → ℕ} {puts : List Put} {c : Core} {w : World} {r : Refe
   unfolding diskOf
   disk-same n o (yes same) =
       ap (λ (m : ℕ). diskAtPlace t (placeOf t m)) same ∙ ap (diskAtPlace t) (same-place number)
-      ∙ put-disk (c .table) (g .accounts .tabled) place number d first reserve placed ∙ ap (diskOf c) (sym same)
+      ∙ put-disk (c .table) (g .accounts .tabled .sized) place number d first reserve placed ∙ ap (diskOf c) (sym same)
   disk-same n o (no ne) =
       ap (diskAtPlace t) (same-place n)
-      ∙ other-disk (c .table) (g .accounts .tabled) place number d first reserve placed (placeOf (c .table) n) (apart n o ne)
+      ∙ other-same (c .table) place number d first reserve (placeOf (c .table) n) (apart n o ne) .disk
 
   reserved-same : (n : ℕ) → isOpen (c .table) n ≡ true → (n ≡ number → ⊥) → reservedAt t (placeOf t n) ≡ reservedAt (c .table) (placeOf (c .table) n)
   reserved-same n o ne =
       ap (reservedAt t) (same-place n)
-      ∙ other-reserved (c .table) (g .accounts .tabled) place number d first reserve placed (placeOf (c .table) n) (apart n o ne)
+      ∙ other-same (c .table) place number d first reserve (placeOf (c .table) n) (apart n o ne) .reserved
 
   has-same : (n : ℕ) → isOpen (c .table) n ≡ true → (n ≡ number → ⊥) → hasUpdate t (placeOf t n) ≡ hasUpdate (c .table) (placeOf (c .table) n)
   unfolding hasUpdate
@@ -135,7 +136,7 @@ module _ {home : ℕ → ℕ} {puts : List Put} {c : Core} {w : World} {r : Refe
   first-same : (n : ℕ) → isOpen (c .table) n ≡ true → (n ≡ number → ⊥) → firstAt t (placeOf t n) ≡ firstAt (c .table) (placeOf (c .table) n)
   first-same n o ne =
       ap (firstAt t) (same-place n)
-      ∙ other-first (c .table) (g .accounts .tabled) place number d first reserve placed (placeOf (c .table) n) (apart n o ne)
+      ∙ other-same (c .table) place number d first reserve (placeOf (c .table) n) (apart n o ne) .first
 
   here : e .disk ≡ home (e .number)
   here = sym (g .accounts .homes number (may .opened))
@@ -162,14 +163,6 @@ module _ {home : ℕ → ℕ} {puts : List Put} {c : Core} {w : World} {r : Refe
         kind = λ h. refl;
         open? = may .opened;
       }
-
-  number-lt : number < c .next
-  unfolding view
-  number-lt = go (decLt number (c .next))
-    where
-      go : Dec (number < c .next) → number < c .next
-      go (yes h) = h
-      go (no h) = true-false (may .opened) (g .safe .good .unused number (omega arith) .1)
 
   -- The words after it.
   abbrev put : Appended
@@ -227,7 +220,7 @@ module _ {home : ℕ → ℕ} {puts : List Put} {c : Core} {w : World} {r : Refe
   owners-after : Owners updatedCore changed (noted r number page slot value)
   unfolding withLog workWords epochAt bufferAt
   owners-after =
-      owners-updated (g .owners) (g .safe .devices .bounds) number page slot value may (sym (g .sets .has number) ∙ may .opened) number-lt
+      owners-updated (g .owners) (g .safe .devices .bounds) number page slot value may (sym (g .sets .has number) ∙ may .opened) (open-used (g .safe) number (may .opened) .1)
       bufferedWorld (omega (arith, long)) (owners-same buffer) updatedCore refl refl same-open
 
   pub serving-updated : Serving 0 home (puts ++ record { disk = d; content = recordOf e } ∷ []) updatedCore changed (noted r number page slot value) F (B ++ e ∷ [])
@@ -239,7 +232,7 @@ module _ {home : ℕ → ℕ} {puts : List Put} {c : Core} {w : World} {r : Refe
             safe-written (g .safe) e (may .disk) here small room refl unclosed fit in-ring in-limit written 0 t (noted r number page slot value)
             (g .safe .sizes) (g .safe .shaped)
             (good-updated g number page slot value may bufferedWorld buffer long t same-open _);
-        accounts = accounts-logged (g .safe) e (may .disk) here small room refl unclosed fit in-ring in-limit (g .accounts) t entered number-lt;
+        accounts = accounts-logged (g .safe) e (may .disk) here small room refl unclosed fit in-ring in-limit (g .accounts) t entered (open-used (g .safe) number (may .opened) .1);
         epochs =
             epochs-written (g .safe) e (may .disk) here small room refl unclosed fit in-ring in-limit written (g .epochs)
             (λ i h. other-word i (omega arith)) (λ o. capped g e page (may .page-lt) refl) (λ h o. early g e page (may .page-lt) refl (may .disk) refl h) t;

@@ -5,8 +5,8 @@ use mathlib.Core.Bool.{Bool, true, false, cond, _&&_, _||_}
 use Prim.Native.Nat.{ℕ, _+_, _≤_, _<_}
 use lib.Dec.{ltb, eqb}
 use lib.ListN.{length, getD}
-use Rattle.model.specs.declared.Stage.{Stage}
-use Rattle.model.specs.declared.Sizes.{Sizes}
+use native.Mathlib.Omega.{arith}
+use native.Mathlib.Decide.{decLt}
 use Rattle.model.specs.declared.Core.{Core}
 use Rattle.model.specs.Sizes.{total, slotsIn, ringOf, sizesInBounds}
 use Rattle.model.specs.Anchor.{anchorWords, epochOn, sizesOn, startOn, backupAt}
@@ -25,12 +25,14 @@ use Rattle.model.proofs.Bounds.{Bounded}
 use Rattle.model.proofs.Geometry.{pageOf, slotStart}
 use Rattle.model.proofs.Slots.{patchOf, Fits, Shaped}
 use Rattle.model.proofs.WriteSets.{hasSet, Distinct}
-use Rattle.model.proofs.Places.{Tabled}
+use Rattle.model.proofs.Places.{Tabled, open-place}
 use Rattle.model.proofs.Ledger.Entry.{Entry, recordOf, isClose, some, All, closedIn}
 use Rattle.model.proofs.Ledger.State.{Ledger}
-use Rattle.model.proofs.Ledger.Order.{Ordered, on, sizeOf, boundary}
+use Rattle.model.proofs.Ledger.Order.{Ordered, on, sizeOf, boundary, Laid}
 use Rattle.model.proofs.Ledger.Good.{Good}
 use Rattle.model.proofs.Link.Words.{Fit, Arrays, Link}
+use Rattle.model.proofs.Booleans.{true-false}
+use Rattle.model.proofs.Ledger.Positions.{laid-append}
 
 -- A restart finds nothing to refuse, its number aside: the slices have the anchor's lengths, and each log is well formed from its
 -- start to its tail.
@@ -169,3 +171,18 @@ pub record Served (puts : List Put) (c : Core) (w : World) (r : Reference) : Typ
   pub flushed : List Entry
   pub buffered : List Entry
   pub serving : Serving 0 home puts c w r flushed buffered
+
+-- a transaction in the table has a number that was handed out
+pub open-used : {x : ℕ} {home : ℕ → ℕ} {c : Core} {w : World} {r : Reference} {F B : List Entry} → Safe x home c w r F B
+    → (t : ℕ) → isOpen (c .table) t ≡ true → (1 ≤ t) × (t < c .next)
+unfolding view
+open-used {c = c} g t opened = (omega (arith, open-place (c .table) t opened .0), go (decLt t (c .next)))
+  where
+    go : Dec (t < c .next) → t < c .next
+    go (yes h) = h
+    go (no h) = true-false opened (g .good .unused t (omega arith) .1)
+
+-- the flushed entries of a disk lie one after the other from its start on
+pub flushed-laid : {x : ℕ} {home : ℕ → ℕ} {c : Core} {w : World} {r : Reference} {F B : List Entry} → Safe x home c w r F B
+    → (d : ℕ) → d < c .sizes .disks → Laid (startOf (c .logs) d) (on d F)
+flushed-laid {c = c} {F = F} {B = B} g d h = laid-append (startOf (c .logs) d) (on d F) (on d B) (g .ordered .laid d h) .0

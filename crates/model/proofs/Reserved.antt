@@ -1,0 +1,61 @@
+-- The words reserved on a disk when one place of the table changes: at a begin, at an update and at a close.
+use mathlib.Core.Path.{_≡_, ap}
+use mathlib.Core.Bool.{cond}
+use Prim.Native.Nat.{ℕ, zero, suc, _+_, _≤_, _<_}
+use native.Mathlib.Omega.{arith}
+use native.Mathlib.Decide.{ℕ-discrete}
+use native.Mathlib.Nat.{not-suc-le-zero}
+use borrow.Author.Tests.{eq-eqb, ne-eqb}
+use Rattle.model.specs.declared.Table.{Table}
+use Rattle.model.specs.Below.{sumBelow}
+use Rattle.model.specs.State.{places, numberAt, diskAtPlace, reservedAt, withPlace, servedBy, reservedOn}
+use Rattle.model.proofs.Below.{sum-cong, term-le-sum}
+use Rattle.model.proofs.SetPlace.{other-same}
+use Rattle.model.proofs.Places.{served-here}
+
+-- Two sums whose terms agree but at one place differ by the terms there.
+pub sum-changed : (f g : ℕ → ℕ) (n i : ℕ) → i < n → ((j : ℕ) → (j ≡ i → ⊥) → f j ≡ g j)
+    → sumBelow f n + g i ≡ sumBelow g n + f i
+unfolding sumBelow
+sum-changed f g zero i h same = absurd (not-suc-le-zero h)
+sum-changed f g (suc n) i h same = go (ℕ-discrete n i) (λ l. sum-changed f g n i l same)
+  where
+    go : Dec (n ≡ i) → (i < n → sumBelow f n + g i ≡ sumBelow g n + f i) → sumBelow f n + f n + g i ≡ sumBelow g n + g n + f i
+    go (yes e) ih =
+        let low : sumBelow f n ≡ sumBelow g n = sum-cong f g n (λ j l. same j (λ x. omega arith)) in
+        omega (arith, ap f e, ap g e)
+    go (no ne) ih = omega (arith, same n ne, ih (omega arith))
+
+-- what a place adds to the words reserved on a disk
+unfoldable pub reservedBy : Table → ℕ → ℕ → ℕ
+reservedBy t disk i = cond (servedBy t disk i) (reservedAt t i) 0
+
+-- a free place adds nothing, and a transaction its words on its own disk alone
+module _ (t : Table) (disk i : ℕ) where
+  pub free-by : numberAt t i ≡ 0 → reservedBy t disk i ≡ 0
+  unfolding reservedBy servedBy
+  free-by e = rw (eq-eqb _ _ e)
+
+  module _ (some : numberAt t i ≡ 0 → ⊥) where
+    pub own-by : diskAtPlace t i ≡ disk → reservedBy t disk i ≡ reservedAt t i
+    unfolding reservedBy
+    own-by e = rw (served-here t disk i some e)
+
+    pub other-by : (diskAtPlace t i ≡ disk → ⊥) → reservedBy t disk i ≡ 0
+    unfolding reservedBy servedBy
+    other-by ne = rw (ne-eqb _ _ some, ne-eqb _ _ ne)
+
+  pub by-le : i < places → reservedBy t disk i ≤ reservedOn t disk
+  unfolding reservedBy reservedOn
+  by-le h = term-le-sum (λ j. cond (servedBy t disk j) (reservedAt t j) 0) places i h
+
+-- What is reserved on a disk changes by what the place added before and adds now.
+pub reserved-changed : (t : Table) (p n d f r : ℕ) → p < places → (disk : ℕ)
+    → reservedOn (withPlace t p n d f r) disk + reservedBy t disk p
+    ≡ reservedOn t disk + reservedBy (withPlace t p n d f r) disk p
+unfolding reservedOn reservedBy servedBy
+reserved-changed t p n d f r h disk =
+    sum-changed _ _ places p h
+    (λ i ne.
+    let same = other-same t p n d f r i ne in
+    rw (same .number, same .disk, same .reserved))
