@@ -1,6 +1,6 @@
 -- 01, "Blunders": each as a small variant of a definition, with the slot that it gives beside the one that stands.
 use mathlib.Core.Path.{_≡_, refl}
-use Prim.Native.Nat.{ℕ, zero, suc, _+_}
+use Prim.Native.Nat.{ℕ, _+_}
 use mathlib.Core.List.{List, [], _∷_, _++_, map}
 use mathlib.Core.Bool.{Bool, true, false, cond, not, _&&_}
 use lib.ListN.{getD, replicate}
@@ -13,7 +13,7 @@ use Rattle.model.specs.declared.Decoded.the-variants.{Change, Close, Mal
 use Rattle.model.specs.declared.Fate.{Fate}
 use Rattle.model.specs.declared.Fate.the-variants.{Closed, Unclosed, Unreadable}
 use Rattle.model.specs.Sizes.{slotBase}
-use Rattle.model.specs.Record.{Record, change, close, encode, inBackup, commitKind, abortKind}
+use Rattle.model.specs.Record.{change, close, encode, inBackup, commitKind, abortKind}
 use Rattle.model.specs.Decode.{span}
 use Rattle.model.specs.Scan.{Scan, end, bad, item, scan, fateIn, Update}
 use Rattle.model.specs.World.{World, Action, perform}
@@ -22,7 +22,7 @@ use Rattle.model.specs.Refusal.{Task, verdict, conclude}
 use Rattle.model.specs.Append.{Appended, append}
 use Rattle.model.specs.Transaction.{commitRows, diskOf}
 use Rattle.model.specs.Abort.{abortRows, updatesLeft, xorIn}
-use Rattle.model.specs.Checkpoint.{perDisk, leastFirst, checkpointEndRows, checkpointEndTask}
+use Rattle.model.specs.Checkpoint.{perDisk, leastFirst}
 use Rattle.model.specs.Restart.{replays, readDisk, positionOf, nextRecord, movedTo, backupStep, restartStepRows}
 use Rattle.model.specs.Call.{Call, format, begin, update, commit, abort, checkpointBegin, checkpointStep, checkpointEnd, restartStep}
 use Rattle.model.specs.Reference.{wordsIn}

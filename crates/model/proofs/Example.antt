@@ -2,11 +2,11 @@
 use mathlib.Core.Path.{_≡_, refl}
 use Prim.Native.Nat.{ℕ}
 use mathlib.Core.List.{List, [], _∷_, _++_, map}
-use mathlib.Core.Bool.{Bool, true}
+use mathlib.Core.Bool.{true}
 use lib.ListN.{replicate}
 use Rattle.model.specs.declared.Sizes.{Sizes}
-use Rattle.model.specs.Call.{Call, format, begin, update, commit, abort, checkpointBegin, checkpointStep, checkpointEnd, restartBegin, restartStep, restartEnd}
-use Rattle.model.specs.Reference.{Outcome, taken, wordsIn}
+use Rattle.model.specs.Call.{format, begin, update, commit, abort, checkpointBegin, checkpointStep, checkpointEnd, restartBegin, restartStep, restartEnd}
+use Rattle.model.specs.Reference.{taken}
 use Rattle.model.specs.Machine.{Machine, Event, call, scramble, outcome, result, follow, allowedAll, formatted}
 use Rattle.model.proofs.Everything.{everything}
 use Rattle.model.proofs.Play.{unformatted}

@@ -42,6 +42,7 @@ pub mod Store
 pub mod Sound
 pub mod PowerLoss
 pub mod CommitPoint
+pub mod Finish
 -- Computed tables.
 pub mod Everything
 pub mod Play

@@ -4,12 +4,11 @@ use Prim.Native.Nat.{ℕ, zero, suc, _+_}
 use mathlib.Core.List.{List, [], _∷_, _++_}
 use lib.ListN.{getD, replicate}
 use Rattle.model.specs.declared.Sizes.{Sizes}
-use Rattle.model.specs.Sizes.{tailWord}
 use Rattle.model.specs.World.{World}
 use Rattle.model.specs.Memory.{bufferAt}
 use Rattle.model.specs.State.{newCore}
 use Rattle.model.specs.Refusal.{numberOf, storesOf}
-use Rattle.model.specs.Call.{Call, format, begin, update, commit, abort, checkpointBegin, checkpointStep, checkpointEnd, restartBegin, resultOf}
+use Rattle.model.specs.Call.{format, begin, update, commit, abort, checkpointBegin, checkpointStep, checkpointEnd, restartBegin, resultOf}
 use Rattle.model.specs.Machine.{Machine}
 use Rattle.model.proofs.Everything.{everything}
 use Rattle.model.proofs.Play.{Step, does, play, answers, unformatted, drained, restartBy, gives}

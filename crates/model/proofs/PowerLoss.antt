@@ -1,7 +1,7 @@
 -- The power-loss theorem.
-use mathlib.Core.Path.{_≡_, refl, sym, ap, _∙_}
+use mathlib.Core.Path.{_≡_, refl, ap, _∙_}
 use mathlib.Core.List.{List, [], _∷_}
-use mathlib.Core.Bool.{Bool, true, false, _&&_, and-eq-true-iff}
+use mathlib.Core.Bool.{true, _&&_, and-eq-true-iff}
 use Prim.Native.Nat.{ℕ}
 use lib.ListN.{length}
 use lib.Dec.{eqb}
@@ -11,20 +11,18 @@ use Rattle.model.specs.declared.Stage.the-variants.{Shut, Replaying, Ope
 use Rattle.model.specs.declared.Sizes.{Sizes}
 use Rattle.model.specs.declared.Answer.{Answer}
 use Rattle.model.specs.declared.Answer.the-variants.{Finished, Refused, Interrupted}
-use Rattle.model.specs.World.{World}
 use Rattle.model.specs.Causes.{whenShut, whenReplaying}
 use Rattle.model.specs.Restart.{restartEndRows}
 use Rattle.model.specs.Call.{Call, format, restartEnd, resultOf}
-use Rattle.model.specs.Reference.{Reference, Outcome, taken, refused, interrupted, outcomeOf, blank, hear, heard, wordsIn}
-use Rattle.model.specs.Machine.{Machine, Event, call, lent, scramble, result, outcome, isRefused, allowed, scrambled, after, referred, Run, follow, allowedAll, formatted}
+use Rattle.model.specs.Reference.{Reference, taken, refused, outcomeOf, hear, heard, wordsIn}
+use Rattle.model.specs.Machine.{Machine, Event, call, lent, scramble, result, outcome, isRefused, allowed, after, referred, Run, follow, allowedAll, formatted}
 use Rattle.model.specs.Promise.{Always, PowerLoss, RestartAccepted, Table, LogKept, StateTrue, NeverMalformed}
 use Rattle.model.specs.History.{Put, told, history}
 use Rattle.model.proofs.Ledger.Sums.{true-false}
 use Rattle.model.proofs.Restart.Taken.{taken-call}
 use Rattle.model.proofs.Restart.End.{end-gives}
-use Rattle.model.proofs.Store.View.{Kept, Served}
 use Rattle.model.proofs.Store.Format.{format-serves}
-use Rattle.model.proofs.Store.Holding.{Holding, shut, replaying, serving}
+use Rattle.model.proofs.Store.Holding.{Holding, shut, serving}
 use Rattle.model.proofs.Store.Step.{step-call, holding-kept, served, stopped, replayed, row-one}
 use Rattle.model.proofs.Store.Steady.{kept-devices}
 use Rattle.model.proofs.Store.Checks.{restart-begin-answers, never-seven}
@@ -112,8 +110,9 @@ table = always _ (λ puts m r h e. plain m r (served h e))
 -- Each disk's words are the records that the calls put there, and the reader finds these and no others.
 pub log-kept : LogKept
 unfolding LogKept
-log-kept m s budget formats events a serves disk below =
-    log-of _ _ (served (follow-holds events [] (formatted m s budget) (format-holds m s budget formats) a) serves) disk below
+log-kept m s budget formats events a =
+    let h = follow-holds events [] (formatted m s budget) (format-holds m s budget formats) a in
+    (holding-kept h .logs, λ serves disk below. log-of _ _ (served h serves) disk below)
 
 -- What the state says is true.
 pub state-true : StateTrue

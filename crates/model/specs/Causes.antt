@@ -1,8 +1,8 @@
 -- 01, "Turned away": one definition for the cause of each row, shared by all the calls that check it. Row 14 is `hasRoom` and
 -- `idlest` (specs/Room.antt), row 15 `lowestToCopy` and `remaining` (specs/Checkpoint.antt, specs/Restart.antt), row 16 `finishes`.
-use Prim.Native.Nat.{ℕ, zero, suc, _+_, _-_}
-use mathlib.Core.List.{List, [], _∷_}
-use mathlib.Core.Bool.{Bool, true, false, cond, not, _&&_, _||_}
+use Prim.Native.Nat.{ℕ, zero, suc, _+_}
+use mathlib.Core.List.{List, []}
+use mathlib.Core.Bool.{Bool, true, false, not, _&&_, _||_}
 use lib.ListN.{length, getD}
 use lib.Dec.{leb, ltb, eqb}
 use Rattle.model.specs.declared.Stage.{Stage}

@@ -1,4 +1,4 @@
--- What the calls put into the logs: for each taken call the records that it appends. An update's difference and copy epoch are of
+-- What the calls put into the logs: for each accepted call the records that it appends. An update's difference and copy epoch are of
 -- the pages and epochs that it finds; an abort's compensations are of the updates that it finds, which `LogKept` says are those put.
 use Prim.Native.Nat.{ℕ}
 use mathlib.Core.List.{List, [], _∷_, _++_, map}
@@ -24,7 +24,7 @@ unfoldable pub compensation : Core → World → ℕ → Update → Record
 compensation c w number u =
     change compensationKind (u .page) (u .slot) number (epochOf (c .sizes) (w .work) (u .page)) (u .diff)
 
--- the records of a taken call
+-- the records of an accepted call; of a cut one, those that it would have put
 abbrev pub putBy : Call → Core → World → List Put
 putBy (update number page slot value budget) c w =
     record { disk = diskOf c number; content = updateRecord c w number page slot value } ∷ []
@@ -43,12 +43,11 @@ putBy (restartStep source) c w = []
 putBy (restartEnd budget) c w = []
 putBy newState c w = []
 
--- What was put is told from one fresh open state to the next loss of the buffers: after a cut or a new state nothing is claimed of
--- it until a restart end, which leaves no log behind it.
+-- "Restart end makes the pages the current backup": it leaves no log behind it, and what was put before it is told no more.
 abbrev pub forgets : Call → Bool
 forgets (restartEnd budget) = true
-forgets newState = true
 forgets (format s budget) = true
+forgets newState = false
 forgets begin = false
 forgets (update number page slot value budget) = false
 forgets (read reader page slot) = false
@@ -60,10 +59,11 @@ forgets (checkpointEnd budget) = false
 forgets restartBegin = false
 forgets (restartStep source) = false
 
+-- a cut call's records are told too: some of them may have been stored, the rest are lost with the buffers
 abbrev pub toldBy : Outcome → Call → Core → World → List Put → List Put
 toldBy taken k c w puts = cond (forgets k) [] (puts ++ putBy k c w)
 toldBy refused k c w puts = puts
-toldBy interrupted k c w puts = []
+toldBy interrupted k c w puts = puts ++ putBy k c w
 
 abbrev pub told : Machine → Event → List Put → List Put
 told m (call k) puts = toldBy (outcome m k) k (m .core) (m .world) puts

@@ -1,6 +1,6 @@
 -- What a restart can see of the devices, and the pages that it makes of that.
 use Prim.Native.Nat.{ℕ, zero, suc, _+_, _-_}
-use mathlib.Core.List.{List, [], _∷_}
+use mathlib.Core.List.{List, []}
 use mathlib.Core.Bool.{cond}
 use lib.ListN.{length, getD}
 use lib.Seq.{sets}
@@ -9,7 +9,7 @@ use Rattle.model.specs.Below.{listBelow}
 use Rattle.model.specs.Word.{xors, part}
 use Rattle.model.specs.Sizes.{total, slotBase}
 use Rattle.model.specs.Anchor.{epochOn, sizesOn, startOn, backupAt}
-use Rattle.model.specs.Record.{Record, change, close}
+use Rattle.model.specs.Record.{change, close}
 use Rattle.model.specs.Decode.{readLog, span}
 use Rattle.model.specs.Scan.{Scan, end, bad, item, scan, fateIn}
 use Rattle.model.specs.World.{World}

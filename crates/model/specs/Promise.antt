@@ -5,10 +5,10 @@ use mathlib.Core.List.{List, [], _∷_, _++_, List·Memᴰ}
 use mathlib.Core.Bool.{Bool, true, false, cond, _&&_, _||_}
 use lib.ListN.{getD}
 use lib.Dec.{ltb, eqb}
-use Rattle.model.specs.declared.Stage.the-variants.{Shut}
+use Rattle.model.specs.declared.Stage.the-variants.{Shut, Replaying}
 use Rattle.model.specs.declared.Sizes.{Sizes}
 use Rattle.model.specs.declared.Core.{Core}
-use Rattle.model.specs.Sizes.{slotsIn, ringOf, tailWord}
+use Rattle.model.specs.Sizes.{slotsIn, total, ringOf, tailWord}
 use Rattle.model.specs.Anchor.{epochOn, startOn}
 use Rattle.model.specs.Record.{Record, close, commitKind, encode, encodeAll}
 use Rattle.model.specs.Decode.{readLog}
@@ -20,10 +20,11 @@ use Rattle.model.specs.Refusal.{numberOf, verdict, accepted}
 use Rattle.model.specs.Causes.{whenServing, tailOn, locked}
 use Rattle.model.specs.Append.{storeLog}
 use Rattle.model.specs.Transaction.{diskOf, readWords, commitRows, commitTask}
-use Rattle.model.specs.Call.{Call, format, read, restartBegin, restartEnd}
-use Rattle.model.specs.Image.{retainedWords, imageOf, restarted}
+use Rattle.model.specs.Restart.{remaining}
+use Rattle.model.specs.Call.{Call, format, read, restartBegin, restartStep, restartEnd}
+use Rattle.model.specs.Image.{Image, retainedWords, imageOf, logOf, restarted}
 use Rattle.model.specs.Reference.{Reference, taken, slotIndex, wordsIn, plainTable, writtenByOther}
-use Rattle.model.specs.Machine.{Machine, Event, call, outcome, result, Run, after, follow, allowedAll, formatted, afterSteps}
+use Rattle.model.specs.Machine.{Machine, Event, call, outcome, result, after, follow, allowedAll, formatted, afterSteps}
 use Rattle.model.specs.History.{Put, history, recordsOn}
 
 -- P holds of every machine and reference that is reached so: format any machine, and let the format finish. Then let any events
@@ -52,6 +53,20 @@ RestartAccepted =
     Always λ m r. m .core .stage ≡ Shut
     → (eqb (numberOf (result m restartBegin .answer)) 0 || eqb (numberOf (result m restartBegin .answer)) 13) ≡ true
 
+-- A restart can be finished: a step from a source that has something left is taken, and leaves less of that source and as much of
+-- every other; once nothing is left, an end that has its T + D + 1 stores is taken.
+pub record Finishable (m : Machine) : Type 0 where
+  pub steps : (source : ℕ) → 0 < remaining (m .core) source → outcome m (restartStep source) ≡ taken
+  pub less : (source : ℕ) → 0 < remaining (m .core) source
+      → remaining (result m (restartStep source) .core) source < remaining (m .core) source
+  pub others : (source other : ℕ) → (other ≡ source → ⊥)
+      → remaining (result m (restartStep source) .core) other ≡ remaining (m .core) other
+  pub ends : (budget : ℕ) → ((source : ℕ) → source ≤ m .core .sizes .disks → remaining (m .core) source ≡ 0)
+      → total (m .core .sizes) + m .core .sizes .disks + 1 ≤ budget → outcome m (restartEnd budget) ≡ taken
+
+unfoldable pub RestartFinishes : Type 0
+RestartFinishes = Always λ m r. m .core .stage ≡ Replaying → Finishable m
+
 -- A plain table of slots. While the store is open or copying, the page memory is the committed contents with the open write sets
 -- laid over them; a taken read gives the slot's value in that table; 11 applies exactly when another open write set has a write
 -- to the slot.
@@ -65,9 +80,20 @@ pub record PlainTable (m : Machine) (r : Reference) : Type 0 where
 unfoldable pub Table : Type 0
 Table = Always λ m r. whenServing (m .core .stage) ≡ true → PlainTable m r
 
--- The log. While the store is open or copying, the words of a disk from its start to its tail and then its buffer are the encoding
--- of the last records that the calls put there (specs/History.antt: an update's difference is before XOR after, 000's definition 1),
--- and the reader gives back those records at their positions, and no others.
+-- The log. Each disk holds the records that the calls put there (specs/History.antt: an update's difference is before XOR after,
+-- 000's definition 1), and the reader gives back those records at their positions, and no others. In every stage, so also after lost
+-- power: the words of a disk from its start to its tail are the encoding of a stretch of what was put, and what comes after that
+-- stretch was buffered.
+pub record Stored (i : Image) (disk : ℕ) (put : List Record) : Type 0 where
+  pub old : List Record
+  pub kept : List Record
+  pub lost : List Record
+  pub parts : put ≡ old ++ (kept ++ lost)
+  pub words : getD (i .logs) disk [] ≡ encodeAll kept
+  pub reads : logOf i disk ≡ placed (getD (i .starts) disk 0) kept
+
+-- While the store is open or copying nothing is lost: what comes after the stretch is in the buffer, and the log from the start to
+-- the end, the buffer included, reads as all records put since the start.
 unfoldable pub logScan : Core → World → ℕ → Scan
 logScan c w disk =
     scan (c .sizes) (readLog (c .sizes) (w .logs) disk (tailOf (c .logs) disk) (bufferOf (c .sizes) (w .work) disk (fillOf (c .logs) disk)))
@@ -75,12 +101,12 @@ logScan c w disk =
 
 pub record LogOf (m : Machine) (disk : ℕ) (put : List Record) : Type 0 where
   pub old : List Record
-  pub kept : List Record
-  pub parts : put ≡ old ++ kept
-  pub words : retainedWords (m .core .sizes) (m .world) disk
-      ++ bufferOf (m .core .sizes) (m .world .work) disk (fillOf (m .core .logs) disk)
-      ≡ encodeAll kept
-  pub reads : logScan (m .core) (m .world) disk ≡ placed (startOf (m .core .logs) disk) kept
+  pub flushed : List Record
+  pub buffered : List Record
+  pub parts : put ≡ old ++ (flushed ++ buffered)
+  pub words : retainedWords (m .core .sizes) (m .world) disk ≡ encodeAll flushed
+  pub buffer : bufferOf (m .core .sizes) (m .world .work) disk (fillOf (m .core .logs) disk) ≡ encodeAll buffered
+  pub reads : logScan (m .core) (m .world) disk ≡ placed (startOf (m .core .logs) disk) (flushed ++ buffered)
 
 unfoldable pub LogKept : Type 0
 LogKept =
@@ -89,8 +115,9 @@ LogKept =
     → (events : List Event)
     → allowedAll events (formatted m s budget .machine) ≡ true
     → let n : Machine = follow events (formatted m s budget) .machine in
-    whenServing (n .core .stage) ≡ true → (disk : ℕ) → disk < n .core .sizes .disks
-    → LogOf n disk (recordsOn disk (history events (formatted m s budget .machine) []))
+    let put : List Put = history events (formatted m s budget .machine) [] in
+    ((disk : ℕ) → disk < imageOf (n .world) .sizes .disks → Stored (imageOf (n .world)) disk (recordsOn disk put))
+    × (whenServing (n .core .stage) ≡ true → (disk : ℕ) → disk < n .core .sizes .disks → LogOf n disk (recordsOn disk put))
 
 -- No call ever finds a malformed record.
 unfoldable pub NeverMalformed : Type 0

@@ -1,7 +1,7 @@
 -- 01, "Calls": restart begin, step and end.
 use Prim.Native.Nat.{ℕ, _+_, _-_}
 use mathlib.Core.List.{List, [], _∷_, _++_}
-use mathlib.Core.Bool.{Bool, true, false, cond, not, _&&_}
+use mathlib.Core.Bool.{Bool, false, cond, not, _&&_}
 use lib.ListN.{getD, set, replicate}
 use lib.Dec.{ltb, eqb}
 use Rattle.model.specs.declared.Stage.the-variants.{Replaying}
@@ -21,7 +21,7 @@ use Rattle.model.specs.Anchor.{epochWord, epochOn, sizesOn, startOn, sta
 use Rattle.model.specs.Record.{inBackup}
 use Rattle.model.specs.Decode.{readLog, decodeAt, span}
 use Rattle.model.specs.Scan.{scan, fateIn}
-use Rattle.model.specs.World.{World, Action, store, write, anchor, backups, pages, each}
+use Rattle.model.specs.World.{World, store, write, anchor, backups, pages, each}
 use Rattle.model.specs.State.{openCore, noTable, noCheckpoint, tailOf}
 use Rattle.model.specs.Refusal.{Row, row, Task}
 use Rattle.model.specs.Causes.{whenShut, whenReplaying, stageForbids, anchorWrong, unformatted, sizesWrong, lengthsWrong, tailRow, tailOn, faultFrom, faultRow, sourceMissing, spent}

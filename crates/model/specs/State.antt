@@ -2,7 +2,7 @@
 -- In these files `c` is a state, and its `epoch` is 01's c; where no state is at hand, `c` is 01's c.
 use Prim.Native.Nat.{ℕ, _+_, _-_, _^_}
 use mathlib.Core.List.{List}
-use mathlib.Core.Bool.{Bool, true, false, cond, not, _&&_, _||_}
+use mathlib.Core.Bool.{Bool, true, cond, not, _&&_, _||_}
 use lib.ListN.{getD, set, replicate}
 use lib.Dec.{leb, ltb, eqb}
 use Rattle.model.specs.declared.Stage.{Stage}

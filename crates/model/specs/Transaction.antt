@@ -1,7 +1,7 @@
 -- 01, "Calls": begin, update, read and commit, each as the rows that it checks and what it does when none applies.
 use Prim.Native.Nat.{ℕ, _+_, _*_}
 use mathlib.Core.List.{List, [], _∷_, _++_}
-use mathlib.Core.Bool.{Bool, true, false, cond, not}
+use mathlib.Core.Bool.{cond, not}
 use lib.ListN.{length}
 use lib.Dec.{leb}
 use Rattle.model.specs.declared.Table.{Table}
@@ -9,7 +9,7 @@ use Rattle.model.specs.declared.Core.{Core}
 use Rattle.model.specs.Word.{xors, part}
 use Rattle.model.specs.Sizes.{widthIn, slotBase}
 use Rattle.model.specs.Record.{Record, change, close, encode, wordsOf, updateKind, commitKind}
-use Rattle.model.specs.World.{World, Action, write, pages, work, each, perform}
+use Rattle.model.specs.World.{World, write, pages, work, each, perform}
 use Rattle.model.specs.Memory.{ownerAt, epochOf}
 use Rattle.model.specs.State.{withLog, endOf, flushed, placeOf, diskAtPlace, firstAt, reservedAt, withPlace, without, hasUpdate}
 use Rattle.model.specs.Room.{noDisk, hasRoom, idlest}

@@ -31,7 +31,7 @@ remaining-backup c =
     rw (le-ltb (c .sizes .disks) (c .sizes .disks) (omega arith), eq-eqb (c .sizes .disks) (c .sizes .disks) refl)
 
 -- a step that is taken has a source with something left
-step-source : (c : Core) (w : World) (source : ℕ) → Taken (restartStep source) c w
+pub step-source : (c : Core) (w : World) (source : ℕ) → Taken (restartStep source) c w
     → (source ≤ c .sizes .disks) × (remaining c source ≡ 0 → ⊥)
 unfolding restartStepRows sourceMissing
 step-source c w source t =

@@ -32,6 +32,7 @@ use Rattle.model.proofs.Store.Compensate.{Compensated}
 use Rattle.model.proofs.Store.Undo.{compensations, none-undone, undone}
 use Rattle.model.proofs.Store.Left.{MayAbort, may-abort, none-left, none-logged, left-slotted, left-sum}
 use Rattle.model.proofs.Store.CloseAbort.{closing, closed, closing-cut}
+use Rattle.model.proofs.Store.Steady.{kept-lost}
 
 -- an abort of transaction t may begin
 pub abort-begins : {home : ℕ → ℕ} {puts : List Put} {c : Core} {w : World} {r : Reference} {F B : List Entry} (t : ℕ) → Serving 0 home puts c w r F B
@@ -139,14 +140,14 @@ module _ {home : ℕ → ℕ} {puts : List Put} {c : Core} {w : World} {r : Refe
       rw (perform-append (undo .actions) _ w, ← append-assoc puts (compensations c w t us) _)
       (closed (work .serving) (may .opened) (may .below) (work .small) room in-limit cancels)
 
-  abort-kept : (budget : ℕ) → budget < stores (abortTask c w t .actions) → Kept (run budget (abortTask c w t .actions) w) r
+  abort-kept : (budget : ℕ) → budget < stores (abortTask c w t .actions) → Kept (puts ++ compensations c w t us) (run budget (abortTask c w t .actions) w) r
   unfolding abortTask withLog diskOf
   abort-kept budget h = go (decLt budget (stores (undo .actions)))
     where
       last : Appended
       last = closing (work .serving) (may .opened) (may .below) (work .small) room in-limit cancels
 
-      go : Dec (budget < stores (undo .actions)) → Kept (run budget (undo .actions ++ last .actions) w) r
+      go : Dec (budget < stores (undo .actions)) → Kept (puts ++ compensations c w t us) (run budget (undo .actions ++ last .actions) w) r
       go (yes less) = rw (run-cut budget (undo .actions) (last .actions) w less) (work .cut budget less)
       go (no more) =
           rw (run-append budget (undo .actions) (last .actions) w (omega arith))
@@ -162,6 +163,8 @@ abort-serves {c = c} {w = w} g number budget n v = abort-served (g .serving) num
 -- Cut, it leaves devices that restart to what was committed.
 pub abort-cut : {puts : List Put} {c : Core} {w : World} {r : Reference} → Served puts c w r → (number budget : ℕ)
     → verdict (abortRows c w number) ≡ accepted → finishes budget (abortTask c w number .actions) ≡ false
-    → Kept (run budget (abortTask c w number .actions) w) r
+    → Kept (puts ++ putBy (abort number budget) c w) (run budget (abortTask c w number .actions) w) r
 unfolding finishes
-abort-cut {c = c} {w = w} g number budget v f = abort-kept (g .serving) number (may-abort c w number v) budget (leb-false _ _ f)
+abort-cut {puts} {c = c} {w = w} g number budget v f =
+    rw (← append-assoc puts (compensations c w number (updatesLeft c w number)) _)
+    (kept-lost (abort-kept (g .serving) number (may-abort c w number v) budget (leb-false _ _ f)) _)

@@ -118,19 +118,19 @@ module _ {puts : List Put} {c : Core} {w : World} {r : Reference} (g : Served pu
 
   -- the call cut: a restart still gives what is committed
   pub checkpoint-end-cut : (budget : ℕ) → finishes budget (checkpointEndTask c w .actions) ≡ false
-      → Kept (run budget (checkpointEndTask c w .actions) w) r
+      → Kept puts (run budget (checkpointEndTask c w .actions) w) r
   unfolding finishes
   checkpoint-end-cut budget short = rw parts (go (ltb budget (stores flushing)) refl)
     where
       less : budget < stores (flushing ++ last)
       less = rw parts at (leb-false (stores (checkpointEndTask c w .actions)) budget short)
 
-      go : (b : Bool) → ltb budget (stores flushing) ≡ b → Kept (run budget (flushing ++ last) w) r
+      go : (b : Bool) → ltb budget (stores flushing) ≡ b → Kept puts (run budget (flushing ++ last) w) r
       go true e =
           let l = ltb-true budget (stores flushing) e in
           rw (run-cut budget flushing last w l) (emptied .cut budget l)
       go false e =
           let l = ltb-false budget (stores flushing) e in
           rw (run-append budget flushing last w l)
-          (end-cut (c .epoch) (newStart c) (c .sizes .disks) mid few number (kept (settled .safe))
+          (end-cut (c .epoch) (newStart c) (c .sizes .disks) mid few number (kept (settled .safe) puts (settled .told))
           (budget - stores flushing) (omega (arith, stores-append flushing last, less)))

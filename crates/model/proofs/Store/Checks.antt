@@ -106,7 +106,7 @@ fate-sound disk number (item p (close kind n) rest) e = go (eqb n number) (fate-
     go false f = f
 
 module _ (c : Core) (w : World) (m : Progress c w) where
-  record-sound : (d : ℕ) → d < c .sizes .disks → positionOf c d < tailOf (c .logs) d → (r : Decoded) → nextRecord c w d ≡ r
+  pub record-sound : (d : ℕ) → d < c .sizes .disks → positionOf c d < tailOf (c .logs) d → (r : Decoded) → nextRecord c w d ≡ r
       → recordFault c w d r ≡ Sound
   unfolding nextRecord fateFrom logLeft ending
   record-sound d h k (Change kind page slot number epoch width next) e =

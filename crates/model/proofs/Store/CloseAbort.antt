@@ -182,6 +182,6 @@ module _ {t : ℕ} {home : ℕ → ℕ} {puts : List Put} {c : Core} {w : World}
       }
 
   -- cut, it is the flush before it cut
-  pub closing-cut : (k : ℕ) → k < stores (closing .actions) → Kept (run k (closing .actions) w) r
+  pub closing-cut : (k : ℕ) → k < stores (closing .actions) → Kept puts (run k (closing .actions) w) r
   unfolding stores recordOf isClose
   closing-cut k h = rw append-nil at (put-cut g e may [] refl k (rw append-nil h))

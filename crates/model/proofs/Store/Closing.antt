@@ -113,12 +113,12 @@ module _ {home : ℕ → ℕ} {puts : List Put} {c : Core} {w : World} {r : Refe
   closing-append = logged-stores (g .safe) e below here small room at-end unclosed fit space in-limit
 
   -- cut inside that flush, nothing is lost
-  pub closing-cut : (k : ℕ) → k < stores flushing → Kept (run k flushing addedWorld) r
+  pub closing-cut : (k : ℕ) → k < stores flushing → Kept puts (run k flushing addedWorld) r
   closing-cut k h =
       let part-way = cut-only (c .sizes) (added .logs) addedWorld (e .disk) k h in
       kept-linked (g .safe) (flush-cut linked right arrays (e .disk) below ring-room k h)
       (part-way .anchor-same ∙ buffer .anchor-same) (part-way .backups-same ∙ buffer .backups-same)
-      (same-lengths-trans (run-lengths k flushing addedWorld) (perform-lengths (added .actions) w)) (more .start-same)
+      (same-lengths-trans (run-lengths k flushing addedWorld) (perform-lengths (added .actions) w)) (more .start-same) puts (g .told)
 
   lengths : SameLengths doneWorld w
   lengths = same-lengths-trans (perform-lengths flushing addedWorld) (perform-lengths (added .actions) w)

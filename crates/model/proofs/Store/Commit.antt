@@ -31,6 +31,7 @@ use Rattle.model.proofs.Store.Closing.{committedReference, closing-appe
 use Rattle.model.proofs.Growth.{Small}
 use Rattle.model.proofs.Booleans.{true-false}
 use Rattle.model.proofs.Store.Accepted.{small-buffers, open-entry, open-below, own-room, commit-accepted}
+use Rattle.model.proofs.Store.Steady.{kept-lost}
 
 -- What an accepted commit may rely on: the transaction is open, on a disk with room for its closing record.
 record Allowed (c : Core) (n : ℕ) : Type 0 where
@@ -141,7 +142,7 @@ module _ {puts : List Put} {c : Core} {w : World} {r : Reference} (g : Served pu
         serving = closing-serves (start .serving) e (a .opened) closes refl (a .below) (start .small) room refl fit space in-limit;
       }
 
-  cut : (k : ℕ) → k < stores flushing → Kept (run k flushing (perform (added .actions) world)) r
+  cut : (k : ℕ) → k < stores flushing → Kept puts (run k flushing (perform (added .actions) world)) r
   unfolding withLog diskOf
   cut k h = closing-cut (start .serving) e (a .opened) closes refl (a .below) (start .small) room refl fit space in-limit k h
 
@@ -151,10 +152,10 @@ module _ {puts : List Put} {c : Core} {w : World} {r : Reference} (g : Served pu
 
   -- the list cut before its end: inside the first flush, or inside the second
   cut-anywhere : (k : ℕ) → k < stores (start .flushing ++ (added .actions ++ flushing))
-      → Kept (run k (start .flushing ++ (added .actions ++ flushing)) w) r
+      → Kept puts (run k (start .flushing ++ (added .actions ++ flushing)) w) r
   cut-anywhere k h = go (decLt k (stores (start .flushing)))
     where
-      go : Dec (k < stores (start .flushing)) → Kept (run k (start .flushing ++ (added .actions ++ flushing)) w) r
+      go : Dec (k < stores (start .flushing)) → Kept puts (run k (start .flushing ++ (added .actions ++ flushing)) w) r
       go (yes l) = rw (run-cut k (start .flushing) (added .actions ++ flushing) w l) (start .cut k l)
       go (no l) =
           let more = stores-append (start .flushing) (added .actions ++ flushing) in
@@ -176,9 +177,9 @@ commit-serves {c} {w} g number budget n v =
 -- Cut, it leaves what was committed before it.
 pub commit-cut : {puts : List Put} {c : Core} {w : World} {r : Reference} → Served puts c w r → (number budget : ℕ)
     → verdict (commitRows c w number) ≡ accepted → finishes budget (commitTask c w number .actions) ≡ false
-    → Kept (run budget (commitTask c w number .actions) w) r
+    → Kept (puts ++ putBy (commit number budget) c w) (run budget (commitTask c w number .actions) w) r
 unfolding finishes
-commit-cut {c} {w} g number budget v f =
+commit-cut {puts} {c} {w} g number budget v f =
     let a = allowed c w number v in
     let less : budget < stores (commitTask c w number .actions) = leb-false _ _ f in
-    rw (task g number a) (cut-anywhere g number a budget (rw (task g number a) at less))
+    kept-lost {puts = puts} (rw (task g number a) (cut-anywhere g number a budget (rw (task g number a) at less))) _

@@ -41,6 +41,7 @@ use Rattle.model.proofs.Store.LogEnd.{capped, early}
 use Rattle.model.proofs.Store.Put.{MayPut, put, put-longer, put-in-buffer, F1, B1, made-good, put-sums, put-safe, put-epochs, put-own, put-told, put-cut}
 use Rattle.model.proofs.Growth.{Small}
 use Rattle.model.proofs.Parts.{spanning-true}
+use Rattle.model.proofs.Store.Steady.{kept-lost}
 
 -- An update as an abort reads it names a slot and has its width.
 pub record Slotted (s : Sizes) (u : Update) : Type 0 where
@@ -59,7 +60,7 @@ pub record Compensated (t : ℕ) (home : ℕ → ℕ) (after : List Put) (c : Co
   pub ends : endOf (done .logs) d ≡ endOf (c .logs) d + n
   pub small : Small (c .sizes) (done .logs)
   pub epochs : (page : ℕ) → epochOf (c .sizes) (perform (done .actions) w .work) page ≡ epochOf (c .sizes) (w .work) page
-  pub cut : (k : ℕ) → k < stores (done .actions) → Kept (run k (done .actions) w) r
+  pub cut : (k : ℕ) → k < stores (done .actions) → Kept after (run k (done .actions) w) r
 
 -- One update u of transaction t taken back, with room for its record.
 module _ {t : ℕ} {home : ℕ → ℕ} {puts : List Put} {c : Core} {w : World} {r : Reference} {F B : List Entry} (g : Serving t home puts c w r F B)
@@ -258,5 +259,5 @@ module _ {t : ℕ} {home : ℕ → ℕ} {puts : List Put} {c : Core} {w : World}
         ends = put-longer g e may .end-longer ∙ ap (λ (n : ℕ). endOf (c .logs) d + n) size;
         small = put-longer g e may .small;
         epochs = λ page. rw world (sym (epochs-after page));
-        cut = put-cut g e may slot-words storeless;
+        cut = λ k h. kept-lost (put-cut g e may slot-words storeless k h) _;
       })

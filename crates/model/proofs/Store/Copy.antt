@@ -226,8 +226,8 @@ step-aside {c} {w} v ok =
     (write work (epochAt (c .sizes) (lowestToCopy c)) (c .epoch + 1) ∷ [])
     (aside-backup (c .sizes) (c .epoch) (at ok v) (words ok v) (omega arith) (omega (arith, size-words ok v, fits ok v))) (tt, tt)
 
-pub checkpoint-step-cut : {puts : List Put} {c : Core} {w : World} {r : Reference} (budget : ℕ) → Served puts c w r → verdict (checkpointStepRows c w) ≡ accepted → Kept w r
-    → finishes budget (checkpointStepTask c w .actions) ≡ false → Kept (run budget (checkpointStepTask c w .actions) w) r
+pub checkpoint-step-cut : {puts : List Put} {c : Core} {w : World} {r : Reference} (budget : ℕ) → Served puts c w r → verdict (checkpointStepRows c w) ≡ accepted → Kept puts w r
+    → finishes budget (checkpointStepTask c w .actions) ≡ false → Kept puts (run budget (checkpointStepTask c w .actions) w) r
 checkpoint-step-cut {c = c} {w = w} budget s ok k cut =
     let v : Devices c w = s .serving .safe .devices in
     kept-aside budget (checkpointStepTask c w .actions) (rw (v .sizes, v .epoch) (step-aside v ok)) k

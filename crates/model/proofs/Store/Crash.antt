@@ -1,6 +1,6 @@
 -- The power may go at any moment: what holds of an open store makes its image restart to the committed contents.
 use mathlib.Core.Path.{_≡_, refl, sym, ap, ap₂, subst, _∙_}
-use mathlib.Core.List.{List, [], _∷_}
+use mathlib.Core.List.{List, [], _∷_, _++_, map, map-append}
 use Prim.Native.Nat.{ℕ, _+_, _≤_, _<_}
 use native.Mathlib.Omega.{arith}
 use lib.ListN.{length, getD}
@@ -10,29 +10,33 @@ use Rattle.model.specs.declared.Sizes.{Sizes}
 use Rattle.model.specs.declared.Core.{Core}
 use Rattle.model.specs.Word.{_⊕_}
 use Rattle.model.specs.Sizes.{total, ringOf}
-use Rattle.model.specs.Anchor.{backupAt}
+use Rattle.model.specs.Anchor.{startOn, backupAt}
+use Rattle.model.specs.Record.{Record}
 use Rattle.model.specs.World.{World}
 use Rattle.model.specs.Scan.{end}
 use Rattle.model.specs.State.{limit, startOf, tailOf, endOf}
-use Rattle.model.specs.Image.{imageOf, logOf, restarted}
+use Rattle.model.specs.Image.{imageOf, retainedWords, logOf, restarted}
 use Rattle.model.specs.Reference.{Reference, wordsIn}
+use Rattle.model.specs.History.{Put, recordsOn}
+use Rattle.model.specs.Promise.{Stored}
+use Rattle.model.proofs.Below.{getD-list}
 use Rattle.model.proofs.Bounds.{in-bounds}
 use Rattle.model.proofs.Reading.{ending}
 use Rattle.model.proofs.Slots.{words-length}
-use Rattle.model.proofs.Ledger.Entry.{Entry, adds, All, closedIn, chosen, mask, sum}
-use Rattle.model.proofs.Ledger.Order.{on, entriesScan}
+use Rattle.model.proofs.Ledger.Entry.{Entry, recordOf, adds, All, closedIn, chosen, mask, sum}
+use Rattle.model.proofs.Ledger.Order.{on, wordsOf, entriesScan}
 use Rattle.model.proofs.Ledger.Sums.{all-map}
 use Rattle.model.proofs.Ledger.Picks.{all-pick}
 use Rattle.model.proofs.Ledger.Lists.{all-left}
 use Rattle.model.proofs.Ledger.Ordered.{closed-same, closes-last, closesLast}
 use Rattle.model.proofs.Ledger.Good.{recovers}
-use Rattle.model.proofs.Link.Words.{Fit, image-log, retained-scan}
+use Rattle.model.proofs.Link.Words.{Fit, placed-entries, retained, image-log, retained-scan}
 use Rattle.model.proofs.Restart.Words.{xor-below-cong}
 use Rattle.model.proofs.Restart.Gain.{gain, gains, restarted-word, length-restarted}
 use Rattle.model.proofs.Restart.Image.{length-backup}
 use Rattle.model.proofs.Restart.Entries.{gain-entries, ClosesLast}
 use Rattle.model.proofs.Restart.Disks.{sum-by-disk}
-use Rattle.model.proofs.Store.View.{Kept, Restartable, view, Safe, flushed-laid}
+use Rattle.model.proofs.Store.View.{Kept, Restartable, view, Safe, Since, flushed-laid}
 use Rattle.model.proofs.Parts.{getD-part}
 
 -- no entry behind a closing record has its number
@@ -117,14 +121,29 @@ module _ {x : ℕ} {home : ℕ → ℕ} {c : Core} {w : World} {r : Reference} {
         clean = λ d. rw (g .devices .sizes) (λ h. rw (retained-scan (g .link) d h (g .devices .starts d h) fit (flushed-laid g d h)) (entries-end (on d F)));
       }
 
+  -- the logs of the image are the flushed entries; what is buffered would be lost
+  stored : (d : ℕ) → d < s .disks → (puts : List Record) → Since puts (on d F ++ on d B) → Stored (imageOf w) d puts
+  unfolding imageOf wordsOf
+  stored d h puts told =
+      let start = getD-list (startOn (w .anchor)) (s .disks) d 0 h ∙ g .devices .starts d h in
+      record {
+        old = told .old;
+        kept = map recordOf (on d F);
+        lost = map recordOf (on d B);
+        parts = told .all ∙ ap (λ (l : List Record). told .old ++ l) (map-append recordOf (on d F) (on d B));
+        words = rw (g .devices .sizes) (getD-list (retainedWords s w) (s .disks) d [] h ∙ retained (g .link) d h (g .devices .starts d h));
+        reads = log d h ∙ rw (g .devices .sizes, start) (sym (placed-entries (startOf (c .logs) d) (on d F) (flushed-laid g d h)));
+      }
+
   -- a restart from this moment on gives what is committed
-  pub kept : Kept w r
-  kept =
+  pub kept : (puts : List Put) → ((d : ℕ) → d < s .disks → Since (recordsOn d puts) (on d F ++ on d B)) → Kept puts w r
+  kept puts told =
       record {
         sizes = g .devices .sizes ∙ sym (g .sizes);
         shaped = rw (g .sizes) (g .shaped);
         image =
             ext-getD 0 _ _ (length-restarted (imageOf w) backup-long ∙ ap total image-sizes ∙ sym (words-length s (r .committed) (g .shaped)))
             (λ i h. word i (subst (λ (n : ℕ). i < n) (length-restarted (imageOf w) backup-long ∙ ap total image-sizes) h));
+        logs = λ d h. stored d (rw image-sizes at h) (recordsOn d puts) (told d (rw image-sizes at h));
         sound = restartable;
       }

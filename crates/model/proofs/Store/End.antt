@@ -22,6 +22,7 @@ use Rattle.model.specs.Refusal.{accepted, verdict}
 use Rattle.model.specs.Causes.{whenReplaying, anchorWrong, lengthsWrong, tailOn}
 use Rattle.model.specs.Format.{freshMemory}
 use Rattle.model.specs.Restart.{restartEndRows, restartEndTask}
+use Rattle.model.specs.History.{Put}
 use Rattle.model.specs.Reference.{Reference, wordsIn}
 use Rattle.model.proofs.Below.{all-each}
 use Rattle.model.proofs.Run.{perform-append, perform-backups, perform-work, stores-append, stores-stored}
@@ -232,9 +233,9 @@ module _ (c : Core) (w : World) (found : EndFound c w) where
       (aside-starts (c .sizes) (c .epoch) (tailOf (c .logs)) (c .sizes .disks) (bounded (c .sizes) (found .bounds) .disks-max))
 
 -- A restart end that is cut leaves what a restart needs: the next restart makes the same pages.
-pub restart-end-cut : (c : Core) (w : World) {r : Reference} (budget : ℕ) → Kept w r → c .sizes ≡ sizesOn (w .anchor)
+pub restart-end-cut : (c : Core) (w : World) {puts : List Put} {r : Reference} (budget : ℕ) → Kept puts w r → c .sizes ≡ sizesOn (w .anchor)
     → c .epoch ≡ epochOn (w .anchor) → verdict (restartEndRows c w) ≡ accepted
-    → finishes budget (restartEndTask c w .actions) ≡ false → Kept (run budget (restartEndTask c w .actions) w) r
+    → finishes budget (restartEndTask c w .actions) ≡ false → Kept puts (run budget (restartEndTask c w .actions) w) r
 restart-end-cut c w budget k sizes epoch e f =
     let found = end-found c w e in
     rw (early-only c w found budget f)

@@ -52,7 +52,7 @@ pub record Emptied (x : ℕ) (home : ℕ → ℕ) (puts : List Put) (c : Core) (
   pub fills : (d : ℕ) → n ≤ d → fillOf logs d ≡ fillOf (c .logs) d
   pub none : (d : ℕ) → d < n → on d buffered ≡ []
   pub memory : perform (flushes c w n) w .work ≡ w .work
-  pub cut : (k : ℕ) → k < stores (flushes c w n) → Kept (run k (flushes c w n) w) r
+  pub cut : (k : ℕ) → k < stores (flushes c w n) → Kept puts (run k (flushes c w n) w) r
 
 -- with all disks flushed nothing is buffered
 pub none-buffered : {x : ℕ} {home : ℕ → ℕ} {puts : List Put} {c : Core} {w : World} {r : Reference} (e : Emptied x home puts c w r (c .sizes .disks))
@@ -100,16 +100,16 @@ module _ {x : ℕ} {home : ℕ → ℕ} {puts : List Put} {c : Core} {w : World}
     unfolding Done withLog
     whole = subst Done same (flush-serving (e .serving) n below)
 
-    part-way : (k : ℕ) → k < stores one → Kept (run k one now) r
+    part-way : (k : ℕ) → k < stores one → Kept puts (run k one now) r
     unfolding withLog
     part-way k h =
-        subst (λ (l : List Action). k < stores l → Kept (run k l now) r) same
-        (λ less. kept (cut-safe (e .serving .safe) n below k less)) h
+        subst (λ (l : List Action). k < stores l → Kept puts (run k l now) r) same
+        (λ less. kept (cut-safe (e .serving .safe) n below k less) puts (e .serving .told)) h
 
-    cut-more : (k : ℕ) → k < stores (flushes c w n ++ one) → Kept (run k (flushes c w n ++ one) w) r
+    cut-more : (k : ℕ) → k < stores (flushes c w n ++ one) → Kept puts (run k (flushes c w n ++ one) w) r
     cut-more k h = go (ltb k (stores (flushes c w n))) refl
       where
-        go : (b : Bool) → ltb k (stores (flushes c w n)) ≡ b → Kept (run k (flushes c w n ++ one) w) r
+        go : (b : Bool) → ltb k (stores (flushes c w n)) ≡ b → Kept puts (run k (flushes c w n ++ one) w) r
         go true l = rw (run-cut k (flushes c w n) one w (ltb-true _ _ l)) (e .cut k (ltb-true _ _ l))
         go false l =
             rw (run-append k (flushes c w n) one w (ltb-false _ _ l))

@@ -1,6 +1,6 @@
 -- What a restart sees of two worlds whose rings hold the same flushed entries is the same, whatever is buffered beside them.
 use mathlib.Core.Path.{_≡_, sym, ap, _∙_}
-use mathlib.Core.List.{List}
+use mathlib.Core.List.{List, _++_}
 use Prim.Native.Nat.{ℕ, _<_}
 use native.Mathlib.Omega.{arith}
 use Rattle.model.specs.declared.Sizes.{Sizes}
@@ -14,13 +14,15 @@ use Rattle.model.specs.State.{startOf}
 use Rattle.model.specs.Causes.{tailOn, retained as retainedScan}
 use Rattle.model.specs.Image.{imageOf, retainedWords, restarted}
 use Rattle.model.specs.Reference.{Reference}
+use Rattle.model.specs.History.{Put, recordsOn}
 use Rattle.model.proofs.Run.{SameLengths}
 use Rattle.model.proofs.Reading.{ending}
 use Rattle.model.proofs.Ledger.Entry.{Entry}
+use Rattle.model.proofs.Ledger.Order.{on}
 use Rattle.model.proofs.Ledger.Lists.{all-left}
 use Rattle.model.proofs.Link.Words.{Fit, Link, retained, retained-scan}
 use Rattle.model.proofs.Restart.Image.{image-same}
-use Rattle.model.proofs.Store.View.{Restartable, Kept, Safe, flushed-laid}
+use Rattle.model.proofs.Store.View.{Restartable, Kept, Safe, Since, flushed-laid}
 use Rattle.model.proofs.Store.Crash.{kept}
 use Rattle.model.proofs.Store.Flush.{lengths-same}
 
@@ -71,12 +73,13 @@ module _ {x : ℕ} {home : ℕ → ℕ} {c : Core} {m : Logs} {w v : World} {r :
       }
 
   -- so what one of them keeps, the other keeps
-  pub kept-linked : Kept v r
-  kept-linked =
-      let h = kept g in
+  pub kept-linked : (puts : List Put) → ((d : ℕ) → d < s .disks → Since (recordsOn d puts) (on d F ++ on d B)) → Kept puts v r
+  kept-linked puts told =
+      let h = kept g puts told in
       record {
         sizes = ap sizesOn anchor ∙ h .sizes;
         shaped = h .shaped;
         image = ap restarted image-linked ∙ h .image;
+        logs = rw image-linked (h .logs);
         sound = restartable-linked (h .sound);
       }

@@ -1,6 +1,6 @@
 -- A record appended where the buffer has room for it, and words of the memories written after it.
 use mathlib.Core.Path.{_≡_, refl, sym, ap, subst, fun-ext, _∙_}
-use mathlib.Core.List.{List, [], _∷_, _++_, map, append-assoc, append-nil}
+use mathlib.Core.List.{List, [], _∷_, _++_, map, append-assoc, append-nil, map-append}
 use mathlib.Core.Bool.{Bool, true, false, cond, _&&_}
 use Prim.Native.Nat.{ℕ, _+_, _≤_, _<_}
 use native.Mathlib.Omega.{arith}
@@ -70,10 +70,6 @@ records-append d (p ∷ a) b = go (eqb (p .disk) d) (records-append d a b)
     go true e = ap (λ (l : List Record). p .content ∷ l) e
     go false e = e
 
-map-append : (l m : List Entry) → map recordOf (l ++ m) ≡ map recordOf l ++ map recordOf m
-map-append [] m = refl
-map-append (e ∷ l) m = ap (λ (r : List Record). recordOf e ∷ r) (map-append l m)
-
 pub told-more : (puts : List Put) (F B : List Entry) (e : Entry) (p : Put) → p .disk ≡ e .disk → p .content ≡ recordOf e
     → (d : ℕ) → Since (recordsOn d puts) (on d F ++ on d B) → Since (recordsOn d (puts ++ p ∷ [])) (on d F ++ on d (B ++ e ∷ []))
 unfolding recordsOn
@@ -83,7 +79,7 @@ told-more puts F B e p disk content d k = record { old = k .old; all = go (ℕ-d
     go (yes same) =
         rw (records-append d puts (p ∷ []), on-more d B e same, eq-eqb (p .disk) d (disk ∙ same), content, k .all)
         (append-assoc (k .old) _ (recordOf e ∷ [])
-        ∙ ap (λ (l : List Record). k .old ++ l) (sym (map-append (on d F ++ on d B) (e ∷ [])) ∙ ap (map recordOf) (append-assoc (on d F) (on d B) (e ∷ []))))
+        ∙ ap (λ (l : List Record). k .old ++ l) (sym (map-append recordOf (on d F ++ on d B) (e ∷ [])) ∙ ap (map recordOf) (append-assoc (on d F) (on d B) (e ∷ []))))
     go (no ne) =
         rw (records-append d puts (p ∷ []), on-less d B e ne, ne-eqb (p .disk) d (λ z. ne (sym disk ∙ z)), append-nil (recordsOn d puts)) (k .all)
 

@@ -177,10 +177,10 @@ module _ {x : ℕ} {home : ℕ → ℕ} {puts : List Put} {c : Core} {w : World}
   put-world = ap (λ (a : Appended). perform (a .actions) w) put-parts ∙ perform-append (made .flushing) (added .actions) w
 
   -- cut, it is the flush cut; what comes after it in the memories is not reached
-  pub put-cut : (rest : List Action) → stores rest ≡ 0 → (k : ℕ) → k < stores (put .actions ++ rest) → Kept (run k (put .actions ++ rest) w) r
+  pub put-cut : (rest : List Action) → stores rest ≡ 0 → (k : ℕ) → k < stores (put .actions ++ rest) → Kept puts (run k (put .actions ++ rest) w) r
   put-cut rest none k h = rw put-parts (go (rw put-parts at h))
     where
-      go : k < stores ((made .flushing ++ added .actions) ++ rest) → Kept (run k ((made .flushing ++ added .actions) ++ rest) w) r
+      go : k < stores ((made .flushing ++ added .actions) ++ rest) → Kept puts (run k ((made .flushing ++ added .actions) ++ rest) w) r
       go l =
           let whole = stores-append (made .flushing) (added .actions) in
           let less : k < stores (made .flushing) =

@@ -48,7 +48,7 @@ pub record Ready (x : ℕ) (home : ℕ → ℕ) (puts : List Put) (c : Core) (w 
         actions = flushing ++ append (c .sizes) logs (perform flushing w .work) d words .actions;
         logs = append (c .sizes) logs (perform flushing w .work) d words .logs;
       }
-  pub cut : (k : ℕ) → k < stores flushing → Kept (run k flushing w) r
+  pub cut : (k : ℕ) → k < stores flushing → Kept puts (run k flushing w) r
 
 -- entries moved from the second list to the end of the first have the same sums
 sum-flush : (p : Entry → Bool) (f : Entry → ℕ) (F B : List Entry) → sum f ((F ++ pick p B) ++ pick (λ q. not (p q)) B) ≡ sum f (F ++ B)
@@ -126,7 +126,7 @@ module _ {x : ℕ} {home : ℕ → ℕ} {puts : List Put} {c : Core} {w : World}
         ends = ends-flushed (c .logs) d (g .safe .devices .arrays .sized) (below-eight (g .safe .devices .arrays) below) d;
         only = only;
         split = split over;
-        cut = λ k l. kept (cut-safe (g .safe) d below k l);
+        cut = λ k l. kept (cut-safe (g .safe) d below k l) puts (g .told);
       }
 
   choose : (b : Bool) → leb (fillOf (c .logs) d + n) 64 ≡ b → Ready x home puts c w r d n

@@ -1,14 +1,16 @@
 -- Where a restart sees the same of the devices, they keep the same.
 use mathlib.Core.Path.{ap, _∙_}
-use mathlib.Core.List.{List}
+use mathlib.Core.List.{List, _++_, append-assoc}
 use Prim.Native.Nat.{ℕ}
 use native.Mathlib.Omega.{arith}
 use Rattle.model.specs.Anchor.{sizesOn}
+use Rattle.model.specs.Record.{Record}
 use Rattle.model.specs.World.{World, Action, run}
 use Rattle.model.specs.Causes.{tailOn, retained}
 use Rattle.model.specs.Anchor.{epochOn}
 use Rattle.model.specs.Image.{restarted}
 use Rattle.model.specs.Reference.{Reference}
+use Rattle.model.specs.History.{Put, recordsOn}
 use Rattle.model.proofs.Bounds.{bounded}
 use Rattle.model.proofs.Run.{SameLengths}
 use Rattle.model.proofs.Ledger.Entry.{All}
@@ -16,6 +18,7 @@ use Rattle.model.proofs.Restart.Image.{SameDevices}
 use Rattle.model.proofs.Restart.Aside.{Aside, Steady, devices-steady, steady-image, steady-run}
 use Rattle.model.proofs.Store.View.{Restartable, Kept}
 use Rattle.model.proofs.Store.Flush.{lengths-same}
+use Rattle.model.proofs.Store.Logged.{records-append}
 
 pub steady-restartable : {v w : World} → Steady v w → Restartable w → Restartable v
 unfolding tailOn retained
@@ -30,20 +33,44 @@ steady-restartable {v} {w} k h =
       clean = λ d. rw (k .sizes) (λ l. rw (k .logs, k .starts d (omega arith)) (h .clean d l));
     }
 
-pub steady-kept : {v w : World} {r : Reference} → Steady v w → Kept w r → Kept v r
-steady-kept {v} {w} k h =
+pub steady-kept : {puts : List Put} {v w : World} {r : Reference} → Steady v w → Kept puts w r → Kept puts v r
+steady-kept {v = v} {w = w} k h =
+    let same = steady-image k (bounded (sizesOn (w .anchor)) (h .sound .bounds) .disks-max) in
     record {
       sizes = k .sizes ∙ h .sizes;
       shaped = h .shaped;
-      image = ap restarted (steady-image k (bounded (sizesOn (w .anchor)) (h .sound .bounds) .disks-max)) ∙ h .image;
+      image = ap restarted same ∙ h .image;
+      logs = rw same (h .logs);
       sound = steady-restartable k (h .sound);
     }
 
 -- the same devices, and memories of the same lengths
-pub kept-devices : {v w : World} {r : Reference} → SameDevices v w → SameLengths v w → Kept w r → Kept v r
+pub kept-devices : {puts : List Put} {v w : World} {r : Reference} → SameDevices v w → SameLengths v w → Kept puts w r → Kept puts v r
 kept-devices d k h = steady-kept (devices-steady d k) h
 
 -- stores beside what a restart sees, as many as a budget covers
-pub kept-aside : (budget : ℕ) (l : List Action) {w : World} {r : Reference} → All (Aside (sizesOn (w .anchor)) (epochOn (w .anchor))) l
-    → Kept w r → Kept (run budget l w) r
-kept-aside budget l {w} a h = steady-kept (steady-run budget l w a) h
+pub kept-aside : (budget : ℕ) (l : List Action) {puts : List Put} {w : World} {r : Reference} → All (Aside (sizesOn (w .anchor)) (epochOn (w .anchor))) l
+    → Kept puts w r → Kept puts (run budget l w) r
+kept-aside budget l {w = w} a h = steady-kept (steady-run budget l w a) h
+
+-- what is put and never stored is lost
+pub kept-lost : {puts : List Put} {w : World} {r : Reference} → Kept puts w r → (more : List Put) → Kept (puts ++ more) w r
+kept-lost {puts} k more =
+    record {
+      sizes = k .sizes;
+      shaped = k .shaped;
+      image = k .image;
+      logs = λ d h.
+          let was = k .logs d h in
+          let lost = recordsOn d more in
+          record {
+            old = was .old;
+            kept = was .kept;
+            lost = was .lost ++ lost;
+            parts = records-append d puts more ∙ ap (λ (l : List Record). l ++ lost) (was .parts)
+                ∙ append-assoc (was .old) (was .kept ++ was .lost) lost ∙ ap (λ (l : List Record). was .old ++ l) (append-assoc (was .kept) (was .lost) lost);
+            words = was .words;
+            reads = was .reads;
+          };
+      sound = k .sound;
+    }

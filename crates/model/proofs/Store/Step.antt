@@ -28,7 +28,7 @@ use Rattle.model.proofs.Restart.End.{end-gives}
 use Rattle.model.proofs.Store.View.{Kept, Served}
 use Rattle.model.proofs.Store.Rows.{stage-row, open-serving, copying-serving}
 use Rattle.model.proofs.Store.Crash.{kept}
-use Rattle.model.proofs.Store.Steady.{kept-devices}
+use Rattle.model.proofs.Store.Steady.{kept-devices, kept-lost}
 use Rattle.model.proofs.Store.Begin.{begin-serves}
 use Rattle.model.proofs.Store.Copy.{checkpoint-begin-serves, checkpoint-step-serves, checkpoint-step-cut}
 use Rattle.model.proofs.Store.End.{AtEnd, restart-end-serves, restart-end-cut}
@@ -41,10 +41,10 @@ use Rattle.model.proofs.Booleans.{true-false}
 use Rattle.model.proofs.Verdict.{row-passed}
 
 -- whatever the stage, the devices restart to what is committed
-pub holding-kept : {puts : List Put} {m : Machine} {r : Reference} → Holding puts m r → Kept (m .world) r
+pub holding-kept : {puts : List Put} {m : Machine} {r : Reference} → Holding puts m r → Kept puts (m .world) r
 holding-kept (shut s k n) = k
 holding-kept (replaying p k n) = k
-holding-kept (serving g) = kept (g .serving .safe)
+holding-kept (serving g) = kept (g .serving .safe) _ (g .serving .told)
 
 -- an accepted call found the stage that it is for
 pub row-one : (allowed : Stage → Bool) (c : Core) (rows : List Row) → verdict (row 1 (stageForbids allowed c) ∷ rows) ≡ accepted → allowed (c .stage) ≡ true
@@ -57,23 +57,23 @@ module _ {puts : List Put} {m : Machine} {r : Reference} where
   served (replaying p k n) e = true-false (sym (ap whenServing (p .stage)) ∙ e) refl
   served (serving g) e = g
 
-  pub stopped : Holding puts m r → whenShut (m .core .stage) ≡ true → Kept (m .world) r × (r .writeSets ≡ [])
+  pub stopped : Holding puts m r → whenShut (m .core .stage) ≡ true → Kept puts (m .world) r × (r .writeSets ≡ [])
   stopped (shut s k n) e = (k, n)
   stopped (replaying p k n) e = true-false (sym (ap whenShut (p .stage)) ∙ e) refl
   stopped (serving g) e = apart (m .core .stage) e (g .serving .stage)
     where
-      apart : (s : Stage) → whenShut s ≡ true → whenServing s ≡ true → Kept (m .world) r × (r .writeSets ≡ [])
+      apart : (s : Stage) → whenShut s ≡ true → whenServing s ≡ true → Kept puts (m .world) r × (r .writeSets ≡ [])
       apart Shut a b = true-false b refl
       apart Replaying a b = true-false a refl
       apart Open a b = true-false a refl
       apart Copying a b = true-false a refl
 
-  pub replayed : Holding puts m r → whenReplaying (m .core .stage) ≡ true → Progress (m .core) (m .world) × Kept (m .world) r × (r .writeSets ≡ [])
+  pub replayed : Holding puts m r → whenReplaying (m .core .stage) ≡ true → Progress (m .core) (m .world) × Kept puts (m .world) r × (r .writeSets ≡ [])
   replayed (shut s k n) e = true-false (sym (ap whenReplaying s) ∙ e) refl
   replayed (replaying p k n) e = (p, k, n)
   replayed (serving g) e = apart (m .core .stage) e (g .serving .stage)
     where
-      apart : (s : Stage) → whenReplaying s ≡ true → whenServing s ≡ true → Progress (m .core) (m .world) × Kept (m .world) r × (r .writeSets ≡ [])
+      apart : (s : Stage) → whenReplaying s ≡ true → whenServing s ≡ true → Progress (m .core) (m .world) × Kept puts (m .world) r × (r .writeSets ≡ [])
       apart Shut a b = true-false a refl
       apart Replaying a b = true-false b refl
       apart Open a b = true-false a refl
@@ -84,7 +84,7 @@ never-cut : {X : Type 0} (k : Call) (m : Machine) → storesNothing k ≡ true �
 never-cut k m e f = true-false (storeless-finishes k (m .core) (m .world) e) f
 
 -- an accepted call whose budget lasts is taken
-accepted-taken : (k : Call) (m : Machine) → verdict (rowsOf k (m .core) (m .world)) ≡ accepted
+pub accepted-taken : (k : Call) (m : Machine) → verdict (rowsOf k (m .core) (m .world)) ≡ accepted
     → finishes (budgetOf k) (taskOf k (m .core) (m .world) .actions) ≡ true → outcomeOf (resultOf k (m .core) (m .world) .answer) ≡ taken
 unfolding resultOf
 accepted-taken k m v f = rw (v, f)
@@ -147,18 +147,18 @@ module _ (puts : List Put) (m : Machine) (r : Reference) (h : Holding puts m r) 
   step-checkpoint-step budget =
       call-keeps (checkpointStep budget) puts m r h
       (λ v f. puts-none (serving (checkpoint-step-serves (served h (copying-serving (m .core) (row-one whenCopying (m .core) _ v))) v)))
-      (λ v f. checkpoint-step-cut budget (served h (copying-serving (m .core) (row-one whenCopying (m .core) _ v))) v (holding-kept h) f)
+      (λ v f. kept-lost (checkpoint-step-cut budget (served h (copying-serving (m .core) (row-one whenCopying (m .core) _ v))) v (holding-kept h) f) [])
 
   step-checkpoint-end : (budget : ℕ) → Holding (told m (call (checkpointEnd budget)) puts) (after m (call (checkpointEnd budget))) (referred m (call (checkpointEnd budget)) r)
   unfolding checkpointEndRows
   step-checkpoint-end budget =
       call-keeps (checkpointEnd budget) puts m r h
       (λ v f. puts-none (serving (checkpoint-end-serves (served h (copying-serving (m .core) (row-one whenCopying (m .core) _ v))) v)))
-      (λ v f. checkpoint-end-cut (served h (copying-serving (m .core) (row-one whenCopying (m .core) _ v))) v budget f)
+      (λ v f. kept-lost (checkpoint-end-cut (served h (copying-serving (m .core) (row-one whenCopying (m .core) _ v))) v budget f) [])
 
   step-new : Holding (told m (call newState) puts) (after m (call newState)) (referred m (call newState) r)
   unfolding perform newCore
-  step-new = call-keeps newState puts m r h (λ v f. shut refl (kept-sets (holding-kept h) []) refl) (λ v f. never-cut newState m refl f)
+  step-new = call-keeps newState puts m r h (λ v f. puts-none (shut refl (kept-sets (holding-kept h) []) refl)) (λ v f. never-cut newState m refl f)
 
   step-restart-begin : Holding (told m (call restartBegin) puts) (after m (call restartBegin)) (referred m (call restartBegin) r)
   unfolding restartBeginRows
@@ -189,9 +189,9 @@ module _ (puts : List Put) (m : Machine) (r : Reference) (h : Holding puts m r) 
   step-restart-end budget =
       call-keeps (restartEnd budget) puts m r h
       (λ v f. serving (restart-end-serves (at-end (replayed h (row-one whenReplaying (m .core) _ v)) (accepted-taken (restartEnd budget) m v f)) v))
-      (λ v f. let s = replayed h (row-one whenReplaying (m .core) _ v) in restart-end-cut (m .core) (m .world) budget (s .1) (s .0 .sizes) (s .0 .epoch) v f)
+      (λ v f. let s = replayed h (row-one whenReplaying (m .core) _ v) in kept-lost (restart-end-cut (m .core) (m .world) budget (s .1) (s .0 .sizes) (s .0 .epoch) v f) [])
     where
-      at-end : Progress (m .core) (m .world) × Kept (m .world) r × (r .writeSets ≡ []) → outcomeOf (resultOf (restartEnd budget) (m .core) (m .world) .answer) ≡ taken → AtEnd (m .core) (m .world) r
+      at-end : Progress (m .core) (m .world) × Kept puts (m .world) r × (r .writeSets ≡ []) → outcomeOf (resultOf (restartEnd budget) (m .core) (m .world) .answer) ≡ taken → AtEnd (m .core) (m .world) r
       at-end s o =
           record {
             sizes = s .0 .sizes;

@@ -1,18 +1,16 @@
 -- While the store is open its logs hold what the calls put there, and its state says what is true.
-use mathlib.Core.Path.{_≡_, refl, sym, ap, ap₂, _∙_}
-use mathlib.Core.List.{List, [], _∷_, _++_, map, append-nil}
+use mathlib.Core.Path.{_≡_, refl, sym, ap, _∙_}
+use mathlib.Core.List.{List, [], _∷_, _++_, map, append-nil, map-append}
 use mathlib.Core.Bool.{Bool, true, false, cond, _&&_, _||_, and-false, and-eq-true-iff}
 use Prim.Native.Nat.{ℕ, _+_, _≤_, _<_}
 use native.Mathlib.Omega.{arith}
 use lib.Dec.{leb, eqb}
 use borrow.Author.Tests.{le-leb, eqb-true, eqb-false, eq-eqb, ne-eqb}
 use Rattle.model.specs.declared.Core.{Core}
-use Rattle.model.specs.Record.{encodeAll}
-use Rattle.model.specs.Scan.{Scan, Update, updatesIn, updateWords, oldest}
+use Rattle.model.specs.Record.{Record}
+use Rattle.model.specs.Scan.{Scan, Update, placed, updatesIn, updateWords, oldest}
 use Rattle.model.specs.World.{World}
-use Rattle.model.specs.Memory.{bufferOf}
-use Rattle.model.specs.Image.{retainedWords}
-use Rattle.model.specs.State.{fillOf, startOf, isOpen, placeOf, firstAt, hasUpdate, reservedAt}
+use Rattle.model.specs.State.{startOf, isOpen, placeOf, firstAt, hasUpdate, reservedAt}
 use Rattle.model.specs.Transaction.{diskOf}
 use Rattle.model.specs.Reference.{Reference}
 use Rattle.model.specs.Machine.{Machine}
@@ -22,7 +20,7 @@ use Rattle.model.proofs.Ledger.Entry.{Entry, recordOf, isClose, some, A
 use Rattle.model.proofs.Ledger.Order.{on, sizeOf, wordsOf, Laid, entriesScan}
 use Rattle.model.proofs.Ledger.Sums.{all-map, all-append, all-right}
 use Rattle.model.proofs.Ledger.Picks.{all-pick}
-use Rattle.model.proofs.Ledger.Lists.{all-left, pick-whole, on-append, words-append, some-pick}
+use Rattle.model.proofs.Ledger.Lists.{all-left, pick-whole, on-append, some-pick}
 use Rattle.model.proofs.Ledger.Positions.{size-ge, laid-from, boundary-start}
 use Rattle.model.proofs.Link.Words.{retained, placed-entries}
 use Rattle.model.proofs.Link.Abort.{scan-from}
@@ -50,23 +48,24 @@ module _ {home : ℕ → ℕ} {puts : List Put} {c : Core} {w : World} {r : Refe
       scan-from (g .safe .link) d below (startOf (c .logs) d) (g .safe .fit) laid (boundary-start (startOf (c .logs) d) entries)
       ∙ ap entriesScan from-start
 
-  log-words : retainedWords (c .sizes) w d ++ bufferOf (c .sizes) (w .work) d (fillOf (c .logs) d) ≡ encodeAll (map recordOf entries)
-  unfolding wordsOf
-  log-words =
-      ap₂ (λ (a b : List ℕ). a ++ b) (retained (g .safe .link) d below (g .safe .devices .starts d below)) (g .safe .link .buffer d below)
-      ∙ sym (words-append (on d F) (on d B))
-
 -- the promise of the log
 pub log-of : {puts : List Put} (m : Machine) (r : Reference) → Served puts (m .core) (m .world) r
     → (d : ℕ) → d < m .core .sizes .disks → LogOf m d (recordsOn d puts)
+unfolding wordsOf
 log-of m r g d below =
     let s = g .serving in
+    let F = on d (g .flushed) in
+    let B = on d (g .buffered) in
     record {
       old = s .told d below .old;
-      kept = map recordOf (on d (g .flushed) ++ on d (g .buffered));
-      parts = s .told d below .all;
-      words = log-words s d below;
-      reads = log-entries s d below ∙ sym (placed-entries (startOf (m .core .logs) d) _ (s .safe .ordered .laid d below));
+      flushed = map recordOf F;
+      buffered = map recordOf B;
+      parts = s .told d below .all ∙ ap (λ (l : List Record). s .told d below .old ++ l) (map-append recordOf F B);
+      words = retained (s .safe .link) d below (s .safe .devices .starts d below);
+      buffer = s .safe .link .buffer d below;
+      reads =
+          log-entries s d below ∙ sym (placed-entries (startOf (m .core .logs) d) (F ++ B) (s .safe .ordered .laid d below))
+          ∙ ap (placed (startOf (m .core .logs) d)) (map-append recordOf F B);
     }
 
 -- the position of a transaction's first entry

@@ -24,6 +24,7 @@ use Rattle.model.proofs.Link.Abort.{sumUpdates}
 use Rattle.model.proofs.Store.View.{Kept, Serving}
 use Rattle.model.proofs.Store.Compensate.{Slotted, Compensated, compensated}
 use Rattle.model.proofs.Growth.{Small}
+use Rattle.model.proofs.Store.Steady.{kept-lost}
 
 -- the records of the compensations of some updates
 abbrev pub compensations : Core → World → ℕ → List Update → List Put
@@ -48,11 +49,11 @@ module _ {t : ℕ} {home : ℕ → ℕ} {c : Core} {w : World} {r : Reference} {
       }
 
   -- one compensation and then others
-  pub then-undone : {puts after : List Put} {d m n : ℕ} {f h : ℕ → ℕ} {one rest : Appended} (a : Compensated t home puts c w r F B d m f one)
-      → Compensated t home after (withLog c (one .logs) (c .table)) (perform (one .actions) w) r (a .flushed) (a .buffered) d n h rest
-      → Compensated t home after c w r F B d (m + n) (λ i. f i ⊕ h i) (record { actions = one .actions ++ rest .actions; logs = rest .logs })
+  pub then-undone : {puts : List Put} (more : List Put) {d m n : ℕ} {f h : ℕ → ℕ} {one rest : Appended} (a : Compensated t home puts c w r F B d m f one)
+      → Compensated t home (puts ++ more) (withLog c (one .logs) (c .table)) (perform (one .actions) w) r (a .flushed) (a .buffered) d n h rest
+      → Compensated t home (puts ++ more) c w r F B d (m + n) (λ i. f i ⊕ h i) (record { actions = one .actions ++ rest .actions; logs = rest .logs })
   unfolding withLog
-  then-undone {d} {m} {n} {f} {h} {one} {rest} a b =
+  then-undone {puts} more {d} {m} {n} {f} {h} {one} {rest} a b =
       record {
         flushed = b .flushed;
         buffered = b .buffered;
@@ -65,9 +66,9 @@ module _ {t : ℕ} {home : ℕ → ℕ} {c : Core} {w : World} {r : Reference} {
         cut = λ k l. cut k l (decLt k (stores (one .actions)));
       }
     where
-      cut : (k : ℕ) → k < stores (one .actions ++ rest .actions) → Dec (k < stores (one .actions)) → Kept (run k (one .actions ++ rest .actions) w) r
-      cut k l (yes less) = rw (run-cut k (one .actions) (rest .actions) w less) (a .cut k less)
-      cut k l (no more) =
+      cut : (k : ℕ) → k < stores (one .actions ++ rest .actions) → Dec (k < stores (one .actions)) → Kept (puts ++ more) (run k (one .actions ++ rest .actions) w) r
+      cut k l (yes less) = rw (run-cut k (one .actions) (rest .actions) w less) (kept-lost (a .cut k less) more)
+      cut k l (no longer) =
           rw (run-append k (one .actions) (rest .actions) w (omega arith))
           (b .cut (k - stores (one .actions)) (omega (arith, stores-append (one .actions) (rest .actions))))
 
@@ -84,8 +85,9 @@ module _ {t : ℕ} {home : ℕ → ℕ} {c : Core} {w : World} {r : Reference} {
       (withLog c (one .logs) (c .table)) (perform (one .actions) w) r (a .flushed) (a .buffered) d n h rest
       → Compensated t home (puts ++ compensations c w t (u ∷ us)) c w r F B d (m + n) (λ i. f i ⊕ h i)
       (record { actions = one .actions ++ rest .actions; logs = rest .logs })
-  first-undone puts u us a b =
-      rw (← append-assoc puts (compensations c w t (u ∷ [])) (compensations c w t us), ← same-compensations a us) (then-undone a b)
+  first-undone {one = one} puts u us a b =
+      rw (← append-assoc puts (compensations c w t (u ∷ [])) (compensations c w t us), ← same-compensations a us)
+      (then-undone (compensations (withLog c (one .logs) (c .table)) (perform (one .actions) w) t us) a b)
 
 -- all of them, with room for their records
 pub undone : {t : ℕ} {home : ℕ → ℕ} {puts : List Put} {c : Core} {w : World} {r : Reference} {F B : List Entry} → Serving t home puts c w r F B

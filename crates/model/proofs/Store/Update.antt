@@ -32,6 +32,7 @@ use Rattle.model.proofs.Store.UpdateTable.{serving-updated}
 use Rattle.model.proofs.Growth.{Small}
 use Rattle.model.proofs.Booleans.{true-false}
 use Rattle.model.proofs.Store.Accepted.{small-buffers, open-entry, open-below, Updating, update-accepted}
+use Rattle.model.proofs.Store.Steady.{kept-lost}
 
 -- What its rows say.
 module _ {c : Core} {w : World} {number page slot : ℕ} {value : List ℕ} (a : Updating c w number page slot value) where
@@ -187,7 +188,7 @@ module _ {home : ℕ → ℕ} {puts : List Put} {c : Core} {w : World} {r : Refe
       simp (stores-append, stores-written) (omega (arith, append-fits (c .sizes) (y .logs) (v .work) d words (y .room)))
 
   pub update-kept : (budget : ℕ) → finishes budget (updateTask c w number page slot value .actions) ≡ false
-      → Kept (run budget (updateTask c w number page slot value .actions) w) r
+      → Kept puts (run budget (updateTask c w number page slot value .actions) w) r
   update-kept budget = rw update-actions (λ h. rw (run-cut budget (y .flushing) rest w (short h)) (y .cut budget (short h)))
     where
       short : finishes budget (y .flushing ++ rest) ≡ false → budget < stores (y .flushing)
@@ -203,5 +204,5 @@ module _ {puts : List Put} {c : Core} {w : World} {r : Reference} (g : Served pu
   -- cut, it leaves devices that restart to what was committed
   pub update-cut : (number page slot : ℕ) (value : List ℕ) (budget : ℕ) → verdict (updateRows c w number page slot value) ≡ accepted
       → finishes budget (updateTask c w number page slot value .actions) ≡ false
-      → Kept (run budget (updateTask c w number page slot value .actions) w) r
-  update-cut number page slot value budget ok h = update-kept (g .serving) number page slot value ok budget h
+      → Kept (puts ++ putBy (update number page slot value budget) c w) (run budget (updateTask c w number page slot value .actions) w) r
+  update-cut number page slot value budget ok h = kept-lost (update-kept (g .serving) number page slot value ok budget h) _

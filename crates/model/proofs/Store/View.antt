@@ -20,6 +20,7 @@ use Rattle.model.specs.Reference.{Reference, WriteSet, writesOf, writesS
 use Rattle.model.specs.Record.{Record}
 use Rattle.model.specs.Scan.{end}
 use Rattle.model.specs.History.{Put, recordsOn}
+use Rattle.model.specs.Promise.{Stored}
 use Rattle.model.proofs.Reading.{ending}
 use Rattle.model.proofs.Bounds.{Bounded}
 use Rattle.model.proofs.Geometry.{pageOf, slotStart}
@@ -47,11 +48,12 @@ pub record Restartable (w : World) : Type 0 where
       × (tailOn (sizesOn (w .anchor)) w d ≤ limit)
   pub clean : (d : ℕ) → d < sizesOn (w .anchor) .disks → ending (retained (sizesOn (w .anchor)) w d) ≡ end
 
--- The devices keep what a restart needs: their image restarts to the committed contents.
-pub record Kept (w : World) (r : Reference) : Type 0 where
+-- The devices keep what a restart needs: their image restarts to the committed contents, and its logs are of what the calls put.
+pub record Kept (puts : List Put) (w : World) (r : Reference) : Type 0 where
   pub sizes : sizesOn (w .anchor) ≡ r .sizes
   pub shaped : Shaped (r .sizes) (r .committed)
   pub image : restarted (imageOf w) ≡ wordsIn (r .committed)
+  pub logs : (d : ℕ) → d < imageOf w .sizes .disks → Stored (imageOf w) d (recordsOn d puts)
   pub sound : Restartable w
 
 -- the store and its reference as a ledger, with the flushed entries F and the buffered entries B
