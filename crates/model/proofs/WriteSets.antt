@@ -7,12 +7,7 @@ use Prim.Native.Nat.{ℕ}
 use native.Mathlib.Decide.{ℕ-discrete}
 use lib.Dec.{eqb}
 use borrow.Author.Tests.{eq-eqb, ne-eqb}
-use Rattle.model.specs.Reference.{Write, WriteSet, writesOf, added, removed}
-
--- the transaction has a set
-unfoldable pub hasSet : ℕ → List WriteSet → Bool
-hasSet number [] = false
-hasSet number (x ∷ xs) = eqb (x .number) number || hasSet number xs
+use Rattle.model.specs.Reference.{Write, WriteSet, writesOf, added, removed, hasSet}
 
 -- no transaction has two
 abbrev pub Distinct : List WriteSet → Type 0

@@ -9,7 +9,7 @@ use Rattle.model.specs.declared.Stage.the-variants.{Shut, Replaying}
 use Rattle.model.specs.declared.Sizes.{Sizes}
 use Rattle.model.specs.declared.Core.{Core}
 use Rattle.model.specs.Sizes.{slotsIn, total, ringOf, tailWord}
-use Rattle.model.specs.Anchor.{epochOn, startOn}
+use Rattle.model.specs.Anchor.{epochOn, sizesOn, startOn}
 use Rattle.model.specs.Record.{Record, close, commitKind, encode, encodeAll}
 use Rattle.model.specs.Decode.{readLog}
 use Rattle.model.specs.Scan.{Scan, scan, placed, updatesIn, updateWords, oldest}
@@ -23,7 +23,7 @@ use Rattle.model.specs.Transaction.{diskOf, readWords, commitRows, commi
 use Rattle.model.specs.Restart.{remaining}
 use Rattle.model.specs.Call.{Call, format, read, restartBegin, restartStep, restartEnd}
 use Rattle.model.specs.Image.{Image, retainedWords, imageOf, logOf, restarted}
-use Rattle.model.specs.Reference.{Reference, taken, slotIndex, wordsIn, plainTable, writtenByOther}
+use Rattle.model.specs.Reference.{Reference, taken, slotIndex, wordsIn, plainTable, hasSet, writtenByOther}
 use Rattle.model.specs.Machine.{Machine, Event, call, outcome, result, after, follow, allowedAll, formatted, afterSteps}
 use Rattle.model.specs.History.{Put, history, recordsOn}
 
@@ -68,12 +68,14 @@ unfoldable pub RestartFinishes : Type 0
 RestartFinishes = Always λ m r. m .core .stage ≡ Replaying → Finishable m
 
 -- A plain table of slots. While the store is open or copying, the page memory is the committed contents with the open write sets
--- laid over them; a taken read gives the slot's value in that table; 11 applies exactly when another open write set has a write
--- to the slot.
+-- laid over them; a taken read gives the slot's value in that table; the open transactions are those with a write set; 11 applies
+-- exactly when another open write set has a write to the slot.
 pub record PlainTable (m : Machine) (r : Reference) : Type 0 where
+  pub sizes : r .sizes ≡ m .core .sizes
   pub pages : m .world .pages ≡ wordsIn (plainTable r)
   pub reads : (reader page slot : ℕ) → outcome m (read reader page slot) ≡ taken
       → readWords (m .core) (m .world) reader page slot ≡ getD (plainTable r) (slotIndex (r .sizes) page slot) []
+  pub opened : (number : ℕ) → isOpen (m .core .table) number ≡ hasSet number (r .writeSets)
   pub locks : (number page slot : ℕ) → page < m .core .sizes .pages → slot < slotsIn (m .core .sizes) page
       → locked (m .core) (m .world) number page slot ≡ writtenByOther number page slot (r .writeSets)
 
@@ -123,12 +125,14 @@ LogKept =
 unfoldable pub NeverMalformed : Type 0
 NeverMalformed = Always λ m r. (k : Call) → numberOf (result m k .answer) ≡ 7 → ⊥
 
--- What the state says is true. The checkpoint number, the starts and the tails are the device words; an open transaction's first
+-- What the state says is true. The sizes, the checkpoint number, the starts and the tails are the device words; an open transaction's first
 -- position and its reserved words are those of its update records in the log; a page's copy epoch is the number of the last
 -- checkpoint that copied it: the one under way if that has copied it already, else the last one that ended.
 pub record Truth (m : Machine) : Type 0 where
+  pub sizes : sizesOn (m .world .anchor) ≡ m .core .sizes
   pub epoch : epochOn (m .world .anchor) ≡ m .core .epoch
   pub starts : (disk : ℕ) → disk < m .core .sizes .disks → startOn (m .world .anchor) disk ≡ startOf (m .core .logs) disk
+  pub order : (disk : ℕ) → disk < m .core .sizes .disks → startOf (m .core .logs) disk ≤ tailOf (m .core .logs) disk
   pub tails : (disk : ℕ) → disk < m .core .sizes .disks → tailOn (m .core .sizes) (m .world) disk ≡ tailOf (m .core .logs) disk
   pub reserved : (t : ℕ) → isOpen (m .core .table) t ≡ true
       → reservedAt (m .core .table) (placeOf (m .core .table) t)

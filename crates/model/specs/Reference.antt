@@ -77,6 +77,11 @@ blank s =
 unfoldable pub slotIndex : Sizes → ℕ → ℕ → ℕ
 slotIndex s page slot = sumBelow (slotsIn s) page + slot
 
+-- the transaction has a sheet
+unfoldable pub hasSet : ℕ → List WriteSet → Bool
+hasSet number [] = false
+hasSet number (x ∷ xs) = eqb (x .number) number || hasSet number xs
+
 -- a transaction's writes
 unfoldable pub writesOf : ℕ → List WriteSet → List Write
 writesOf number [] = []

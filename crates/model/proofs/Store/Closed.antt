@@ -16,10 +16,10 @@ use Rattle.model.specs.World.{World}
 use Rattle.model.specs.Memory.{ownerAt, ownerOf}
 use Rattle.model.specs.State.{startOf, reservedAt, placeOf, diskAtPlace, firstAt, hasUpdate, isOpen, without, withLog}
 use Rattle.model.specs.Transaction.{diskOf}
-use Rattle.model.specs.Reference.{Reference, Write, WriteSet, writesOf, writesSlot, removed}
+use Rattle.model.specs.Reference.{Reference, Write, WriteSet, writesOf, writesSlot, removed, hasSet}
 use Rattle.model.specs.History.{Put, recordsOn}
 use Rattle.model.proofs.Bounds.{Bounded}
-use Rattle.model.proofs.WriteSets.{hasSet, distinct-removed, removed-has, writes-removed-other}
+use Rattle.model.proofs.WriteSets.{distinct-removed, removed-has, writes-removed-other}
 use Rattle.model.proofs.SetPlace.{SameAt, other-same}
 use Rattle.model.proofs.Places.{Tabled, open-place, close-other, close-open, close-tabled, places-apart}
 use Rattle.model.proofs.Ledger.Entry.{Entry, recordOf, isClose, some, All, closedIn, onDisk}

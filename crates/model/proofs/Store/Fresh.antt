@@ -16,12 +16,11 @@ use Rattle.model.specs.World.{World}
 use Rattle.model.specs.Memory.{ownerAt, ownerOf, bufferOf, epochOf, lengthsRight}
 use Rattle.model.specs.State.{limit, places, noTable, emptyLogs, openCore, startOf, tailOf, fillOf, endOf, numberAt, placeOf, isOpen}
 use Rattle.model.specs.Causes.{tailOn}
-use Rattle.model.specs.Reference.{Reference, wordsIn}
+use Rattle.model.specs.Reference.{Reference, wordsIn, hasSet}
 use Rattle.model.specs.History.{recordsOn}
 use Rattle.model.proofs.Bounds.{Bounded}
 use Rattle.model.proofs.Geometry.{pageOf, slotStart, page-in}
 use Rattle.model.proofs.Slots.{Shaped}
-use Rattle.model.proofs.WriteSets.{hasSet}
 use Rattle.model.proofs.Places.{Tabled, place-holds, open-place}
 use Rattle.model.proofs.Ledger.Entry.{pick}
 use Rattle.model.proofs.Ledger.State.{fresh}

@@ -18,7 +18,7 @@ use Rattle.model.specs.State.{isOpen}
 use Rattle.model.specs.Refusal.{verdict, accepted}
 use Rattle.model.specs.Causes.{locked, slotMissing}
 use Rattle.model.specs.Transaction.{readRows, readWords, slotWords}
-use Rattle.model.specs.Reference.{Reference, Write, WriteSet, writesOf, laidOver, plainTable, writesSlot, writtenByOther, slotIndex, wordsIn}
+use Rattle.model.specs.Reference.{Reference, Write, WriteSet, writesOf, laidOver, plainTable, writesSlot, writtenByOther, slotIndex, wordsIn, hasSet}
 use Rattle.model.specs.Call.{read}
 use Rattle.model.specs.Machine.{Machine, outcome, result}
 use Rattle.model.specs.History.{Put}
@@ -26,7 +26,7 @@ use Rattle.model.specs.Promise.{PlainTable}
 use Rattle.model.proofs.Geometry.{slotStart, slot-start}
 use Rattle.model.proofs.Lengths.{lengths-right}
 use Rattle.model.proofs.Slots.{patchOf, Fits, Shaped, applied-shaped, words-applied, words-length, words-at}
-use Rattle.model.proofs.WriteSets.{hasSet, Distinct}
+use Rattle.model.proofs.WriteSets.{Distinct}
 use Rattle.model.proofs.Ledger.Entry.{Entry, All, patch, patched, spanning}
 use Rattle.model.proofs.Ledger.Sums.{all-map, all-zip}
 use Rattle.model.proofs.Ledger.Good.{plain-table, plain-table-free}
@@ -276,7 +276,9 @@ pub plain : {puts : List Put} (m : Machine) (r : Reference) → Served puts (m .
 unfolding outcome result
 plain m r g =
     record {
+      sizes = g .serving .safe .sizes;
       pages = pages-plain (g .serving);
       reads = λ reader page slot o. read-value (g .serving) reader page slot (taken-call (read reader page slot) (m .core) (m .world) o .accepted);
+      opened = g .serving .sets .has;
       locks = λ number page slot p q. locked-written (g .serving) page slot p q number;
     }

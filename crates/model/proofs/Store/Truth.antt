@@ -192,8 +192,10 @@ pub truth : {puts : List Put} (m : Machine) (r : Reference) → Served puts (m .
 truth m r g =
     let s = g .serving in
     record {
+      sizes = s .safe .devices .sizes;
       epoch = s .safe .devices .epoch;
       starts = s .safe .devices .starts;
+      order = λ disk h. omega (arith, s .safe .link .tail disk h);
       tails = s .safe .link .stored;
       reserved = reserved-true s;
       first = first-true s;

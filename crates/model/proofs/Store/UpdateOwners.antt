@@ -15,11 +15,11 @@ use Rattle.model.specs.Sizes.{total, slotsIn, slotBase}
 use Rattle.model.specs.World.{World}
 use Rattle.model.specs.Memory.{ownerAt, ownerOf}
 use Rattle.model.specs.State.{isOpen}
-use Rattle.model.specs.Reference.{Reference, Write, WriteSet, writesOf, writesSlot, added}
+use Rattle.model.specs.Reference.{Reference, Write, WriteSet, writesOf, writesSlot, added, hasSet}
 use Rattle.model.proofs.Bounds.{Bounded}
 use Rattle.model.proofs.Geometry.{pageOf, slot-start, slot-base-step, slot-base-mono}
 use Rattle.model.proofs.Slots.{Fits}
-use Rattle.model.proofs.WriteSets.{hasSet, added-writes, writes-added}
+use Rattle.model.proofs.WriteSets.{added-writes, writes-added}
 use Rattle.model.proofs.Ledger.Entry.{All}
 use Rattle.model.proofs.Ledger.Sums.{all-append}
 use Rattle.model.proofs.Store.View.{Owners}

@@ -16,7 +16,7 @@ use Rattle.model.specs.State.{limit, startOf, endOf, isOpen, placeOf, fi
 use Rattle.model.specs.Causes.{whenOpen, whenServing, tailOn, retained}
 use Rattle.model.specs.Transaction.{diskOf}
 use Rattle.model.specs.Image.{imageOf, restarted}
-use Rattle.model.specs.Reference.{Reference, WriteSet, writesOf, writesSlot, wordsIn}
+use Rattle.model.specs.Reference.{Reference, WriteSet, writesOf, writesSlot, wordsIn, hasSet}
 use Rattle.model.specs.Record.{Record}
 use Rattle.model.specs.Scan.{end}
 use Rattle.model.specs.History.{Put, recordsOn}
@@ -25,7 +25,7 @@ use Rattle.model.proofs.Reading.{ending}
 use Rattle.model.proofs.Bounds.{Bounded}
 use Rattle.model.proofs.Geometry.{pageOf, slotStart}
 use Rattle.model.proofs.Slots.{patchOf, Fits, Shaped}
-use Rattle.model.proofs.WriteSets.{hasSet, Distinct}
+use Rattle.model.proofs.WriteSets.{Distinct}
 use Rattle.model.proofs.Places.{Tabled, open-place}
 use Rattle.model.proofs.Ledger.Entry.{Entry, recordOf, isClose, some, All, closedIn}
 use Rattle.model.proofs.Ledger.State.{Ledger}
