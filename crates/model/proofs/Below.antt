@@ -10,6 +10,7 @@ use lib.Dec.{ltb}
 use lib.ListN.{length, getD, length-append, List·getD-append}
 use lib.Seq.{getD-at}
 use borrow.Author.Tests.{ltb-true, ltb-false}
+use native.Mathlib.Decide.{ℕ-discrete}
 use Rattle.model.specs.Below.{sumBelow, allBelow, joinBelow, listBelow, orElse, firstBelow}
 
 -- a number below n + 1 is below n, or it is n
@@ -164,3 +165,16 @@ module _ {A : Type 0} where
       below-suc (λ (i : ℕ). getD (listBelow f n ++ f n ∷ []) i d ≡ f i) n
       (λ i l. List·getD-append (listBelow f n) (f n ∷ []) d i (rw (length-list f n) l) ∙ getD-list f n i d l)
       (getD-at (listBelow f n) (f n) [] d n (length-list f n)) i h
+
+-- Two sums whose terms agree but at one place differ by the terms there.
+pub sum-changed : (f g : ℕ → ℕ) (n i : ℕ) → i < n → ((j : ℕ) → (j ≡ i → ⊥) → f j ≡ g j)
+    → sumBelow f n + g i ≡ sumBelow g n + f i
+unfolding sumBelow
+sum-changed f g zero i h same = absurd (not-suc-le-zero h)
+sum-changed f g (suc n) i h same = go (ℕ-discrete n i) (λ l. sum-changed f g n i l same)
+  where
+    go : Dec (n ≡ i) → (i < n → sumBelow f n + g i ≡ sumBelow g n + f i) → sumBelow f n + f n + g i ≡ sumBelow g n + g n + f i
+    go (yes e) ih =
+        let low : sumBelow f n ≡ sumBelow g n = sum-cong f g n (λ j l. same j (λ x. omega arith)) in
+        omega (arith, ap f e, ap g e)
+    go (no ne) ih = omega (arith, same n ne, ih (omega arith))

@@ -8,7 +8,7 @@ use native.Mathlib.Decide.{decLt}
 use native.Mathlib.Nat.{zero-add}
 use lib.Dec.{ltb, eqb}
 use lib.ListN.{length, length-append}
-use borrow.Author.Tests.{not-false, ne-eqb, le-ltb, le-leb, lt-leb, leb-false}
+use borrow.Author.Tests.{ne-eqb, le-ltb, le-leb, lt-leb, leb-false}
 use Rattle.model.specs.declared.Sizes.{Sizes}
 use Rattle.model.specs.declared.Logs.{Logs}
 use Rattle.model.specs.declared.Core.{Core}
@@ -16,9 +16,8 @@ use Rattle.model.specs.Sizes.{ringOf, tailWord, ringWord}
 use Rattle.model.specs.Record.{close, encode, commitKind}
 use Rattle.model.specs.World.{World, Device, logs, work, Action, store, write, cost, perform, stores, covered, run, finishes, each}
 use Rattle.model.specs.Memory.{bufferAt, bufferOf}
-use Rattle.model.specs.State.{tailOf, fillOf, endOf, withFill, flushed, isOpen}
+use Rattle.model.specs.State.{tailOf, fillOf, endOf, withFill, flushed}
 use Rattle.model.specs.Refusal.{verdict, accepted}
-use Rattle.model.specs.Causes.{whenServing, notOpen}
 use Rattle.model.specs.Append.{storeLog, storeAll, flush, buffered, append}
 use Rattle.model.specs.Transaction.{diskOf, commitRows, commitTask}
 use Rattle.model.specs.Reference.{Reference}
@@ -32,11 +31,11 @@ use Rattle.model.proofs.Ring.{tail-ring-apart}
 use Rattle.model.proofs.Link.Words.{Arrays, below-eight, arrays-flushed, ring-positive, lengths-perform}
 use Rattle.model.proofs.Parts.{part-sets-end}
 use Rattle.model.proofs.Growth.{fill-flushed, ends-flushed, fill-set}
-use Rattle.model.proofs.Verdict.{row-passed}
-use Rattle.model.proofs.Store.Rows.{serving-row, serving-sound, disk-sound}
+use Rattle.model.proofs.Store.Rows.{serving-sound}
 use Rattle.model.proofs.Store.Holding.{Holding}
-use Rattle.model.proofs.Store.Step.{served, row-one}
+use Rattle.model.proofs.Store.Step.{served}
 use Rattle.model.proofs.PowerLoss.{always}
+use Rattle.model.proofs.Store.Accepted.{small-buffers, commit-accepted}
 
 -- words one after the other, each put by an action with the property
 every-each : (P : Action → Type 0) (put : ℕ → ℕ → Action) → ((i x : ℕ) → P (put i x)) → (i : ℕ) (xs : List ℕ) → Every P (each put i xs)
@@ -195,21 +194,18 @@ module _ (c : Core) (w : World) (t : ℕ) (a : Arrays (c .sizes) (c .logs)) (rig
 
 -- The commit point, in every store that is reached: see specs/Promise.antt.
 pub commit-point : CommitPoints
-unfolding CommitPoints commitRows notOpen
+unfolding CommitPoints
 commit-point = always _ given
   where
     given : (puts : List Put) (m : Machine) (r : Reference) → Holding puts m r → (t : ℕ)
         → verdict (commitRows (m .core) (m .world) t) ≡ accepted → CommitPoint (m .core) (m .world) t
     given puts m r h t v =
-        let g = served h (row-one whenServing (m .core) _ v) in
-        let one = row-passed _ _ v in
-        let rest = row-passed _ _ (row-passed _ _ (one .1) .1) in
-        let open? : isOpen (m .core .table) t ≡ true = not-false _ (row-passed _ _ (rest .1) .0) in
-        let stage = serving-row (m .core) (one .0) in
-        let below = g .serving .accounts .disks t open? in
+        let a = commit-accepted (m .core) (m .world) t v in
+        let g = served h (a .serving) in
+        let below = g .serving .accounts .disks t (a .opened) in
         let devices = g .serving .safe .devices in
         commit-ends (m .core) (m .world) t (devices .arrays) (lengths-right (m .core .sizes) (m .world) (devices .lengths)) below
-        (disk-sound (m .core) (diskOf (m .core) t) (serving-sound (m .core) (stage .0) (stage .1)) below .fill)
+        (small-buffers (m .core) (serving-sound (m .core) (a .serving) (a .sound)) (diskOf (m .core) t) below)
 
 -- A list that ends with a store, cut: it is cut before that store.
 cut-before : (budget : ℕ) (l : List Action) (device : Device) (i x : ℕ) (w : World) → finishes budget (l ++ store device i x ∷ []) ≡ false

@@ -28,6 +28,7 @@ pub mod Bounds
 pub mod Geometry
 pub mod Slots
 pub mod WriteSets
+pub mod LaidOver
 pub mod SetPlace
 pub mod Places
 pub mod Reserved

@@ -1,30 +1,13 @@
 -- The words reserved on a disk when one place of the table changes: at a begin, at an update and at a close.
-use mathlib.Core.Path.{_≡_, ap}
+use mathlib.Core.Path.{_≡_}
 use mathlib.Core.Bool.{cond}
-use Prim.Native.Nat.{ℕ, zero, suc, _+_, _≤_, _<_}
-use native.Mathlib.Omega.{arith}
-use native.Mathlib.Decide.{ℕ-discrete}
-use native.Mathlib.Nat.{not-suc-le-zero}
+use Prim.Native.Nat.{ℕ, _+_, _≤_, _<_}
 use borrow.Author.Tests.{eq-eqb, ne-eqb}
 use Rattle.model.specs.declared.Table.{Table}
-use Rattle.model.specs.Below.{sumBelow}
 use Rattle.model.specs.State.{places, numberAt, diskAtPlace, reservedAt, withPlace, servedBy, reservedOn}
-use Rattle.model.proofs.Below.{sum-cong, term-le-sum}
+use Rattle.model.proofs.Below.{term-le-sum, sum-changed}
 use Rattle.model.proofs.SetPlace.{other-same}
 use Rattle.model.proofs.Places.{served-here}
-
--- Two sums whose terms agree but at one place differ by the terms there.
-pub sum-changed : (f g : ℕ → ℕ) (n i : ℕ) → i < n → ((j : ℕ) → (j ≡ i → ⊥) → f j ≡ g j)
-    → sumBelow f n + g i ≡ sumBelow g n + f i
-unfolding sumBelow
-sum-changed f g zero i h same = absurd (not-suc-le-zero h)
-sum-changed f g (suc n) i h same = go (ℕ-discrete n i) (λ l. sum-changed f g n i l same)
-  where
-    go : Dec (n ≡ i) → (i < n → sumBelow f n + g i ≡ sumBelow g n + f i) → sumBelow f n + f n + g i ≡ sumBelow g n + g n + f i
-    go (yes e) ih =
-        let low : sumBelow f n ≡ sumBelow g n = sum-cong f g n (λ j l. same j (λ x. omega arith)) in
-        omega (arith, ap f e, ap g e)
-    go (no ne) ih = omega (arith, same n ne, ih (omega arith))
 
 -- what a place adds to the words reserved on a disk
 unfoldable pub reservedBy : Table → ℕ → ℕ → ℕ

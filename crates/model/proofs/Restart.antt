@@ -3,7 +3,6 @@
 pub mod Words
 pub mod Gain
 pub mod Entries
-pub mod Disks
 -- The image, and what may be stored beside it.
 pub mod Image
 pub mod Aside

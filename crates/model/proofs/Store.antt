@@ -3,6 +3,7 @@ pub mod Cases
 pub mod Rows
 pub mod Accepted
 pub mod View
+pub mod WordsFor
 pub mod Same
 pub mod Crash
 -- The steps that calls share: a flush, room in a buffer, a record appended.
@@ -10,7 +11,10 @@ pub mod Flush
 pub mod Steady
 pub mod Checks
 pub mod Ready
+pub mod OneMore
+pub mod ClosingEntry
 pub mod Logged
+pub mod Entered
 pub mod LogEnd
 pub mod Linked
 -- Format and restart end.
@@ -20,6 +24,7 @@ pub mod Fresh
 pub mod Format
 pub mod End
 -- Transactions.
+pub mod BeginTable
 pub mod Begin
 pub mod UpdateRoom
 pub mod UpdateOwners
@@ -29,6 +34,7 @@ pub mod Closed
 pub mod Closing
 pub mod Commit
 pub mod Put
+pub mod Compensation
 pub mod Compensate
 pub mod Undo
 pub mod Left

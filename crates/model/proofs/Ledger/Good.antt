@@ -137,7 +137,7 @@ open-including w O t L h e =
     sum-ext _ _ L (all-of (λ r. mask-including O t (r .number) (adds w r) h) L) ∙ sum-xor _ _ L ∙ rw e (⊕-zero-r (ofOpen w O L))
 
 -- an open one is the new one or was open
-newly : (O : ℕ → Bool) (t u : ℕ) (X : Type 0) → including O t u ≡ true → (u ≡ t → X) → (eqb u t ≡ false → O u ≡ true → X) → X
+pub newly : (O : ℕ → Bool) (t u : ℕ) (X : Type 0) → including O t u ≡ true → (u ≡ t → X) → (eqb u t ≡ false → O u ≡ true → X) → X
 newly O t u X h f k = go (O u) (eqb u t) refl refl h
   where
     go : (o b : Bool) → O u ≡ o → eqb u t ≡ b → o || b ≡ true → X

@@ -1,17 +1,18 @@
 -- Lists of entries: what a test picks of a joined or a picked list, and what a disk's flush moves from one list to the other.
 use mathlib.Core.Path.{_≡_, refl, sym, ap, _∙_}
 use mathlib.Core.List.{List, [], _∷_, _++_, append-assoc, append-nil, map-append}
-use mathlib.Core.Bool.{Bool, true, false, not, _||_, or-true, cond}
+use mathlib.Core.Bool.{Bool, true, false, not, _||_, or-true, cond, _&&_}
 use Prim.Native.Nat.{ℕ, _+_}
 use native.Mathlib.Decide.{ℕ-discrete}
 use lib.ListN.{length, length-append}
 use borrow.Author.Tests.{eqb-true, eq-eqb, ne-eqb, not-true}
+use lib.Dec.{eqb}
 use Rattle.model.specs.Record.{encode, encodeAll}
 use Rattle.model.proofs.RoundTrip.{encode-append}
-use Rattle.model.proofs.Ledger.Entry.{Entry, recordOf, some, All, pick, closedIn, onDisk}
+use Rattle.model.proofs.Ledger.Entry.{Entry, recordOf, some, All, pick, closedIn, onDisk, sum, isClose}
 use Rattle.model.proofs.Ledger.Order.{sizeOf, wordsOf, on}
-use Rattle.model.proofs.Ledger.Sums.{all-append, all-right}
-use Rattle.model.proofs.Ledger.Picks.{all-pick, some-append}
+use Rattle.model.proofs.Ledger.Sums.{all-append, all-right, sum-append}
+use Rattle.model.proofs.Ledger.Picks.{all-pick, some-append, sum-pick}
 use Rattle.model.proofs.Booleans.{true-false}
 
 module _ {A : Type 0} where
@@ -114,10 +115,17 @@ module _ {A : Type 0} where
       go false true x y e = true-false (h .0 y) x
       go false false x y e = e
 
+-- entries moved from the second list to the end of the first: what some of them pass, their closing records, and their sums
+pub some-flush : (q p : Entry → Bool) (F B : List Entry) → some q ((F ++ pick p B) ++ pick (λ r. not (p r)) B) ≡ some q (F ++ B)
+some-flush q p F B = simp (append-assoc, some-append, some-halves)
+
 pub closed-flush : (p : Entry → Bool) (F B : List Entry) (t : ℕ)
     → closedIn ((F ++ pick p B) ++ pick (λ r. not (p r)) B) t ≡ closedIn (F ++ B) t
 unfolding closedIn
-closed-flush p F B t = simp (append-assoc, some-append, some-halves)
+closed-flush p F B t = some-flush (λ r. isClose r && eqb (r .number) t) p F B
+
+pub sum-flush : (p : Entry → Bool) (f : Entry → ℕ) (F B : List Entry) → sum f ((F ++ pick p B) ++ pick (λ q. not (p q)) B) ≡ sum f (F ++ B)
+sum-flush p f F B = simp (append-assoc, sum-append, sum-pick)
 
 -- The entries of one disk.
 pub on-append : (d : ℕ) (l m : List Entry) → on d (l ++ m) ≡ on d l ++ on d m

@@ -29,11 +29,11 @@ abbrev pub Before : Entry → Entry → Type 0
 Before r q = isClose q && eqb (q .number) (r .number) ≡ true → r .position ≤ q .position
 
 -- no entry of a transaction comes after one that closes it
-abbrev pub closesLast : List Entry → Type 0
-closesLast [] = Unit {0}
-closesLast (r ∷ l) = (isClose r ≡ true → All (λ q. eqb (q .number) (r .number) ≡ false) l) × closesLast l
+abbrev pub ClosesLast : List Entry → Type 0
+ClosesLast [] = Unit {0}
+ClosesLast (r ∷ l) = (isClose r ≡ true → All (λ q. eqb (q .number) (r .number) ≡ false) l) × ClosesLast l
 
-laid-closes-last : (p : ℕ) (l : List Entry) → Laid p l → All (λ r. All (Before r) l) l → closesLast l
+laid-closes-last : (p : ℕ) (l : List Entry) → Laid p l → All (λ r. All (Before r) l) l → ClosesLast l
 laid-closes-last p [] h a = tt
 laid-closes-last p (r ∷ l) h a = (
   (λ c. all-zip (one c) l (laid-after p [] r l h) (all-map (λ q x. x .0) l (a .1))),
@@ -109,7 +109,7 @@ module _ {disks : ℕ} {start home : ℕ → ℕ} {F B : List Entry} (o : Ordere
       one r x h = closed-on d (r .number) (sym h ∙ eqb-true (r .disk) d x)
 
   -- and a closing record is followed by no other of its transaction
-  pub closes-last : (d : ℕ) → d < disks → closesLast (on d F)
+  pub closes-last : (d : ℕ) → d < disks → ClosesLast (on d F)
   unfolding on
   closes-last d h =
       laid-closes-last (start d) (on d F) (laid-append (start d) (on d F) (on d B) (o .laid d h) .0)

@@ -54,13 +54,8 @@ laid-within p (r ∷ l) h =
 pub laid-from : (p : ℕ) (l : List Entry) → Laid p l → All (λ r. p ≤ r .position) l
 laid-from p l h = all-map (λ r x. x .0) l (laid-within p l h)
 
--- Positions ascend: what is laid before an entry has a smaller position, and what is laid after it a greater one.
+-- Positions ascend: what is laid after an entry has a greater one.
 module _ (p : ℕ) (a : List Entry) (r : Entry) (b : List Entry) (h : Laid p (a ++ r ∷ b)) where
-  pub laid-before : All (λ q. q .position < r .position) a
-  laid-before =
-      let t = laid-append p a (r ∷ b) h in
-      all-map (λ q x. omega (arith, size-ge q)) a (laid-within p a (t .0))
-
   pub laid-after : All (λ q. r .position < q .position) b
   laid-after =
       let t = laid-append p a (r ∷ b) h in

@@ -1,30 +1,26 @@
 -- An append puts an entry behind the buffered ones of its disk, after a flush of that disk where its words do not fit.
-use mathlib.Core.Path.{_≡_, refl, sym}
+use mathlib.Core.Path.{_≡_, refl}
 use mathlib.Core.List.{List, [], _∷_, _++_}
-use mathlib.Core.Bool.{not}
 use Prim.Native.Nat.{ℕ, _+_, _≤_, _<_}
 use native.Mathlib.Omega.{arith}
 use native.Mathlib.Decide.{decLt}
-use native.Mathlib.Nat.{zero-add}
 use lib.ListN.{length}
 use borrow.Author.Tests.{le-leb, lt-leb}
 use Rattle.model.specs.declared.Sizes.{Sizes}
 use Rattle.model.specs.declared.Logs.{Logs}
-use Rattle.model.specs.Sizes.{ringOf}
 use Rattle.model.specs.Record.{encode}
-use Rattle.model.specs.World.{World, work, perform, stores, run}
-use Rattle.model.specs.Memory.{bufferAt}
-use Rattle.model.specs.State.{startOf, fillOf, endOf, withFill, flushed}
+use Rattle.model.specs.World.{World, work, perform, stores}
+use Rattle.model.specs.State.{fillOf, withFill, flushed}
 use Rattle.model.specs.Append.{Appended, flush, buffered, append}
-use Rattle.model.proofs.Run.{perform-append, perform-work, run-cut}
+use Rattle.model.proofs.Run.{perform-append}
 use Rattle.model.proofs.Lengths.{Lengths}
-use Rattle.model.proofs.Counts.{append-fits, append-flushes}
-use Rattle.model.proofs.Ledger.Entry.{Entry, recordOf, pick, onDisk}
-use Rattle.model.proofs.Ledger.Order.{sizeOf, on}
-use Rattle.model.proofs.Link.Words.{Arrays, Link, lengths-perform, arrays-flushed, below-eight}
-use Rattle.model.proofs.Link.Flush.{flush-only, flush-link}
+use Rattle.model.proofs.Counts.{append-fits}
+use Rattle.model.proofs.Ledger.Entry.{Entry, recordOf}
+use Rattle.model.proofs.Ledger.Order.{sizeOf}
+use Rattle.model.proofs.Link.Words.{Arrays, Link, below-eight}
+use Rattle.model.proofs.Link.Flush.{flush-only}
 use Rattle.model.proofs.Link.Buffered.{InBuffer, after-flush, put-in-buffer, put-link}
-use Rattle.model.proofs.Growth.{fill-flushed, Small, Longer, append-longer, flush-longer}
+use Rattle.model.proofs.Growth.{Small, Longer, append-longer}
 
 -- The two cases of an append.
 module _ (s : Sizes) (l : Logs) (memory : List ℕ) (d : ℕ) (words : List ℕ) where
@@ -62,50 +58,19 @@ module _ {s : Sizes} {l : Logs} (w : World) (a : Arrays s l) (small : Small s l)
           rw (append-is-put s l (w .work) d (encode (recordOf r)) (omega arith))
           (put-in-buffer s d w (fillOf l d) (encode (recordOf r)) (omega arith))
 
--- The entries.
+-- Where the words fit, the entry is buffered and nothing is stored.
 module _ {s : Sizes} {l : Logs} {w : World} {F B : List Entry} (k : Link s l w F B) (right : Lengths s w) (a : Arrays s l)
-    (small : Small s l) (d : ℕ) (below : d < s .disks) (r : Entry) (here : r .disk ≡ d) (short : sizeOf r ≤ 64) where
+    (small : Small s l) (d : ℕ) (below : d < s .disks) (r : Entry) (here : r .disk ≡ d) (short : sizeOf r ≤ 64)
+    (fits : fillOf l d + sizeOf r ≤ 64) where
   abbrev appended : Appended
   appended = append s l (w .work) d (encode (recordOf r))
 
-  -- Where the words fit, nothing is stored.
-  module _ (fits : fillOf l d + sizeOf r ≤ 64) where
-    pub append-room : Link s (appended .logs) (perform (appended .actions) w) F (B ++ r ∷ [])
-    unfolding sizeOf
-    append-room =
-        rw (append-is-put s l (w .work) d (encode (recordOf r)) fits)
-        (put-link k right a small d below r here (fillOf l d) (fillOf l d + sizeOf r) refl refl fits)
+  pub append-room : Link s (appended .logs) (perform (appended .actions) w) F (B ++ r ∷ [])
+  unfolding sizeOf
+  append-room =
+      rw (append-is-put s l (w .work) d (encode (recordOf r)) fits)
+      (put-link k right a small d below r here (fillOf l d) (fillOf l d + sizeOf r) refl refl fits)
 
-    pub room-logs : perform (appended .actions) w .logs ≡ w .logs
-    unfolding sizeOf buffered
-    room-logs =
-        rw (
-          append-is-put s l (w .work) d (encode (recordOf r)) fits,
-          perform-work (bufferAt s d + fillOf l d) (encode (recordOf r)) w,
-        )
-
-    pub room-stores : stores (appended .actions) ≡ 0
-    unfolding sizeOf
-    room-stores = append-fits s l (w .work) d (encode (recordOf r)) fits
-
-  -- Where they do not fit, the disk is flushed first.
-  module _ (over : 64 < fillOf l d + sizeOf r) where
-    pub append-full : endOf l d ≤ startOf l d + ringOf s d
-        → Link s (appended .logs) (perform (appended .actions) w) (F ++ on d B) (pick (λ q. not (onDisk d q)) B ++ r ∷ [])
-    unfolding sizeOf
-    append-full room =
-        rw (append-is-flush s l (w .work) d (encode (recordOf r)) over, perform-append)
-        (put-link (flush-link k right a d below room) (lengths-perform (flush s l (w .work) d) right) (arrays-flushed d a)
-        (flush-longer s l d (a .sized) small (below-eight a below) .small) d below r here 0 (sizeOf r)
-        (sym (fill-flushed l d (a .sized) (below-eight a below))) (sym (zero-add (sizeOf r))) short)
-
-    pub full-stores : stores (appended .actions) ≡ stores (flush s l (w .work) d)
-    unfolding sizeOf
-    full-stores = append-flushes s l (w .work) d (encode (recordOf r)) over
-
-    -- cut, it is the flush cut
-    pub full-cut : (n : ℕ) → n < stores (appended .actions) → run n (appended .actions) w ≡ run n (flush s l (w .work) d) w
-    unfolding sizeOf
-    full-cut n h =
-        let cut : n < stores (flush s l (w .work) d) = rw full-stores at h in
-        rw (append-is-flush s l (w .work) d (encode (recordOf r)) over) (run-cut n (flush s l (w .work) d) _ w cut)
+  pub room-stores : stores (appended .actions) ≡ 0
+  unfolding sizeOf
+  room-stores = append-fits s l (w .work) d (encode (recordOf r)) fits

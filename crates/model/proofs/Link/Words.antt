@@ -13,7 +13,7 @@ use Rattle.model.specs.Anchor.{sizesOn, startOn}
 use Rattle.model.specs.Record.{encode}
 use Rattle.model.specs.Decode.{readLog}
 use Rattle.model.specs.Scan.{Scan, item, scan, placed}
-use Rattle.model.specs.World.{World, Action, perform, covered, run}
+use Rattle.model.specs.World.{World, Action, perform}
 use Rattle.model.specs.Memory.{bufferOf}
 use Rattle.model.specs.State.{startOf, tailOf, fillOf, flushed, endOf}
 use Rattle.model.specs.Causes.{tailOn, retained as retainedScan}
@@ -73,10 +73,6 @@ lengths-perform {s} {w} l right =
       logs = same .logs ∙ right .logs;
       work = same .work ∙ right .work;
     }
-
-pub lengths-run : {s : Sizes} {w : World} (n : ℕ) (l : List Action) → Lengths s w → Lengths s (run n l w)
-unfolding run
-lengths-run n l right = lengths-perform (covered n l) right
 
 pub ring-positive : (s : Sizes) (d : ℕ) → 0 < s .ring → 0 < ringOf s d
 unfolding ringOf

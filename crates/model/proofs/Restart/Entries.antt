@@ -2,9 +2,9 @@
 use mathlib.Core.Path.{_≡_, refl, sym, ap, _∙_}
 use mathlib.Core.List.{List, [], _∷_}
 use mathlib.Core.Bool.{Bool, true, false, cond, not, _&&_, _||_, Bool·not-not}
-use Prim.Native.Nat.{ℕ}
+use Prim.Native.Nat.{ℕ, _<_}
 use lib.Dec.{leb, ltb, eqb}
-use borrow.Author.Tests.{leb-true, leb-false, lt-ltb, le-ltb, ne-eqb}
+use borrow.Author.Tests.{leb-true, leb-false, lt-ltb, le-ltb, ne-eqb, eqb-false, eq-eqb}
 use Rattle.model.specs.declared.Sizes.{Sizes}
 use Rattle.model.specs.declared.Fate.the-variants.{Closed, Unclosed}
 use Rattle.model.specs.Word.{_⊕_}
@@ -12,20 +12,17 @@ use Rattle.model.specs.Sizes.{slotBase}
 use Rattle.model.specs.Record.{change, close, inBackup}
 use Rattle.model.specs.Scan.{item, fateIn}
 use Rattle.model.specs.Restart.{replays}
-use Rattle.model.proofs.Ledger.Entry.{Entry, isClose, recordOf, mask, sum, some, All, adds, closedIn, chosen}
+use Rattle.model.proofs.Ledger.Entry.{Entry, isClose, recordOf, mask, sum, some, All, adds, closedIn, chosen, pick, onDisk}
 use Rattle.model.proofs.Ledger.Order.{entriesScan}
 use Rattle.model.proofs.Ledger.Sums.{mask-zero}
 use Rattle.model.proofs.Xor.{⊕-zero-l}
 use Rattle.model.proofs.Restart.Gain.{gain}
+use Rattle.model.proofs.Ledger.Ordered.{ClosesLast}
+use Rattle.model.proofs.Restart.Words.{xorBelow, xor-below-none, xor-below-less}
 
 -- a change has the place of its slot
 abbrev pub Placed : Sizes → Entry → Type 0
 Placed s r = isClose r ≡ false → r .at ≡ slotBase s (r .page) (r .slot)
-
--- a closing record is the last of its transaction
-abbrev pub ClosesLast : List Entry → Type 0
-ClosesLast [] = Unit {0}
-ClosesLast (r ∷ l) = (isClose r ≡ true → All (λ e. e .number ≡ r .number → ⊥) l) × ClosesLast l
 
 -- the test `closed` says of the transactions of `l` whether `whole` has their closing record
 abbrev pub Agrees : (ℕ → Bool) → List Entry → List Entry → Type 0
@@ -40,14 +37,14 @@ record-change : (r : Entry) → isClose r ≡ false
 unfolding recordOf
 record-change r e = rw e
 
-pub closed-cons : (r : Entry) (l : List Entry) (t : ℕ) → closedIn (r ∷ l) t ≡ (isClose r && eqb (r .number) t || closedIn l t)
+closed-cons : (r : Entry) (l : List Entry) (t : ℕ) → closedIn (r ∷ l) t ≡ (isClose r && eqb (r .number) t || closedIn l t)
 unfolding closedIn some
 closed-cons r l t = refl
 
 closed-change : (r : Entry) (l : List Entry) (t : ℕ) → isClose r ≡ false → closedIn (r ∷ l) t ≡ closedIn l t
 closed-change r l t e = rw (closed-cons r l t, e)
 
-pub closed-other : (r : Entry) (l : List Entry) (t : ℕ) → (t ≡ r .number → ⊥) → closedIn (r ∷ l) t ≡ closedIn l t
+closed-other : (r : Entry) (l : List Entry) (t : ℕ) → (t ≡ r .number → ⊥) → closedIn (r ∷ l) t ≡ closedIn l t
 closed-other r l t ne = rw (closed-cons r l t, ne-eqb (r .number) t (λ e. ne (sym e))) (go (isClose r))
   where
     go : (b : Bool) → (b && false || closedIn l t) ≡ closedIn l t
@@ -84,13 +81,13 @@ replays-choice c epoch true = rw (in-backup-not c epoch) (Bool·not-not (leb c e
 replays-choice c epoch false = in-backup-not c epoch
 
 -- what the test says of the later records' transactions does not hang on the first record
-later : (closed : ℕ → Bool) (r : Entry) (l k : List Entry) → (isClose r ≡ true → All (λ e. e .number ≡ r .number → ⊥) k)
+later : (closed : ℕ → Bool) (r : Entry) (l k : List Entry) → (isClose r ≡ true → All (λ e. eqb (e .number) (r .number) ≡ false) k)
     → Agrees closed (r ∷ l) k → Agrees closed l k
 later closed r l [] last h = tt
 later closed r l (e ∷ k) last h = (h .0 ∙ go (isClose r) refl, later closed r l k (λ c. last c .1) (h .1))
   where
     go : (b : Bool) → isClose r ≡ b → closedIn (r ∷ l) (e .number) ≡ closedIn l (e .number)
-    go true c = closed-other r l (e .number) (last c .0)
+    go true c = closed-other r l (e .number) (eqb-false _ _ (last c .0))
     go false c = closed-change r l (e .number) c
 
 -- what a record adds, by its kind
@@ -121,3 +118,13 @@ module _ (s : Sizes) (c : ℕ) (closed : ℕ → Bool) (x : ℕ) where
           → gain s c (entriesScan (r ∷ l)) x ≡ mask (chosen closed c r) (adds x r) ⊕ gain s c (entriesScan l) x
       go true e = gain-close r l e
       go false e = gain-change r l e (at .0) (same .0 ∙ closed-change r l (r .number) e)
+
+-- a sum over all entries, disk by disk
+pub sum-by-disk : (f : Entry → ℕ) (n : ℕ) (l : List Entry) → All (λ r. r .disk < n) l
+    → xorBelow (λ d. sum f (pick (onDisk d) l)) n ≡ sum f l
+unfolding sum pick onDisk
+sum-by-disk f n [] h = xor-below-none (λ d. 0) n (λ i l. refl)
+sum-by-disk f n (r ∷ l) h =
+    xor-below-less (λ d. sum f (pick (onDisk d) (r ∷ l))) (λ d. sum f (pick (onDisk d) l)) n (r .disk) (f r) (h .0)
+    (rw (eq-eqb (r .disk) (r .disk) refl)) (λ i ne. rw (ne-eqb (r .disk) i (λ e. ne (sym e))))
+    ∙ ap (λ (v : ℕ). f r ⊕ v) (sum-by-disk f n l (h .1))

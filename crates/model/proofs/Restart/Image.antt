@@ -10,20 +10,19 @@ use lib.ListN.{length, getD}
 use borrow.Author.Tests.{leb-true}
 use Rattle.model.specs.declared.Sizes.{Sizes}
 use Rattle.model.specs.Below.{within, allBelow}
-use Rattle.model.specs.Word.{_⊕_, part}
+use Rattle.model.specs.Word.{part}
 use Rattle.model.specs.Sizes.{total, entryInBounds, sizesInBounds}
 use Rattle.model.specs.Anchor.{epochOn, sizesOn, startOn, backupAt}
 use Rattle.model.specs.Decode.{readLog, span}
-use Rattle.model.specs.Scan.{Scan, scan}
+use Rattle.model.specs.Scan.{scan}
 use Rattle.model.specs.World.{World, anchor, backups, logs, pages, work, Action, store, write, cost, act, perform, stores}
 use Rattle.model.specs.Memory.{lengthsRight}
 use Rattle.model.specs.Causes.{tailOn, retained}
-use Rattle.model.specs.Image.{retainedWords, imageOf, logOf, restarted}
+use Rattle.model.specs.Image.{retainedWords, imageOf, logOf}
 use Rattle.model.proofs.Below.{list-cong, getD-list}
 use Rattle.model.proofs.Lengths.{lengths-right}
 use Rattle.model.proofs.Scan.{scan-cong}
-use Rattle.model.proofs.Restart.Words.{xorBelow, xor-below-cong}
-use Rattle.model.proofs.Restart.Gain.{gain, gains, length-span, restarted-word}
+use Rattle.model.proofs.Restart.Gain.{length-span}
 use Rattle.model.proofs.Parts.{length-part}
 
 pub disks-le : (s : Sizes) → sizesInBounds s ≡ true → s .disks ≤ 8
@@ -75,19 +74,6 @@ image-log w d h l =
     span-scan s (readLog s (w .logs) d (tailOn s w d) []) (startOn (w .anchor) d) (tailOn s w d) _ _ l
     (getD-list (startOn (w .anchor)) (s .disks) d 0 h)
     (getD-list (retainedWords s w) (s .disks) d [] h)
-
--- the pages that a restart makes, by the device's words
-pub image-word : (w : World) (x : ℕ) → lengthsRight (sizesOn (w .anchor)) w ≡ true
-    → ((d : ℕ) → d < sizesOn (w .anchor) .disks → startOn (w .anchor) d ≤ tailOn (sizesOn (w .anchor)) w d)
-    → getD (restarted (imageOf w)) x 0
-    ≡ getD (imageOf w .backup) x 0
-    ⊕ xorBelow (λ d. gain (sizesOn (w .anchor)) (epochOn (w .anchor)) (retained (sizesOn (w .anchor)) w d) x) (sizesOn (w .anchor) .disks)
-unfolding gains imageOf
-image-word w x long tails =
-    restarted-word (imageOf w) x (length-backup w long)
-    ∙ ap (λ (g : ℕ). getD (imageOf w .backup) x 0 ⊕ g)
-    (xor-below-cong _ _ (sizesOn (w .anchor) .disks)
-    (λ d h. ap (λ (log : Scan). gain (sizesOn (w .anchor)) (epochOn (w .anchor)) log x) (image-log w d h (tails d h))))
 
 -- Worlds with the same sizes, epoch, current backup, starts and retained words have the same image.
 pub image-same : (v w : World) → sizesOn (v .anchor) ≡ sizesOn (w .anchor) → epochOn (v .anchor) ≡ epochOn (w .anchor)

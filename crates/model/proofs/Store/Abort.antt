@@ -123,9 +123,6 @@ module _ {home : ℕ → ℕ} {puts : List Put} {c : Core} {w : World} {r : Refe
   abbrev c1 : Core
   c1 = withLog c (undo .logs) (c .table)
 
-  abbrev w1 : World
-  w1 = perform (undo .actions) w
-
   room : endOf (c1 .logs) d + 2 ≤ startOf (c1 .logs) d + ringOf (c1 .sizes) d
   unfolding withLog
   room = omega (arith, work .ends, work .starts d, may .room)

@@ -19,27 +19,14 @@ use Rattle.model.specs.Abort.{abortScan, updatesLeft, abortFault}
 use Rattle.model.specs.Reference.{Reference}
 use Rattle.model.specs.History.{Put}
 use Rattle.model.proofs.Places.{open-place}
-use Rattle.model.proofs.Ledger.Entry.{Entry, recordOf, isClose, All, pick}
+use Rattle.model.proofs.Ledger.Entry.{Entry, recordOf, isClose, All}
 use Rattle.model.proofs.Ledger.Order.{sizeOf, on, entriesScan}
 use Rattle.model.proofs.Ledger.Sums.{all-map}
 use Rattle.model.proofs.Ledger.Lists.{on-append}
 use Rattle.model.proofs.Store.View.{wordsFor, Serving, Served}
 use Rattle.model.proofs.Store.Left.{from, all-there, all-from, early, away, scanned}
 use Rattle.model.proofs.Booleans.{true-false}
-
--- picking leaves the words of a transaction, where what is not picked is of others
-pub words-picked : (t : ℕ) (p : Entry → Bool) (l : List Entry) → All (λ q. p q ≡ false → eqb (q .number) t ≡ false) l
-    → wordsFor t (pick p l) ≡ wordsFor t l
-unfolding wordsFor pick
-words-picked t p [] h = refl
-words-picked t p (q ∷ l) h = go (p q) refl (words-picked t p l (h .1))
-  where
-    n : ℕ
-    n = cond (eqb (q .number) t) (sizeOf q) 0
-
-    go : (b : Bool) → p q ≡ b → wordsFor t (pick p l) ≡ wordsFor t l → wordsFor t (cond b (q ∷ pick p l) (pick p l)) ≡ n + wordsFor t l
-    go true e ih = ap (λ (k : ℕ). n + k) ih
-    go false e ih = rw (h .0 e) (ih ∙ sym (zero-add (wordsFor t l)))
+use Rattle.model.proofs.Store.WordsFor.{words-for-picked}
 
 update-words-append : (us vs : List Update) → updateWords (us ++ vs) ≡ updateWords us + updateWords vs
 unfolding updateWords
@@ -88,9 +75,9 @@ module _ {home : ℕ → ℕ} {puts : List Put} {c : Core} {w : World} {r : Refe
       ap (λ (x : Scan). updateWords (updatesIn t x)) (scanned g t opened below has)
       ∙ update-words t (from g t opened below)
       (all-from g t opened below _ (all-map (λ q h e. h e .kind (open-place (c .table) t opened .0)) (F ++ B) (g .accounts .own t opened)))
-      ∙ words-picked t _ _ (all-there g t opened below _ (early g t opened below))
+      ∙ words-for-picked t _ _ (all-there g t opened below _ (early g t opened below))
       ∙ ap (wordsFor t) (sym (on-append (diskOf c t) F B))
-      ∙ words-picked t _ (F ++ B) (away g t opened below)
+      ∙ words-for-picked t _ (F ++ B) (away g t opened below)
 
   updates-fine : abortFault c w t ≡ Sound
   updates-fine =

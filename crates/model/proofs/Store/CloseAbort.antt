@@ -27,14 +27,16 @@ use Rattle.model.proofs.Ledger.Picks.{closed-append}
 use Rattle.model.proofs.Ledger.Word.{ofTxn, kept-open}
 use Rattle.model.proofs.Ledger.Good.{Good, good-same}
 use Rattle.model.proofs.Ledger.Close.{abort-good, closes-one}
-use Rattle.model.proofs.Link.Words.{Fit}
 use Rattle.model.proofs.Link.Buffered.{InBuffer, owners-same, epochs-same}
 use Rattle.model.proofs.Store.View.{Kept, view, Accounts, Serving, Served, open-used}
-use Rattle.model.proofs.Store.Logged.{Written, all-more, boundary-logged}
-use Rattle.model.proofs.Store.Closed.{sets-closed, owners-closed, accounts-closed, found-more, words-for-other}
+use Rattle.model.proofs.Store.Logged.{none-written}
+use Rattle.model.proofs.Store.Closed.{sets-closed, owners-closed, accounts-closed, found-more}
 use Rattle.model.proofs.Store.Put.{MayPut, put-longer, put-in-buffer, F1, B1, made-sums, made-good, made-accounts, put-safe, put-epochs, put-told, put-cut}
 use Rattle.model.proofs.Growth.{Small}
 use Rattle.model.proofs.Booleans.{true-false}
+use Rattle.model.proofs.Store.OneMore.{all-more, boundary-logged}
+use Rattle.model.proofs.Store.ClosingEntry.{closingEntry, closing-size, closing-closes, closing-fit}
+use Rattle.model.proofs.Store.WordsFor.{words-for-other}
 
 module _ {t : ℕ} {home : ℕ → ℕ} {puts : List Put} {c : Core} {w : World} {r : Reference} {F B : List Entry} (g : Serving t home puts c w r F B)
     (opened : isOpen (c .table) t ≡ true) (below : diskOf c t < c .sizes .disks) (small : Small (c .sizes) (c .logs))
@@ -48,34 +50,13 @@ module _ {t : ℕ} {home : ℕ → ℕ} {puts : List Put} {c : Core} {w : World}
   d = diskOf c t
 
   abbrev e : Entry
-  e =
-      record {
-        disk = d;
-        position = endOf (c .logs) d;
-        kind = abortKind;
-        page = 0;
-        slot = 0;
-        number = t;
-        epoch = 0;
-        at = 0;
-        diff = [];
-      }
+  e = closingEntry abortKind d (endOf (c .logs) d) t
 
   closes : isClose e ≡ true
-  unfolding isClose
-  closes = refl
+  closes = closing-closes abortKind d (endOf (c .logs) d) t refl
 
   size : sizeOf e ≡ 2
-  unfolding sizeOf recordOf isClose encode
-  size = refl
-
-  fit : Fit s e
-  unfolding recordOf isClose
-  fit =
-      record {
-        formed = record { kind-ge = omega arith; kind-lt = omega arith; number-pos = open-used (g .safe) t opened .0 };
-        slotted = λ h. true-false closes h;
-      }
+  size = closing-size abortKind d (endOf (c .logs) d) t refl
 
   may : MayPut c e
   may =
@@ -88,7 +69,7 @@ module _ {t : ℕ} {home : ℕ → ℕ} {puts : List Put} {c : Core} {w : World}
         at-end = refl;
         in-ring = rw size room;
         in-limit = rw size in-limit;
-        fit = fit;
+        fit = closing-fit abortKind d (endOf (c .logs) d) t refl s (omega arith) (open-used (g .safe) t opened .0);
       }
 
   abbrev pub closing : Appended
@@ -150,16 +131,6 @@ module _ {t : ℕ} {home : ℕ → ℕ} {puts : List Put} {c : Core} {w : World}
       (λ q p k h. boundary-logged q p k F' (B1 g e may) e h) (closing .logs) (put-longer g e may .start-same)
       (open-used (g .safe) t opened .1) (found-more F' (B1 g e may) e) (words-for-other F' (B1 g e may) e)
 
-  written : Written s w1 w1
-  written =
-      record {
-        anchor-same = refl;
-        backups-same = refl;
-        logs-same = refl;
-        lengths = record { anchor = refl; pages = refl; backups = refl; logs = refl; work = refl };
-        buffers-same = λ i h k. refl;
-      }
-
   pub closed : Served (puts ++ record { disk = diskOf c t; content = close abortKind t } ∷ []) (withLog c (closing .logs) (without (c .table) t)) (perform (closing .actions) w) (withSets r (removed t (r .writeSets)))
   unfolding withLog recordOf isClose
   closed =
@@ -170,9 +141,9 @@ module _ {t : ℕ} {home : ℕ → ℕ} {puts : List Put} {c : Core} {w : World}
         serving =
             record {
               stage = g .stage;
-              safe = put-safe g e may written 0 (without (c .table) t) reference (g .safe .sizes) (g .safe .shaped) good;
+              safe = put-safe g e may (none-written s w1) 0 (without (c .table) t) reference (g .safe .sizes) (g .safe .shaped) good;
               accounts = accounts;
-              epochs = put-epochs g e may written (λ i h. refl) (λ h. true-false closes h) (λ h k. true-false closes k) (without (c .table) t);
+              epochs = put-epochs g e may (none-written s w1) (λ i h. refl) (λ h. true-false closes h) (λ h k. true-false closes k) (without (c .table) t);
               sets = sets-closed (g .accounts .tabled) t opened (g .sets) (closing .logs) reference refl;
               owners =
                   owners-closed (g .accounts .tabled) t opened (g .safe .devices .bounds) (g .owners) (owners-same buffer) (closing .logs)

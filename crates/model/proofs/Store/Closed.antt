@@ -3,7 +3,6 @@ use mathlib.Core.Path.{_≡_, refl, sym, ap, _∙_}
 use mathlib.Core.List.{List, [], _∷_, _++_, append-assoc}
 use mathlib.Core.Bool.{Bool, true, false, cond, not, _&&_, _||_, or-true, and-true}
 use Prim.Native.Nat.{ℕ, _+_, _<_}
-use native.Mathlib.Nat.{add-zero}
 use native.Mathlib.Decide.{ℕ-discrete}
 use lib.Dec.{eqb}
 use lib.ListN.{getD}
@@ -31,9 +30,10 @@ use Rattle.model.proofs.Ledger.Lists.{all-flush, some-halves, closed-fl
 use Rattle.model.proofs.Ledger.Close.{closes-one}
 use Rattle.model.proofs.Store.View.{wordsFor, Accounts, Sets, Owners, Since}
 use Rattle.model.proofs.Store.Same.{slot-lt}
-use Rattle.model.proofs.Store.Flush.{left, words-for-flush}
-use Rattle.model.proofs.Store.Logged.{all-more, words-for-more, told-more, boundary-logged}
+use Rattle.model.proofs.Store.Flush.{left}
 use Rattle.model.proofs.Booleans.{true-false}
+use Rattle.model.proofs.Store.OneMore.{all-more, told-more, boundary-logged}
+use Rattle.model.proofs.Store.WordsFor.{words-for-flush, words-for-other}
 
 -- Another open transaction has its place, its disk, its updates, its first record and its reserved words as before.
 module _ (t : Table) (ok : Tabled t) (n : ℕ) (opened : isOpen t n ≡ true) (u : ℕ) (also : isOpen t u ≡ true) (ne : u ≡ n → ⊥) where
@@ -184,9 +184,6 @@ module _ {x : ℕ} {home : ℕ → ℕ} {c : Core} {F B : List Entry} (a : Accou
 module _ (F B : List Entry) (e : Entry) where
   pub found-more : (p : Entry → Bool) → some p (F ++ B) ≡ true → some p (F ++ (B ++ e ∷ [])) ≡ true
   found-more p h = rw (← append-assoc F B (e ∷ []), some-append p (F ++ B) (e ∷ []), h)
-
-  pub words-for-other : (t : ℕ) → (t ≡ e .number → ⊥) → wordsFor t (F ++ (B ++ e ∷ [])) ≡ wordsFor t (F ++ B)
-  words-for-other t ne = words-for-more F B e t ∙ rw (ne-eqb (e .number) t (λ z. ne (sym z))) (add-zero (wordsFor t (F ++ B)))
 
 -- A commit's lists: the closing record behind the buffered entries of its disk, and all of these flushed.
 module _ (F B : List Entry) (e : Entry) where

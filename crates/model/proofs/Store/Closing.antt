@@ -14,9 +14,8 @@ use Rattle.model.specs.Record.{encode}
 use Rattle.model.specs.Anchor.{backupAt}
 use Rattle.model.specs.World.{World, Action, perform, stores, run}
 use Rattle.model.specs.Memory.{bufferAt, epochAt, epochOf}
-use Rattle.model.specs.State.{limit, startOf, fillOf, endOf, flushed, withLog, without, isOpen}
+use Rattle.model.specs.State.{limit, startOf, endOf, flushed, withLog, without, isOpen}
 use Rattle.model.specs.Append.{Appended, append, flush}
-use Rattle.model.specs.Transaction.{diskOf}
 use Rattle.model.specs.Reference.{Reference, writesOf, removed, applied, wordsIn}
 use Rattle.model.specs.History.{Put}
 use Rattle.model.proofs.Lengths.{Lengths, lengths-right}
@@ -26,7 +25,7 @@ use Rattle.model.proofs.Geometry.{pageOf, slotStart, slot-in}
 use Rattle.model.proofs.Slots.{patchOf, Shaped, words-applied, applied-shaped}
 use Rattle.model.proofs.WriteSets.{writes-removed-other}
 use Rattle.model.proofs.Places.{open-place, close-open}
-use Rattle.model.proofs.Ledger.Entry.{Entry, recordOf, isClose, closedIn, patched}
+use Rattle.model.proofs.Ledger.Entry.{Entry, recordOf, isClose, patched}
 use Rattle.model.proofs.Ledger.State.{committedBy, Same}
 use Rattle.model.proofs.Ledger.Order.{Ordered, sizeOf, on}
 use Rattle.model.proofs.Ledger.Word.{kept-open}
@@ -38,10 +37,10 @@ use Rattle.model.proofs.Link.Flush.{flush-link, flush-only, flush-cut, 
 use Rattle.model.proofs.Link.Buffered.{InBuffer, owners-same, epochs-same}
 use Rattle.model.proofs.Store.View.{Kept, view, Devices, Safe, Accounts, Epochs, Serving, before, open-used}
 use Rattle.model.proofs.Store.Flush.{devices-kept, left}
-use Rattle.model.proofs.Store.Logged.{longer, in-buffer, link-logged, ordered-logged, logged-stores}
+use Rattle.model.proofs.Store.Logged.{longer, in-buffer, link-logged, ordered-logged, logged-stores, MayLog}
 use Rattle.model.proofs.Store.Linked.{kept-linked}
 use Rattle.model.proofs.Store.Closed.{all-writes, sets-closed, owners-closed, accounts-closed, committedLog, lists, moved, closed, bounds, found, words, told}
-use Rattle.model.proofs.Growth.{start-flushed, ends-flushed, Small, Longer}
+use Rattle.model.proofs.Growth.{start-flushed, ends-flushed, Longer}
 use Rattle.model.proofs.Booleans.{true-false}
 
 -- the reference after the commit of a transaction
@@ -51,11 +50,7 @@ committedReference r n =
 
 -- The closing record e of an open transaction, appended where the buffer has room, and its disk flushed.
 module _ {home : ℕ → ℕ} {puts : List Put} {c : Core} {w : World} {r : Reference} {F B : List Entry} (g : Serving 0 home puts c w r F B) (e : Entry)
-    (opened : isOpen (c .table) (e .number) ≡ true) (closes : isClose e ≡ true) (there : e .disk ≡ diskOf c (e .number))
-    (below : e .disk < c .sizes .disks) (small : Small (c .sizes) (c .logs)) (room : fillOf (c .logs) (e .disk) + sizeOf e ≤ 64)
-    (at-end : e .position ≡ endOf (c .logs) (e .disk)) (fit : Fit (c .sizes) e)
-    (space : endOf (c .logs) (e .disk) + sizeOf e ≤ startOf (c .logs) (e .disk) + ringOf (c .sizes) (e .disk))
-    (in-limit : endOf (c .logs) (e .disk) + sizeOf e ≤ limit) where
+    (opened : isOpen (c .table) (e .number) ≡ true) (closes : isClose e ≡ true) (may : MayLog home c F B e) where
   abbrev added : Appended
   added = append (c .sizes) (c .logs) (w .work) (e .disk) (encode (recordOf e))
 
@@ -80,37 +75,33 @@ module _ {home : ℕ → ℕ} {puts : List Put} {c : Core} {w : World} {r : Refe
   abbrev rest : List Entry
   rest = left (e .disk) B
 
-  here : e .disk ≡ home (e .number)
-  here = there ∙ sym (g .accounts .homes (e .number) opened)
-
-  unclosed : closedIn (F ++ B) (e .number) ≡ false
-  unfolding view
-  unclosed = g .safe .good .unclosed (e .number) opened
+  below : e .disk < c .sizes .disks
+  below = may .below
 
   more : Longer (c .sizes) (e .disk) (sizeOf e) (c .logs) (added .logs)
-  more = longer (g .safe) e below here small room at-end unclosed fit space in-limit
+  more = longer (g .safe) e may
 
   arrays : Arrays (c .sizes) (added .logs)
   arrays = arrays-longer (g .safe .devices .arrays) more
 
   buffer : InBuffer (c .sizes) (e .disk) w addedWorld
-  buffer = in-buffer (g .safe) e below here small room at-end unclosed fit space in-limit
+  buffer = in-buffer (g .safe) e may
 
   linked : Link (c .sizes) (added .logs) addedWorld F (B ++ e ∷ [])
-  linked = link-logged (g .safe) e below here small room at-end unclosed fit space in-limit
+  linked = link-logged (g .safe) e may
 
   right : Lengths (c .sizes) addedWorld
   right = lengths-perform (added .actions) (lengths-right (c .sizes) w (g .safe .devices .lengths))
 
   ring-room : endOf (added .logs) (e .disk) ≤ startOf (added .logs) (e .disk) + ringOf (c .sizes) (e .disk)
-  ring-room = rw (more .start-same (e .disk), more .end-longer) space
+  ring-room = rw (more .start-same (e .disk), more .end-longer) (may .in-ring)
 
   only : OnlyLogs addedWorld doneWorld
   only = flush-only (c .sizes) (added .logs) addedWorld (e .disk)
 
   -- the append stores nothing
   pub closing-append : stores (added .actions) ≡ 0
-  closing-append = logged-stores (g .safe) e below here small room at-end unclosed fit space in-limit
+  closing-append = logged-stores (g .safe) e may
 
   -- cut inside that flush, nothing is lost
   pub closing-cut : (k : ℕ) → k < stores flushing → Kept puts (run k flushing addedWorld) r
@@ -135,7 +126,7 @@ module _ {home : ℕ → ℕ} {puts : List Put} {c : Core} {w : World} {r : Refe
   ends : (d : ℕ) → d < c .sizes .disks → Dec (d ≡ e .disk)
       → (endOf (added .logs) d ≤ startOf (added .logs) d + ringOf (c .sizes) d) × (endOf (added .logs) d ≤ limit)
   unfolding endOf
-  ends d h (yes at) = rw at (ring-room, omega (arith, more .end-longer))
+  ends d h (yes at) = rw at (ring-room, omega (arith, more .end-longer, may .in-limit))
   ends d h (no ne) = rw (more .start-same d, more .tail-same d ne, more .fill-same d ne) (g .safe .ends d h)
 
   -- the owners and the copy epochs stay
@@ -178,7 +169,7 @@ module _ {home : ℕ → ℕ} {puts : List Put} {c : Core} {w : World} {r : Refe
 
   good : Good 0 (total (c .sizes)) (view doneCore doneWorld doneReference gone rest)
   unfolding view
-  good = good-same same (commit-good home e (g .safe .ordered .homed) here closes opened (g .safe .good))
+  good = good-same same (commit-good home e (g .safe .ordered .homed) (may .here) closes opened (g .safe .good))
 
   safe : Safe 0 home doneCore doneWorld doneReference gone rest
   unfolding withLog
@@ -192,8 +183,8 @@ module _ {home : ℕ → ℕ} {puts : List Put} {c : Core} {w : World} {r : Refe
         ordered =
             subst (λ (start : ℕ → ℕ). Ordered (c .sizes .disks) start home gone rest)
             (fun-ext (λ d. sym (start-flushed (added .logs) (e .disk) d)))
-            (ordered-commit B e (ordered-logged (g .safe) e below here small room at-end unclosed fit space in-limit));
-        fit = moved F B e (Fit (c .sizes)) (g .safe .fit) fit;
+            (ordered-commit B e (ordered-logged (g .safe) e may));
+        fit = moved F B e (Fit (c .sizes)) (g .safe .fit) (may .fit);
         ends =
             λ d h. rw (start-flushed (added .logs) (e .disk) d, ends-flushed (added .logs) (e .disk) (more .sized) (below-eight arrays below) d)
             (ends d h (ℕ-discrete d (e .disk)));

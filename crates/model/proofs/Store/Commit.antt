@@ -1,18 +1,17 @@
 -- Commit: its closing record is appended, after a flush if the buffer is full, and its disk is flushed. An accepted commit leaves
 -- an open store with the transaction's writes committed; one that is cut loses nothing that was committed before.
-use mathlib.Core.Path.{_≡_, refl, ap, _∙_}
+use mathlib.Core.Path.{_≡_, refl, ap, _∙_, sym}
 use mathlib.Core.List.{List, [], _∷_, _++_, append-assoc}
 use mathlib.Core.Bool.{true, false}
 use Prim.Native.Nat.{ℕ, _+_, _-_, _≤_, _<_}
 use native.Mathlib.Omega.{arith}
 use native.Mathlib.Decide.{decLt}
 use borrow.Author.Tests.{leb-false}
-use Rattle.model.specs.declared.Sizes.{Sizes}
 use Rattle.model.specs.declared.Core.{Core}
 use Rattle.model.specs.Sizes.{ringOf}
 use Rattle.model.specs.Record.{encode, close, commitKind}
 use Rattle.model.specs.World.{World, Action, perform, stores, run, finishes}
-use Rattle.model.specs.State.{limit, startOf, fillOf, endOf, flushed, withLog, without, isOpen}
+use Rattle.model.specs.State.{limit, startOf, endOf, flushed, withLog, without, isOpen}
 use Rattle.model.specs.Refusal.{accepted, verdict}
 use Rattle.model.specs.Append.{Appended, append, flush}
 use Rattle.model.specs.Transaction.{diskOf, commitRows, commitTask}
@@ -20,18 +19,17 @@ use Rattle.model.specs.Call.{commit}
 use Rattle.model.specs.Reference.{Reference, afterTaken}
 use Rattle.model.specs.History.{Put, putBy}
 use Rattle.model.proofs.Run.{perform-append, stores-append, run-append, run-cut}
-use Rattle.model.proofs.Places.{open-place}
 use Rattle.model.proofs.Ledger.Entry.{Entry, recordOf, isClose}
 use Rattle.model.proofs.Ledger.Order.{sizeOf}
-use Rattle.model.proofs.Link.Words.{Fit}
-use Rattle.model.proofs.Store.View.{Kept, Served}
+use Rattle.model.proofs.Store.View.{Kept, Served, view, open-used}
 use Rattle.model.proofs.Store.Rows.{serving-sound}
 use Rattle.model.proofs.Store.Ready.{Ready, ready}
 use Rattle.model.proofs.Store.Closing.{committedReference, closing-append, closing-cut, closing-serves}
 use Rattle.model.proofs.Growth.{Small}
-use Rattle.model.proofs.Booleans.{true-false}
 use Rattle.model.proofs.Store.Accepted.{small-buffers, open-entry, open-below, own-room, commit-accepted}
 use Rattle.model.proofs.Store.Steady.{kept-lost}
+use Rattle.model.proofs.Store.Logged.{MayLog}
+use Rattle.model.proofs.Store.ClosingEntry.{closingEntry, closing-size, closing-closes, closing-fit}
 
 -- What an accepted commit may rely on: the transaction is open, on a disk with room for its closing record.
 record Allowed (c : Core) (n : ℕ) : Type 0 where
@@ -54,33 +52,12 @@ allowed c w n ok =
       in-limit = room .1;
     }
 
--- the closing record of transaction n at position p of disk d
-abbrev closing : ℕ → ℕ → ℕ → Entry
-closing d p n = record { disk = d; position = p; kind = commitKind; page = 0; slot = 0; number = n; epoch = 0; at = 0; diff = [] }
-
-module _ (d p n : ℕ) where
-  closing-size : sizeOf (closing d p n) ≡ 2
-  unfolding sizeOf recordOf isClose encode
-  closing-size = refl
-
-  closing-closes : isClose (closing d p n) ≡ true
-  unfolding isClose
-  closing-closes = refl
-
-  closing-fit : (s : Sizes) → (n ≡ 0 → ⊥) → Fit s (closing d p n)
-  unfolding recordOf isClose
-  closing-fit s some =
-      record {
-        formed = record { kind-ge = omega arith; kind-lt = omega arith; number-pos = omega (arith, some) };
-        slotted = λ z. true-false refl z;
-      }
-
 module _ {puts : List Put} {c : Core} {w : World} {r : Reference} (g : Served puts c w r) (n : ℕ) (a : Allowed c n) where
   start : Ready 0 (g .home) puts c w r (diskOf c n) 2
   start = ready (g .serving) (diskOf c n) 2 (a .below) (a .small) (omega arith)
 
   abbrev e : Entry
-  e = closing (diskOf c n) (endOf (start .logs) (diskOf c n)) n
+  e = closingEntry commitKind (diskOf c n) (endOf (start .logs) (diskOf c n)) n
 
   -- the store after the flush that makes room, the append there, and the flush behind it
   abbrev core : Core
@@ -112,24 +89,26 @@ module _ {puts : List Put} {c : Core} {w : World} {r : Reference} (g : Served pu
       (start .split (encode (close commitKind n)) refl)
       ∙ rw (perform-append, append-assoc)
 
-  some : n ≡ 0 → ⊥
-  some = open-place (c .table) n (a .opened) .0
-
-  room : fillOf (start .logs) (diskOf c n) + sizeOf e ≤ 64
-  room = omega (arith, start .room, closing-size (diskOf c n) (endOf (start .logs) (diskOf c n)) n)
-
-  space : endOf (start .logs) (diskOf c n) + sizeOf e ≤ startOf (start .logs) (diskOf c n) + ringOf (c .sizes) (diskOf c n)
-  space =
-      omega (arith, start .ends, start .starts (diskOf c n), a .space, closing-size (diskOf c n) (endOf (start .logs) (diskOf c n)) n)
-
-  in-limit : endOf (start .logs) (diskOf c n) + sizeOf e ≤ limit
-  in-limit = omega (arith, start .ends, a .in-limit, closing-size (diskOf c n) (endOf (start .logs) (diskOf c n)) n)
+  size : sizeOf e ≡ 2
+  size = closing-size commitKind (diskOf c n) (endOf (start .logs) (diskOf c n)) n refl
 
   abbrev closes : isClose e ≡ true
-  closes = closing-closes (diskOf c n) (endOf (start .logs) (diskOf c n)) n
+  closes = closing-closes commitKind (diskOf c n) (endOf (start .logs) (diskOf c n)) n refl
 
-  abbrev fit : Fit (c .sizes) e
-  fit = closing-fit (diskOf c n) (endOf (start .logs) (diskOf c n)) n (c .sizes) some
+  may : MayLog (g .home) core (start .flushed) (start .buffered) e
+  unfolding withLog view diskOf
+  may =
+      record {
+        below = a .below;
+        here = sym (start .serving .accounts .homes n (a .opened));
+        small = start .small;
+        room = omega (arith, start .room, size);
+        at-end = refl;
+        unclosed = start .serving .safe .good .unclosed n (a .opened);
+        fit = closing-fit commitKind (diskOf c n) (endOf (start .logs) (diskOf c n)) n refl (c .sizes) (omega arith) (open-used (g .serving .safe) n (a .opened) .0);
+        in-ring = omega (arith, start .ends, start .starts (diskOf c n), a .space, size);
+        in-limit = omega (arith, start .ends, a .in-limit, size);
+      }
 
   serves : Served (puts ++ record { disk = diskOf c n; content = close commitKind n } ∷ []) (withLog c (flushed (added .logs) (diskOf c n)) (without (c .table) n))
       (perform flushing (perform (added .actions) world)) (committedReference r n)
@@ -139,16 +118,16 @@ module _ {puts : List Put} {c : Core} {w : World} {r : Reference} (g : Served pu
         home = g .home;
         flushed = _;
         buffered = _;
-        serving = closing-serves (start .serving) e (a .opened) closes refl (a .below) (start .small) room refl fit space in-limit;
+        serving = closing-serves (start .serving) e (a .opened) closes may;
       }
 
   cut : (k : ℕ) → k < stores flushing → Kept puts (run k flushing (perform (added .actions) world)) r
   unfolding withLog diskOf
-  cut k h = closing-cut (start .serving) e (a .opened) closes refl (a .below) (start .small) room refl fit space in-limit k h
+  cut k h = closing-cut (start .serving) e (a .opened) closes may k h
 
   no-stores : stores (added .actions) ≡ 0
   unfolding withLog diskOf
-  no-stores = closing-append (start .serving) e (a .opened) closes refl (a .below) (start .small) room refl fit space in-limit
+  no-stores = closing-append (start .serving) e (a .opened) closes may
 
   -- the list cut before its end: inside the first flush, or inside the second
   cut-anywhere : (k : ℕ) → k < stores (start .flushing ++ (added .actions ++ flushing))

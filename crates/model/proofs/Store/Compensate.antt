@@ -1,7 +1,7 @@
 -- One update taken back inside an abort: the store goes on as it did, and a cut loses nothing.
 use mathlib.Core.Path.{_≡_, refl, sym, ap, _∙_}
 use mathlib.Core.List.{List, [], _∷_, _++_}
-use mathlib.Core.Bool.{true, false}
+use mathlib.Core.Bool.{true}
 use Prim.Native.Nat.{ℕ, _+_, _≤_, _<_}
 use native.Mathlib.Omega.{arith}
 use lib.Dec.{eqb}
@@ -10,12 +10,11 @@ use borrow.Author.Tests.{eq-eqb}
 use Rattle.model.specs.declared.Sizes.{Sizes}
 use Rattle.model.specs.declared.Core.{Core}
 use Rattle.model.specs.Word.{_⊕_, xors, part}
-use Rattle.model.specs.Sizes.{slotsIn, widthIn, slotBase, total, ringOf}
-use Rattle.model.specs.Record.{encode, compensationKind}
+use Rattle.model.specs.Sizes.{slotBase, total}
 use Rattle.model.specs.Scan.{Update}
 use Rattle.model.specs.World.{World, Action, pages, perform, stores, run}
 use Rattle.model.specs.Memory.{epochAt, epochOf}
-use Rattle.model.specs.State.{limit, startOf, endOf, withLog, isOpen, placeOf, hasUpdate}
+use Rattle.model.specs.State.{startOf, endOf, withLog}
 use Rattle.model.specs.Append.{Appended}
 use Rattle.model.specs.Transaction.{diskOf}
 use Rattle.model.specs.Abort.{xorIn, compensate}
@@ -28,11 +27,9 @@ use Rattle.model.proofs.Geometry.{pageOf, slotStart, slot-start, slot-i
 use Rattle.model.proofs.Restart.Words.{withPages, perform-xor, xor-at-word, length-xor-at}
 use Rattle.model.proofs.Ledger.Entry.{Entry, recordOf, isClose, mask, spanning, share, adds}
 use Rattle.model.proofs.Ledger.State.{logged, Same}
-use Rattle.model.proofs.Ledger.Order.{sizeOf}
 use Rattle.model.proofs.Ledger.Word.{ofTxn}
 use Rattle.model.proofs.Ledger.Good.{Good, good-same}
 use Rattle.model.proofs.Ledger.Update.{compensate-good}
-use Rattle.model.proofs.Link.Words.{Fit}
 use Rattle.model.proofs.Link.Buffered.{InBuffer, owners-same, epochs-same}
 use Rattle.model.proofs.Store.View.{Kept, view, Serving, open-used}
 use Rattle.model.proofs.Store.Same.{owners-same as owners-kept}
@@ -42,12 +39,7 @@ use Rattle.model.proofs.Store.Put.{MayPut, put, put-longer, put-in-buff
 use Rattle.model.proofs.Growth.{Small}
 use Rattle.model.proofs.Parts.{spanning-true}
 use Rattle.model.proofs.Store.Steady.{kept-lost}
-
--- An update as an abort reads it names a slot and has its width.
-pub record Slotted (s : Sizes) (u : Update) : Type 0 where
-  pub page-in : u .page < s .pages
-  pub slot-in : u .slot < slotsIn s (u .page)
-  pub width : length (u .diff) ≡ widthIn s (u .page)
+use Rattle.model.proofs.Store.Compensation.{MayCompensate, compensationEntry, compensation-changes, compensation-size, compensation-record, may-compensate}
 
 -- What some compensations leave: the log of disk d has n words more, and the transaction's entries add `more` besides;
 -- `after` is what is then told of the logs.
@@ -64,10 +56,7 @@ pub record Compensated (t : ℕ) (home : ℕ → ℕ) (after : List Put) (c : Co
 
 -- One update u of transaction t taken back, with room for its record.
 module _ {t : ℕ} {home : ℕ → ℕ} {puts : List Put} {c : Core} {w : World} {r : Reference} {F B : List Entry} (g : Serving t home puts c w r F B)
-    (opened : isOpen (c .table) t ≡ true) (has : hasUpdate (c .table) (placeOf (c .table) t) ≡ true) (below : diskOf c t < c .sizes .disks)
-    (small : Small (c .sizes) (c .logs)) (u : Update) (slotted : Slotted (c .sizes) u)
-    (room : endOf (c .logs) (diskOf c t) + (3 + length (u .diff)) ≤ startOf (c .logs) (diskOf c t) + ringOf (c .sizes) (diskOf c t))
-    (in-limit : endOf (c .logs) (diskOf c t) + (3 + length (u .diff)) ≤ limit) where
+    (u : Update) (ok : MayCompensate c t u) where
   abbrev s : Sizes
   s = c .sizes
 
@@ -77,60 +66,11 @@ module _ {t : ℕ} {home : ℕ → ℕ} {puts : List Put} {c : Core} {w : World}
   abbrev at : ℕ
   at = slotBase s (u .page) (u .slot)
 
-  -- the compensation record
   abbrev e : Entry
-  e =
-      record {
-        disk = d;
-        position = endOf (c .logs) d;
-        kind = compensationKind;
-        page = u .page;
-        slot = u .slot;
-        number = t;
-        epoch = epochOf s (w .work) (u .page);
-        at = at;
-        diff = u .diff;
-      }
-
-  change-entry : isClose e ≡ false
-  unfolding isClose
-  change-entry = refl
-
-  size : sizeOf e ≡ 3 + length (u .diff)
-  unfolding sizeOf recordOf isClose encode
-  size = omega arith
-
-  fit : Fit s e
-  unfolding recordOf isClose
-  fit =
-      let bounds = g .safe .devices .bounds in
-      record {
-        formed =
-            record {
-              kind-lt = omega arith;
-              page-in = slotted .page-in;
-              page-lt = omega (arith, slotted .page-in, bounds .pages-max);
-              slot-in = slotted .slot-in;
-              slot-lt = omega (arith, slotted .slot-in, bounds .used (u .page) (slotted .page-in) .slots-max);
-              number-pos = open-used (g .safe) t opened .0;
-              width-eq = slotted .width;
-            };
-        slotted = λ h. refl;
-      }
+  e = compensationEntry c w t u
 
   may : MayPut c e
-  may =
-      record {
-        opened = opened;
-        there = refl;
-        below = below;
-        small = small;
-        short = omega (arith, size, slotted .width, g .safe .devices .bounds .used (u .page) (slotted .page-in) .width-max);
-        at-end = refl;
-        in-ring = rw size room;
-        in-limit = rw size in-limit;
-        fit = fit;
-      }
+  may = may-compensate c w t u ok (g .safe .devices .bounds) (open-used (g .safe) t (ok .opened) .0)
 
   abbrev added : Appended
   added = put g e may
@@ -153,8 +93,8 @@ module _ {t : ℕ} {home : ℕ → ℕ} {puts : List Put} {c : Core} {w : World}
 
   inside : at + length (u .diff) ≤ length (w1 .pages)
   inside =
-      rw (buffer .pages-same, slotted .width, lengths-right s w (g .safe .devices .lengths) .pages)
-      (slot-end-total s (u .page) (u .slot) (slotted .page-in) (slotted .slot-in))
+      rw (buffer .pages-same, ok .slotted .width, lengths-right s w (g .safe .devices .lengths) .pages)
+      (slot-end-total s (u .page) (u .slot) (ok .slotted .page-in) (ok .slotted .slot-in))
 
   -- every word takes what the record adds
   pages-after : (i : ℕ) → getD (w .pages) i 0 ⊕ adds i e ≡ getD (xorAt at (u .diff) (w1 .pages)) i 0
@@ -163,13 +103,13 @@ module _ {t : ℕ} {home : ℕ → ℕ} {puts : List Put} {c : Core} {w : World}
 
   epochs-after : (page : ℕ) → epochOf s (w .work) page ≡ epochOf s (w1 .work) page
   unfolding epochOf epochAt
-  epochs-after page = sym (epochs-same buffer _ below (omega arith))
+  epochs-after page = sym (epochs-same buffer _ (ok .below) (omega arith))
 
   -- the words of the slot have the copy epoch of its page
   copy : (i : ℕ) → i < total s → spanning at (length (u .diff)) i ≡ true → epochOf s (w .work) (pageOf s i) ≡ e .epoch
   copy i h k =
       let there = spanning-true at (length (u .diff)) i k in
-      ap (epochOf s (w .work)) (slot-start s (u .page) (u .slot) i (slotted .page-in) (slotted .slot-in) (there .0) (omega (arith, slotted .width)) .1)
+      ap (epochOf s (w .work)) (slot-start s (u .page) (u .slot) i (ok .slotted .page-in) (ok .slotted .slot-in) (there .0) (omega (arith, ok .slotted .width)) .1)
 
   same : Same (total s) (logged (view c w r F' (B1 g e may)) e) (view (withLog c (added .logs) (c .table)) w2 r F' B')
   unfolding view logged withLog
@@ -191,7 +131,7 @@ module _ {t : ℕ} {home : ℕ → ℕ} {puts : List Put} {c : Core} {w : World}
 
   good : Good t (total s) (view (withLog c (added .logs) (c .table)) w2 r F' B')
   unfolding view
-  good = good-same same (compensate-good e (made-good g e may) opened change-entry copy)
+  good = good-same same (compensate-good e (made-good g e may) (ok .opened) (compensation-changes c w t u) copy)
 
   written : Written s w1 w2
   written =
@@ -207,23 +147,19 @@ module _ {t : ℕ} {home : ℕ → ℕ} {puts : List Put} {c : Core} {w : World}
   abbrev told : List Put
   told = puts ++ record { disk = diskOf c t; content = compensation c w t u } ∷ []
 
-  is-told : compensation c w t u ≡ recordOf e
-  unfolding compensation recordOf isClose
-  is-told = refl
-
   serving : Serving t home told (withLog c (added .logs) (c .table)) w2 r F' B'
   unfolding withLog
   serving =
       record {
         stage = g .stage;
         safe = put-safe g e may written t (c .table) r (g .safe .sizes) (g .safe .shaped) good;
-        accounts = put-own g e may has refl;
+        accounts = put-own g e may (ok .has) refl;
         epochs =
-            put-epochs g e may written (λ i h. refl) (λ h. capped g e (u .page) (slotted .page-in) refl)
-            (λ h k. early g e (u .page) (slotted .page-in) refl below refl h) (c .table);
+            put-epochs g e may written (λ i h. refl) (λ h. capped g e (u .page) (ok .slotted .page-in) refl)
+            (λ h k. early g e (u .page) (ok .slotted .page-in) refl (ok .below) refl h) (c .table);
         sets = record { distinct = g .sets .distinct; has = g .sets .has; fits = g .sets .fits };
         owners = owners-kept (g .safe .devices .bounds) refl refl refl (owners-same buffer) (g .owners);
-        told = put-told g e may (record { disk = d; content = compensation c w t u }) refl is-told;
+        told = put-told g e may (record { disk = d; content = compensation c w t u }) refl (compensation-record c w t u);
       }
 
   -- the record put, then the slot's words
@@ -256,7 +192,7 @@ module _ {t : ℕ} {home : ℕ → ℕ} {puts : List Put} {c : Core} {w : World}
         serving = rw world serving;
         sums = sums;
         starts = put-longer g e may .start-same;
-        ends = put-longer g e may .end-longer ∙ ap (λ (n : ℕ). endOf (c .logs) d + n) size;
+        ends = put-longer g e may .end-longer ∙ ap (λ (n : ℕ). endOf (c .logs) d + n) (compensation-size c w t u);
         small = put-longer g e may .small;
         epochs = λ page. rw world (sym (epochs-after page));
         cut = λ k h. kept-lost (put-cut g e may slot-words storeless k h) _;

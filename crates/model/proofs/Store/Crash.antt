@@ -5,7 +5,6 @@ use Prim.Native.Nat.{ℕ, _+_, _≤_, _<_}
 use native.Mathlib.Omega.{arith}
 use lib.ListN.{length, getD}
 use lib.Seq.{ext-getD}
-use borrow.Author.Tests.{eqb-false}
 use Rattle.model.specs.declared.Sizes.{Sizes}
 use Rattle.model.specs.declared.Core.{Core}
 use Rattle.model.specs.Word.{_⊕_}
@@ -28,21 +27,15 @@ use Rattle.model.proofs.Ledger.Order.{on, wordsOf, entriesScan}
 use Rattle.model.proofs.Ledger.Sums.{all-map}
 use Rattle.model.proofs.Ledger.Picks.{all-pick}
 use Rattle.model.proofs.Ledger.Lists.{all-left}
-use Rattle.model.proofs.Ledger.Ordered.{closed-same, closes-last, closesLast}
+use Rattle.model.proofs.Ledger.Ordered.{closed-same, closes-last}
 use Rattle.model.proofs.Ledger.Good.{recovers}
 use Rattle.model.proofs.Link.Words.{Fit, placed-entries, retained, image-log, retained-scan}
 use Rattle.model.proofs.Restart.Words.{xor-below-cong}
 use Rattle.model.proofs.Restart.Gain.{gain, gains, restarted-word, length-restarted}
 use Rattle.model.proofs.Restart.Image.{length-backup}
-use Rattle.model.proofs.Restart.Entries.{gain-entries, ClosesLast}
-use Rattle.model.proofs.Restart.Disks.{sum-by-disk}
+use Rattle.model.proofs.Restart.Entries.{gain-entries, sum-by-disk}
 use Rattle.model.proofs.Store.View.{Kept, Restartable, view, Safe, Since, flushed-laid}
 use Rattle.model.proofs.Parts.{getD-part}
-
--- no entry behind a closing record has its number
-last-entries : (l : List Entry) → closesLast l → ClosesLast l
-last-entries [] h = tt
-last-entries (r ∷ l) h = ((λ e. all-map (λ q k. eqb-false (q .number) (r .number) k) l (h .0 e)), last-entries l (h .1))
 
 -- entries are read to their end
 entries-end : (l : List Entry) → ending (entriesScan l) ≡ end
@@ -70,7 +63,7 @@ module _ {x : ℕ} {home : ℕ → ℕ} {c : Core} {w : World} {r : Reference} {
   log-gain i d h =
       rw (log d h)
       (gain-entries s (c .epoch) (closedIn F) i (on d F) (all-map (λ e k. k .slotted) (on d F) (all-pick (Fit s) _ F fit))
-      (last-entries (on d F) (closes-last (g .ordered) d h))
+      (closes-last (g .ordered) d h)
       (all-map (λ e k. sym k) (on d F) (closed-same (g .ordered) d)))
 
   image-sizes : imageOf w .sizes ≡ s

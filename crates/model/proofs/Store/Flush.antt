@@ -1,10 +1,8 @@
 -- The flush of a disk keeps what holds of an open store, also inside an abort.
 use mathlib.Core.Path.{_≡_, refl, sym, ap, _∙_}
-use mathlib.Core.List.{List, [], _∷_, _++_}
-use mathlib.Core.Bool.{Bool, true, false, cond, not, _&&_, _||_, or-assoc}
+use mathlib.Core.List.{List, _++_}
+use mathlib.Core.Bool.{true, not, _&&_}
 use Prim.Native.Nat.{ℕ, _+_, _≤_, _<_}
-use native.Mathlib.Omega.{arith}
-use native.Mathlib.Nat.{zero-add, add-assoc}
 use lib.Dec.{eqb}
 use Rattle.model.specs.declared.Logs.{Logs}
 use Rattle.model.specs.declared.Sizes.{Sizes}
@@ -22,20 +20,20 @@ use Rattle.model.specs.History.{Put}
 use Rattle.model.proofs.Lengths.{Lengths, lengths-right}
 use Rattle.model.proofs.Run.{SameLengths, perform-lengths, run-lengths}
 use Rattle.model.proofs.Flush.{OnlyLogs}
-use Rattle.model.proofs.Ledger.Entry.{Entry, All, some, pick, onDisk}
+use Rattle.model.proofs.Ledger.Entry.{Entry, All, pick, onDisk}
 use Rattle.model.proofs.Ledger.State.{flushedDisk, Same}
-use Rattle.model.proofs.Ledger.Order.{on, sizeOf}
+use Rattle.model.proofs.Ledger.Order.{on}
 use Rattle.model.proofs.Ledger.Sums.{all-map}
 use Rattle.model.proofs.Ledger.Good.{good-same}
 use Rattle.model.proofs.Ledger.Flush.{flush-good}
-use Rattle.model.proofs.Ledger.Picks.{some-append}
-use Rattle.model.proofs.Ledger.Lists.{all-flush, closed-flush, on-flush, some-halves}
+use Rattle.model.proofs.Ledger.Lists.{all-flush, closed-flush, on-flush, some-flush}
 use Rattle.model.proofs.Ledger.Ordered.{ordered-flush}
 use Rattle.model.proofs.Link.Words.{Fit, Arrays, arrays-flushed, below-eight}
 use Rattle.model.proofs.Link.Flush.{flush-link, flush-only, flush-cut, cut-only}
-use Rattle.model.proofs.Store.View.{view, Devices, Safe, wordsFor, Accounts, Epochs, Serving, before}
+use Rattle.model.proofs.Store.View.{view, Devices, Safe, Accounts, Epochs, Serving, before}
 use Rattle.model.proofs.Store.Same.{owners-same}
 use Rattle.model.proofs.Growth.{start-flushed, ends-flushed}
+use Rattle.model.proofs.Store.WordsFor.{words-for-flush}
 
 -- lists of the same lengths are as right
 pub lengths-same : (s : Sizes) {v w : World} → SameLengths v w → lengthsRight s w ≡ true → lengthsRight s v ≡ true
@@ -155,35 +153,6 @@ module _ {x : ℕ} {home : ℕ → ℕ} {c : Core} {w : World} {r : Reference} {
           sizes = g .sizes;
           shaped = g .shaped;
         }
-
--- the words of a transaction's entries, wherever they lie
-pub words-for-append : (t : ℕ) (l m : List Entry) → wordsFor t (l ++ m) ≡ wordsFor t l + wordsFor t m
-unfolding wordsFor
-words-for-append t [] m = sym (zero-add (wordsFor t m))
-words-for-append t (e ∷ l) m = rw (words-for-append t l m) (sym (add-assoc _ (wordsFor t l) (wordsFor t m)))
-
-words-for-halves : (t : ℕ) (p : Entry → Bool) (l : List Entry) → wordsFor t (pick p l) + wordsFor t (pick (λ r. not (p r)) l) ≡ wordsFor t l
-unfolding wordsFor pick
-words-for-halves t p [] = refl
-words-for-halves t p (e ∷ l) = go (p e) (words-for-halves t p l)
-  where
-    n : ℕ
-    n = cond (eqb (e .number) t) (sizeOf e) 0
-
-    go : (b : Bool) → wordsFor t (pick p l) + wordsFor t (pick (λ r. not (p r)) l) ≡ wordsFor t l
-        → wordsFor t (cond b (e ∷ pick p l) (pick p l)) + wordsFor t (cond (not b) (e ∷ pick (λ r. not (p r)) l) (pick (λ r. not (p r)) l)) ≡ n + wordsFor t l
-    go true h = omega arith
-    go false h = omega arith
-
-pub words-for-flush : (t : ℕ) (p : Entry → Bool) (F B : List Entry) → wordsFor t ((F ++ pick p B) ++ pick (λ r. not (p r)) B) ≡ wordsFor t (F ++ B)
-words-for-flush t p F B =
-    rw (words-for-append t (F ++ pick p B) (pick (λ r. not (p r)) B), words-for-append t F (pick p B), words-for-append t F B)
-    (omega (arith, words-for-halves t p B))
-
-some-flush : (q p : Entry → Bool) (F B : List Entry) → some q ((F ++ pick p B) ++ pick (λ r. not (p r)) B) ≡ some q (F ++ B)
-some-flush q p F B =
-    rw (some-append q (F ++ pick p B) (pick (λ r. not (p r)) B), some-append q F (pick p B), some-append q F B)
-    (or-assoc (some q F) (some q (pick p B)) (some q (pick (λ r. not (p r)) B)) ∙ ap (λ (b : Bool). some q F || b) (some-halves q p B))
 
 -- the table, the copy epochs and the write sets do not see where an entry of the log lies
 module _ {x : ℕ} {home : ℕ → ℕ} {puts : List Put} {c : Core} {w : World} {r : Reference} {F B : List Entry} (g : Serving x home puts c w r F B)

@@ -31,10 +31,10 @@ use Rattle.model.proofs.Link.Words.{Fit}
 use Rattle.model.proofs.Link.Abort.{sumUpdates, abort-scan, updates-add}
 use Rattle.model.proofs.Store.View.{Serving}
 use Rattle.model.proofs.Store.Rows.{serving-sound}
-use Rattle.model.proofs.Store.Compensate.{Slotted}
 use Rattle.model.proofs.Growth.{Small}
 use Rattle.model.proofs.Booleans.{true-false}
 use Rattle.model.proofs.Store.Accepted.{small-buffers, open-below, own-room, abort-accepted}
+use Rattle.model.proofs.Store.Compensation.{Slotted}
 
 -- picking leaves a sum that what is not picked adds nothing to
 pub sum-picked : {A : Type 0} (p : A → Bool) (f : A → ℕ) (l : List A) → All (λ q. p q ≡ false → f q ≡ 0) l → sum f (pick p l) ≡ sum f l

@@ -2,10 +2,9 @@
 use mathlib.Core.Path.{_≡_, refl, sym, ap, _∙_}
 use mathlib.Core.Logic.{_⊎_, inl, inr}
 use mathlib.Core.List.{List, [], _∷_, _++_, map, map-append, append-assoc, append-nil}
-use mathlib.Core.Bool.{Bool, true, false, cond, _&&_, _||_, and-eq-true-iff}
+use mathlib.Core.Bool.{Bool, true, false, _&&_, _||_, and-eq-true-iff}
 use Prim.Native.Nat.{ℕ, _+_, _≤_, _<_}
 use native.Mathlib.Omega.{arith}
-use native.Mathlib.Nat.{zero-add}
 use lib.Dec.{leb, eqb}
 use lib.ListN.{getD}
 use borrow.Author.Tests.{lt-ltb, le-leb, lt-leb, eqb-true, eq-eqb, ne-eqb}
@@ -33,6 +32,7 @@ use Rattle.model.proofs.Ledger.Checkpoint.{MaySwitch}
 use Rattle.model.proofs.Ledger.Switch.{Placed, switch-old, switch-closed, switch-last}
 use Rattle.model.proofs.Store.View.{view, Own, wordsFor, Since, Serving, before}
 use Rattle.model.proofs.Booleans.{true-false}
+use Rattle.model.proofs.Store.WordsFor.{words-for-picked}
 
 -- a boundary from s on is one of the entries from s on
 boundary-kept : (p s q : ℕ) (l : List Entry) → Laid p l → boundary s p l ≡ true → boundary q p l ≡ true → s ≤ q
@@ -100,19 +100,6 @@ since-later {start = start} {F = F} o start' d h cut k =
           ∙ ap (λ (x : List Record). k .old ++ x) (map-append recordOf (s .0) m)
           ∙ sym (append-assoc (k .old) (map recordOf (s .0)) (map recordOf m));
     })
-
--- a test that a transaction's entries pass keeps their words
-words-kept : (t : ℕ) (p : Entry → Bool) (l : List Entry) → All (λ e. e .number ≡ t → p e ≡ true) l
-    → wordsFor t (pick p l) ≡ wordsFor t l
-unfolding wordsFor pick
-words-kept t p [] h = refl
-words-kept t p (e ∷ l) h = go (p e) (eqb (e .number) t) refl refl (words-kept t p l (h .1))
-  where
-    go : (a b : Bool) → p e ≡ a → eqb (e .number) t ≡ b → wordsFor t (pick p l) ≡ wordsFor t l
-        → wordsFor t (cond a (e ∷ pick p l) (pick p l)) ≡ cond b (sizeOf e) 0 + wordsFor t l
-    go true b x y same = rw (y, same)
-    go false true x y same = true-false (h .0 (eqb-true (e .number) t y)) x
-    go false false x y same = same ∙ sym (zero-add (wordsFor t l))
 
 -- what holds of each open transaction's entries, as a property of all entries
 open-entries : (O : ℕ → Bool) (P : ℕ → Entry → Type 0) (l : List Entry)
@@ -201,7 +188,7 @@ module _ {home : ℕ → ℕ} {puts : List Put} {c : Core} {w : World} {r : Refe
   pub reserved-stays : (t : ℕ) → isOpen (c .table) t ≡ true → (t ≡ 0 → ⊥)
       → reservedAt (c .table) (placeOf (c .table) t) ≡ 2 + wordsFor t (pick (keptFrom (newStart c)) F ++ [])
   reserved-stays t o ne =
-      rw (append-nil (pick (keptFrom (newStart c)) F), words-kept t (keptFrom (newStart c)) F (open-kept t o))
+      rw (append-nil (pick (keptFrom (newStart c)) F), words-for-picked t (keptFrom (newStart c)) F (all-map (λ e h f. ne-eqb (e .number) t (λ z. true-false (h z) f)) F (open-kept t o)))
       (rw (append-nil F) at (g .accounts .reserved t o ne))
 
   -- where the entries lie at the checkpoint's end

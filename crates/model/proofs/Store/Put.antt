@@ -13,14 +13,14 @@ use Rattle.model.specs.Sizes.{total, ringOf}
 use Rattle.model.specs.Record.{encode}
 use Rattle.model.specs.World.{World, Action, perform, stores, run}
 use Rattle.model.specs.Memory.{bufferAt, epochOf}
-use Rattle.model.specs.State.{limit, startOf, fillOf, endOf, withLog, isOpen, placeOf, firstAt, hasUpdate}
+use Rattle.model.specs.State.{limit, startOf, endOf, withLog, isOpen, placeOf, firstAt, hasUpdate}
 use Rattle.model.specs.Append.{Appended, append}
 use Rattle.model.specs.Transaction.{diskOf}
 use Rattle.model.specs.Reference.{Reference}
 use Rattle.model.specs.History.{Put, recordsOn}
 use Rattle.model.proofs.Run.{perform-append, stores-append, run-cut}
 use Rattle.model.proofs.Slots.{Shaped}
-use Rattle.model.proofs.Ledger.Entry.{Entry, recordOf, isClose, sum, closedIn}
+use Rattle.model.proofs.Ledger.Entry.{Entry, recordOf, isClose, sum}
 use Rattle.model.proofs.Ledger.State.{Same}
 use Rattle.model.proofs.Ledger.Order.{sizeOf, on, boundary}
 use Rattle.model.proofs.Ledger.Sums.{all-map}
@@ -33,8 +33,10 @@ use Rattle.model.proofs.Link.Append.{entry-longer, append-in-buffer}
 use Rattle.model.proofs.Store.View.{Kept, view, Safe, Accounts, Epochs, Since, Serving, before, open-used}
 use Rattle.model.proofs.Store.Ready.{Ready, ready, ready-sums}
 use Rattle.model.proofs.Store.LogEnd.{boundary-to}
-use Rattle.model.proofs.Store.Logged.{Written, told-more, boundary-logged, logged, logged-stores, safe-written, epochs-written, accounts-logged}
+use Rattle.model.proofs.Store.Logged.{Written, logged, logged-stores, safe-written, epochs-written, MayLog}
 use Rattle.model.proofs.Growth.{Small, Longer}
+use Rattle.model.proofs.Store.OneMore.{told-more, boundary-logged}
+use Rattle.model.proofs.Store.Entered.{accounts-logged}
 
 -- The entry is of an open transaction, on its disk and at the end there, and the log has room for it.
 pub record MayPut (c : Core) (e : Entry) : Type 0 where
@@ -128,43 +130,23 @@ module _ {x : ℕ} {home : ℕ → ℕ} {puts : List Put} {c : Core} {w : World}
       }
 
   -- Put there, the entry is logged with room.
-  below1 : e .disk < c1 .sizes .disks
-  unfolding withLog
-  below1 = may .below
-
-  here : e .disk ≡ home (e .number)
-  here = may .there ∙ sym (g .accounts .homes (e .number) (may .opened))
-
-  small1 : Small (c1 .sizes) (c1 .logs)
-  unfolding withLog
-  small1 = made .small
-
-  room1 : fillOf (c1 .logs) (e .disk) + sizeOf e ≤ 64
-  unfolding withLog
-  room1 = made .room
-
-  at-end1 : e .position ≡ endOf (c1 .logs) (e .disk)
-  unfolding withLog
-  at-end1 = may .at-end ∙ sym (made .ends)
-
-  unclosed : closedIn (F1 ++ B1) (e .number) ≡ false
-  unfolding view
-  unclosed = made-good .unclosed (e .number) (may .opened)
-
-  fit1 : Fit (c1 .sizes) e
-  unfolding withLog
-  fit1 = may .fit
-
-  in-ring1 : endOf (c1 .logs) (e .disk) + sizeOf e ≤ startOf (c1 .logs) (e .disk) + ringOf (c1 .sizes) (e .disk)
-  unfolding withLog
-  in-ring1 = rw (made .ends, made .starts) (may .in-ring)
-
-  in-limit1 : endOf (c1 .logs) (e .disk) + sizeOf e ≤ limit
-  unfolding withLog
-  in-limit1 = rw (made .ends) (may .in-limit)
+  may1 : MayLog home c1 F1 B1 e
+  unfolding withLog view
+  may1 =
+      record {
+        below = may .below;
+        here = may .there ∙ sym (g .accounts .homes (e .number) (may .opened));
+        small = made .small;
+        room = made .room;
+        at-end = may .at-end ∙ sym (made .ends);
+        unclosed = made-good .unclosed (e .number) (may .opened);
+        fit = may .fit;
+        in-ring = rw (made .ends, made .starts) (may .in-ring);
+        in-limit = rw (made .ends) (may .in-limit);
+      }
 
   abbrev added : Appended
-  added = logged (serving1 .safe) e below1 here small1 room1 at-end1 unclosed fit1 in-ring1 in-limit1
+  added = logged (serving1 .safe) e may1
 
   put-parts : put ≡ record { actions = made .flushing ++ added .actions; logs = added .logs }
   unfolding withLog sizeOf
@@ -187,7 +169,7 @@ module _ {x : ℕ} {home : ℕ → ℕ} {puts : List Put} {c : Core} {w : World}
           omega (
             arith,
             stores-append (made .flushing ++ added .actions) rest,
-            logged-stores (serving1 .safe) e below1 here small1 room1 at-end1 unclosed fit1 in-ring1 in-limit1,
+            logged-stores (serving1 .safe) e may1,
           ) in
           rw (run-cut k (made .flushing ++ added .actions) rest w (omega arith), run-cut k (made .flushing) (added .actions) w less) (made .cut k less)
 
@@ -209,7 +191,7 @@ module _ {x : ℕ} {home : ℕ → ℕ} {puts : List Put} {c : Core} {w : World}
     unfolding withLog view
     put-safe y t q sizes shaped good =
         rw put-logs
-        (safe-written (serving1 .safe) e below1 here small1 room1 at-end1 unclosed fit1 in-ring1 in-limit1 written1 y t q sizes shaped (rw put-logs at good))
+        (safe-written (serving1 .safe) e may1 written1 y t q sizes shaped (rw put-logs at good))
 
     pub put-epochs : ((i : ℕ) → bufferAt (c .sizes) (c .sizes .disks) ≤ i → getD (u .work) i 0 ≡ getD (perform (put .actions) w .work) i 0)
         → (isClose e ≡ false → e .epoch ≤ c .epoch + 1) → (before c e ≡ true → isClose e ≡ false → e .epoch ≤ c .epoch)
@@ -217,7 +199,7 @@ module _ {x : ℕ} {home : ℕ → ℕ} {puts : List Put} {c : Core} {w : World}
     unfolding withLog before
     put-epochs same capped early t =
         rw put-logs
-        (epochs-written (serving1 .safe) e below1 here small1 room1 at-end1 unclosed fit1 in-ring1 in-limit1 written1 (serving1 .epochs) (rw put-world at same) capped early t)
+        (epochs-written (serving1 .safe) e may1 written1 (serving1 .epochs) (rw put-world at same) capped early t)
 
   -- An entry of transaction x more, where the table knows of an earlier one.
   pub put-own : hasUpdate (c .table) (placeOf (c .table) (e .number)) ≡ true → e .number ≡ x
@@ -225,7 +207,7 @@ module _ {x : ℕ} {home : ℕ → ℕ} {puts : List Put} {c : Core} {w : World}
   unfolding withLog diskOf
   put-own has exempt =
       rw put-logs
-      (accounts-logged (serving1 .safe) e below1 here small1 room1 at-end1 unclosed fit1 in-ring1 in-limit1 (serving1 .accounts) (c .table)
+      (accounts-logged (serving1 .safe) e may1 (serving1 .accounts) (c .table)
       (record {
         tabled = g .accounts .tabled;
         opened = λ v. refl;
@@ -235,8 +217,8 @@ module _ {x : ℕ} {home : ℕ → ℕ} {puts : List Put} {c : Core} {w : World}
         first =
             omega (
               arith,
-              at-end1,
-              log-end (serving1 .safe .link) (e .disk) below1,
+              may1 .at-end,
+              log-end (serving1 .safe .link) (e .disk) (may1 .below),
               boundary-to first (startOf (made .logs) (e .disk)) (on (e .disk) F1 ++ on (e .disk) B1) edge,
             );
         firsts = all-map (λ q h n. h n .first) (F1 ++ B1) (serving1 .accounts .own (e .number) (may .opened));

@@ -1,7 +1,7 @@
 -- Before a record is appended the buffer has room for it, after a flush if need be; cut inside that flush, nothing is lost.
-use mathlib.Core.Path.{_≡_, refl, sym, ap, _∙_}
+use mathlib.Core.Path.{_≡_, refl}
 use mathlib.Core.List.{List, [], _++_}
-use mathlib.Core.Bool.{Bool, true, false, not}
+use mathlib.Core.Bool.{Bool, true, false}
 use Prim.Native.Nat.{ℕ, _+_, _≤_, _<_}
 use native.Mathlib.Omega.{arith}
 use native.Mathlib.Nat.{zero-add}
@@ -10,24 +10,21 @@ use lib.ListN.{length}
 use borrow.Author.Tests.{leb-true, leb-false, le-leb, lt-leb}
 use Rattle.model.specs.declared.Logs.{Logs}
 use Rattle.model.specs.declared.Core.{Core}
-use Rattle.model.specs.Word.{_⊕_}
 use Rattle.model.specs.World.{World, Action, perform, run, stores}
 use Rattle.model.specs.State.{startOf, fillOf, endOf, flushed, withLog}
 use Rattle.model.specs.Append.{append, flush}
 use Rattle.model.specs.Reference.{Reference}
 use Rattle.model.specs.History.{Put}
 use Rattle.model.proofs.Flush.{OnlyLogs, none-changed}
-use Rattle.model.proofs.Xor.{⊕-assoc}
-use Rattle.model.proofs.Ledger.Entry.{Entry, sum, pick, onDisk}
+use Rattle.model.proofs.Ledger.Entry.{Entry, sum, onDisk}
 use Rattle.model.proofs.Ledger.Order.{on}
-use Rattle.model.proofs.Ledger.Sums.{sum-append}
-use Rattle.model.proofs.Ledger.Picks.{sum-pick}
 use Rattle.model.proofs.Link.Flush.{flush-only}
 use Rattle.model.proofs.Store.View.{Kept, Serving}
 use Rattle.model.proofs.Store.Crash.{kept}
 use Rattle.model.proofs.Store.Flush.{left, flush-serving, cut-safe}
 use Rattle.model.proofs.Growth.{fill-flushed, ends-flushed, start-flushed, Small, flush-longer, Longer}
 use Rattle.model.proofs.Link.Words.{below-eight}
+use Rattle.model.proofs.Ledger.Lists.{sum-flush}
 
 -- The store with room for n words in the buffer of disk d: `flushing` is the flush, or nothing.
 pub record Ready (x : ℕ) (home : ℕ → ℕ) (puts : List Put) (c : Core) (w : World) (r : Reference) (d n : ℕ) : Type 0 where
@@ -49,18 +46,6 @@ pub record Ready (x : ℕ) (home : ℕ → ℕ) (puts : List Put) (c : Core) (w 
         logs = append (c .sizes) logs (perform flushing w .work) d words .logs;
       }
   pub cut : (k : ℕ) → k < stores flushing → Kept puts (run k flushing w) r
-
--- entries moved from the second list to the end of the first have the same sums
-sum-flush : (p : Entry → Bool) (f : Entry → ℕ) (F B : List Entry) → sum f ((F ++ pick p B) ++ pick (λ q. not (p q)) B) ≡ sum f (F ++ B)
-sum-flush p f F B =
-    let rest : List Entry = pick (λ q. not (p q)) B in
-    sum-append f (F ++ pick p B) rest ∙ ap (λ (y : ℕ). y ⊕ sum f rest) (sum-append f F (pick p B))
-    ∙ ⊕-assoc (sum f F) (sum f (pick p B)) (sum f rest) ∙ ap (λ (y : ℕ). sum f F ⊕ y) (sum-pick p f B) ∙ sym (sum-append f F B)
-
--- a core is itself with its own logs and table
-pub same-core : (c : Core) → withLog c (c .logs) (c .table) ≡ c
-unfolding withLog
-same-core c = refl
 
 module _ {x : ℕ} {home : ℕ → ℕ} {puts : List Put} {c : Core} {w : World} {r : Reference} {F B : List Entry} (g : Serving x home puts c w r F B)
     (d n : ℕ) (below : d < c .sizes .disks) (small : Small (c .sizes) (c .logs)) (short : n ≤ 64) where

@@ -18,7 +18,7 @@ use Rattle.model.proofs.Restart.Image.{SameDevices}
 use Rattle.model.proofs.Restart.Aside.{Aside, Steady, devices-steady, steady-image, steady-run}
 use Rattle.model.proofs.Store.View.{Restartable, Kept}
 use Rattle.model.proofs.Store.Flush.{lengths-same}
-use Rattle.model.proofs.Store.Logged.{records-append}
+use Rattle.model.proofs.Store.OneMore.{records-append}
 
 pub steady-restartable : {v w : World} → Steady v w → Restartable w → Restartable v
 unfolding tailOn retained

@@ -26,8 +26,9 @@ use Rattle.model.proofs.Link.Words.{retained, placed-entries}
 use Rattle.model.proofs.Link.Abort.{scan-from}
 use Rattle.model.proofs.Store.View.{wordsFor, Serving, Served}
 use Rattle.model.proofs.Places.{open-place}
-use Rattle.model.proofs.Store.AbortRows.{words-picked, update-words}
+use Rattle.model.proofs.Store.AbortRows.{update-words}
 use Rattle.model.proofs.Booleans.{true-false}
+use Rattle.model.proofs.Store.WordsFor.{words-for-picked}
 
 module _ {home : ℕ → ℕ} {puts : List Put} {c : Core} {w : World} {r : Reference} {F B : List Entry} (g : Serving 0 home puts c w r F B)
     (d : ℕ) (below : d < c .sizes .disks) where
@@ -155,7 +156,7 @@ module _ {home : ℕ → ℕ} {puts : List Put} {c : Core} {w : World} {r : Refe
 
   words-here : wordsFor t (F ++ B) ≡ wordsFor t (on d F ++ on d B)
   unfolding on
-  words-here = sym (words-picked t (onDisk d) (F ++ B) elsewhere) ∙ ap (wordsFor t) (on-append d F B)
+  words-here = sym (words-for-picked t (onDisk d) (F ++ B) elsewhere) ∙ ap (wordsFor t) (on-append d F B)
 
   reserved-true : reservedAt (c .table) (placeOf (c .table) t) ≡ 2 + updateWords (updatesIn t (logScan c w (diskOf c t)))
   unfolding d

@@ -22,9 +22,10 @@ use Rattle.model.proofs.Ledger.Entry.{Entry, All, sum}
 use Rattle.model.proofs.Ledger.Word.{ofTxn}
 use Rattle.model.proofs.Link.Abort.{sumUpdates}
 use Rattle.model.proofs.Store.View.{Kept, Serving}
-use Rattle.model.proofs.Store.Compensate.{Slotted, Compensated, compensated}
+use Rattle.model.proofs.Store.Compensate.{Compensated, compensated}
 use Rattle.model.proofs.Growth.{Small}
 use Rattle.model.proofs.Store.Steady.{kept-lost}
+use Rattle.model.proofs.Store.Compensation.{Slotted}
 
 -- the records of the compensations of some updates
 abbrev pub compensations : Core → World → ℕ → List Update → List Put
@@ -100,7 +101,17 @@ pub undone : {t : ℕ} {home : ℕ → ℕ} {puts : List Put} {c : Core} {w : Wo
 unfolding undoAll updateWords sumUpdates sum withLog diskOf
 undone {t} {puts = puts} {c = c} g opened has below small [] slotted room short = none-undone g small (diskOf c t)
 undone {t} {puts = puts} {c = c} {w = w} g opened has below small (u ∷ us) slotted room short =
-    let one = compensated g opened has below small u (slotted .0) (omega arith) (omega arith) in
+    let one =
+    compensated g u
+    (record {
+      opened = opened;
+      has = has;
+      below = below;
+      small = small;
+      slotted = slotted .0;
+      room = omega arith;
+      in-limit = omega arith;
+    }) in
     first-undone puts u us one
     (undone (one .serving) opened has below (one .small) us (slotted .1) (omega (arith, one .starts (diskOf c t), one .ends))
     (omega (arith, one .ends)))

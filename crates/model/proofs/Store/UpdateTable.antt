@@ -25,19 +25,21 @@ use Rattle.model.proofs.Run.{perform-lengths}
 use Rattle.model.proofs.WriteSets.{has-added, distinct-added}
 use Rattle.model.proofs.SetPlace.{put-disk, put-first, put-reserved, other-same}
 use Rattle.model.proofs.Places.{open-place, place-holds, places-apart, update-place, update-open, update-tabled}
-use Rattle.model.proofs.Ledger.Entry.{Entry, recordOf, some, closedIn}
+use Rattle.model.proofs.Ledger.Entry.{Entry, recordOf, some}
 use Rattle.model.proofs.Ledger.Order.{sizeOf, on, boundary}
 use Rattle.model.proofs.Ledger.Sums.{all-map}
 use Rattle.model.proofs.Ledger.Picks.{some-append}
 use Rattle.model.proofs.Ledger.Positions.{boundary-end}
-use Rattle.model.proofs.Link.Words.{Fit, log-end}
+use Rattle.model.proofs.Link.Words.{log-end}
 use Rattle.model.proofs.Link.Buffered.{InBuffer, owners-same}
 use Rattle.model.proofs.Store.View.{Sets, Owners, Serving, open-used}
-use Rattle.model.proofs.Store.Logged.{Written, told-more, boundary-logged, in-buffer, safe-written, epochs-written, Entered, accounts-logged}
+use Rattle.model.proofs.Store.Logged.{Written, in-buffer, safe-written, epochs-written, MayLog}
 use Rattle.model.proofs.Store.LogEnd.{boundary-to, capped, early}
 use Rattle.model.proofs.Store.UpdateRoom.{Allowed, updateEntry, slotChanged, noted, at-lt, update-size, update-fit, update-unclosed, good-updated}
 use Rattle.model.proofs.Store.UpdateOwners.{fits-added, owners-updated}
 use Rattle.model.proofs.Growth.{Small}
+use Rattle.model.proofs.Store.OneMore.{told-more, boundary-logged}
+use Rattle.model.proofs.Store.Entered.{Entered, accounts-logged}
 
 module _ {home : ℕ → ℕ} {puts : List Put} {c : Core} {w : World} {r : Reference} {F B : List Entry} (g : Serving 0 home puts c w r F B)
     (number page slot : ℕ) (value : List ℕ) (may : Allowed c w number page slot value) (small : Small (c .sizes) (c .logs))
@@ -138,16 +140,21 @@ module _ {home : ℕ → ℕ} {puts : List Put} {c : Core} {w : World} {r : Refe
       ap (firstAt t) (same-place n)
       ∙ other-same (c .table) place number d first reserve (placeOf (c .table) n) (apart n o ne) .first
 
-  here : e .disk ≡ home (e .number)
-  here = sym (g .accounts .homes number (may .opened))
+  loggable : MayLog home c F B e
+  loggable =
+      record {
+        below = may .disk;
+        here = sym (g .accounts .homes number (may .opened));
+        small = small;
+        room = room;
+        at-end = refl;
+        unclosed = update-unclosed g number page slot value may;
+        fit = update-fit g number page slot value may;
+        in-ring = in-ring;
+        in-limit = in-limit;
+      }
 
-  unclosed : closedIn (F ++ B) number ≡ false
-  unclosed = update-unclosed g number page slot value may
-
-  fit : Fit (c .sizes) e
-  fit = update-fit g number page slot value may
-
-  entered : Entered (g .safe) e (may .disk) here small room refl unclosed fit in-ring in-limit t
+  entered : Entered (g .safe) e loggable t
   entered =
       record {
         tabled = update-tabled (c .table) (g .accounts .tabled) place number d first reserve placed holds;
@@ -197,7 +204,7 @@ module _ {home : ℕ → ℕ} {puts : List Put} {c : Core} {w : World} {r : Refe
       }
 
   buffer : InBuffer (c .sizes) d w bufferedWorld
-  buffer = in-buffer (g .safe) e (may .disk) here small room refl unclosed fit in-ring in-limit
+  buffer = in-buffer (g .safe) e loggable
 
   long : length (bufferedWorld .work) ≡ workWords (c .sizes)
   long = perform-lengths _ w .work ∙ lengths-right (c .sizes) w (g .safe .devices .lengths) .work
@@ -229,12 +236,12 @@ module _ {home : ℕ → ℕ} {puts : List Put} {c : Core} {w : World} {r : Refe
       record {
         stage = g .stage;
         safe =
-            safe-written (g .safe) e (may .disk) here small room refl unclosed fit in-ring in-limit written 0 t (noted r number page slot value)
+            safe-written (g .safe) e loggable written 0 t (noted r number page slot value)
             (g .safe .sizes) (g .safe .shaped)
             (good-updated g number page slot value may bufferedWorld buffer long t same-open _);
-        accounts = accounts-logged (g .safe) e (may .disk) here small room refl unclosed fit in-ring in-limit (g .accounts) t entered (open-used (g .safe) number (may .opened) .1);
+        accounts = accounts-logged (g .safe) e loggable (g .accounts) t entered (open-used (g .safe) number (may .opened) .1);
         epochs =
-            epochs-written (g .safe) e (may .disk) here small room refl unclosed fit in-ring in-limit written (g .epochs)
+            epochs-written (g .safe) e loggable written (g .epochs)
             (λ i h. other-word i (omega arith)) (λ o. capped g e page (may .page-lt) refl) (λ h o. early g e page (may .page-lt) refl (may .disk) refl h) t;
         sets = sets-after;
         owners = owners-after;
