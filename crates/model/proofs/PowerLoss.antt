@@ -6,8 +6,6 @@ use Prim.Native.Nat.{ℕ}
 use lib.ListN.{length}
 use lib.Dec.{eqb}
 use borrow.Author.Tests.{eqb-true}
-use Rattle.model.specs.declared.Stage.{Stage}
-use Rattle.model.specs.declared.Stage.the-variants.{Shut, Replaying, Open, Copying}
 use Rattle.model.specs.declared.Sizes.{Sizes}
 use Rattle.model.specs.declared.Answer.{Answer}
 use Rattle.model.specs.declared.Answer.the-variants.{Finished, Refused, Interrupted}
@@ -18,14 +16,14 @@ use Rattle.model.specs.Reference.{Reference, taken, refused, outcomeOf, 
 use Rattle.model.specs.Machine.{Machine, Event, call, lent, scramble, result, outcome, isRefused, allowed, after, referred, Run, follow, allowedAll, formatted}
 use Rattle.model.specs.Promise.{Always, PowerLoss, RestartAccepted, Table, LogKept, StateTrue, NeverMalformed}
 use Rattle.model.specs.History.{Put, told, history}
-use Rattle.model.proofs.Ledger.Sums.{true-false}
+use Rattle.model.proofs.Booleans.{true-false}
 use Rattle.model.proofs.Restart.Taken.{taken-call}
 use Rattle.model.proofs.Restart.End.{end-gives}
 use Rattle.model.proofs.Store.Format.{format-serves}
 use Rattle.model.proofs.Store.Holding.{Holding, shut, serving}
 use Rattle.model.proofs.Store.Step.{step-call, holding-kept, served, stopped, replayed, row-one}
 use Rattle.model.proofs.Store.Steady.{kept-devices}
-use Rattle.model.proofs.Store.Checks.{restart-begin-answers, never-seven}
+use Rattle.model.proofs.Store.Checks.{shut-stage, restart-begin-answers, never-seven}
 use Rattle.model.proofs.Store.PlainTable.{plain}
 use Rattle.model.proofs.Store.Truth.{log-of, truth}
 use Rattle.model.proofs.Store.AbortRows.{abort-never-bad}
@@ -36,12 +34,6 @@ unfolding hear
 heard-refused k (Finished n v) r e = true-false e refl
 heard-refused k (Refused n x y) r e = refl
 heard-refused k (Interrupted n) r e = true-false e refl
-
-shut-stage : (s : Stage) → whenShut s ≡ true → s ≡ Shut
-shut-stage Shut e = refl
-shut-stage Replaying e = true-false e refl
-shut-stage Open e = true-false e refl
-shut-stage Copying e = true-false e refl
 
 -- every allowed event keeps what holds
 pub step-event : (e : Event) (puts : List Put) (m : Machine) (r : Reference) → Holding puts m r → allowed m e ≡ true

@@ -6,7 +6,6 @@ use Prim.Native.Nat.{ℕ}
 use Rattle.model.specs.Word.{_⊕_}
 use Rattle.model.proofs.Ledger.Entry.{sum, mask, All}
 use Rattle.model.proofs.Xor.{xor, ⊕-assoc, ⊕-zero-l}
-pub use Rattle.model.proofs.Booleans.{true-false}
 
 pub mask-zero : (b : Bool) → mask b 0 ≡ 0
 mask-zero true = refl

@@ -182,7 +182,7 @@ stage-first k c w allowed rows e none seven = go (stageForbids allowed c) refl
         let found = rw e at (seven-row k c w seven) in
         true≢false (sym found ∙ none (stage-row allowed c f .0))
 
-shut-stage : (s : Stage) → whenShut s ≡ true → s ≡ Shut
+pub shut-stage : (s : Stage) → whenShut s ≡ true → s ≡ Shut
 shut-stage Shut e = refl
 shut-stage Replaying e = absurd (true≢false (sym e))
 shut-stage Open e = absurd (true≢false (sym e))
