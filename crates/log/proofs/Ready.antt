@@ -1,0 +1,37 @@
+-- What the checks of a call give the readers: logs of the right length, tails within bounds.
+use Prim.Native.Nat.{ℕ, _+_, _^_, _≤_, _<_}
+use mathlib.Core.Path.{_≡_}
+use mathlib.Core.List.{List}
+use native.Mathlib.Omega.{arith}
+use lib.ListN.{length}
+use Rattle.model.specs.declared.Sizes.{Sizes}
+use Rattle.model.specs.Sizes.{diskAt, tailWord, logWords}
+use Rattle.model.specs.State.{limit}
+use Rattle.model.specs.World.{World}
+use Rattle.model.specs.Causes.{tailOn}
+use Rattle.model.proofs.Bounds.{Bounded}
+use Rattle.log.specs.Reading.{Readable, Checkable}
+use Rattle.log.proofs.Scanning.{disk-within}
+
+module _ (s : Sizes) (b : Bounded s) where
+  pub readable : (logs : List ℕ) (disk tail : ℕ) (buffer : List ℕ) (stop : ℕ) → length logs ≡ logWords s → disk < s .disks
+      → stop ≤ tail + length buffer → stop ≤ 2 ^ 63 → Readable s logs disk tail buffer stop
+  unfolding logWords diskAt
+  readable logs disk tail buffer stop right below le low =
+      record {
+        ring-pos = omega (arith, b .ring-min);
+        disk-fits = omega (arith, disk-within disk (s .disks) (s .ring) below);
+        stop-le = le;
+        stop-low = low;
+      }
+
+  pub checkable : (w : World) → length (w .logs) ≡ logWords s → ((d : ℕ) → d < s .disks → tailOn s w d ≤ limit)
+      → Checkable s (w .logs)
+  unfolding logWords diskAt tailWord tailOn
+  checkable w right tails =
+      record {
+        disks-le = b .disks-max;
+        ring-pos = omega (arith, b .ring-min);
+        logs-length = omega arith;
+        tails-low = λ d below. omega (arith, tails d below);
+      }

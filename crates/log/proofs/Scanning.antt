@@ -1,0 +1,210 @@
+-- A loop over a log, by what is decoded at its position: the answer from there is the answer from the next position.
+use Prim.Native.Nat.{ℕ, zero, suc, _+_, _-_, _*_, _≤_, _<_}
+use mathlib.Core.Path.{_≡_, refl, sym, ap, _∙_}
+use mathlib.Core.List.{List, [], _∷_, _++_}
+use mathlib.Core.Bool.{Bool, true, false, cond, _&&_}
+use native.Mathlib.Omega.{arith}
+use native.Mathlib.Nat.{mul-le-mul-right, add-mul, one-mul, zero-add}
+use native.Mathlib.Decide.{decLt}
+use lib.ListN.{getD}
+use lib.Dec.{eqb}
+use borrow.Author.Tests.{lt-ltb, le-ltb, eq-eqb, ne-eqb}
+use Rattle.model.specs.declared.Sizes.{Sizes}
+use Rattle.model.specs.declared.Decoded.{Decoded}
+use Rattle.model.specs.declared.Decoded.the-variants.{Change, Close, Malformed}
+use Rattle.model.specs.declared.Fate.the-variants.{Closed, Unclosed, Unreadable}
+use Rattle.model.specs.declared.Fault.{Fault}
+use Rattle.model.specs.declared.Fault.the-variants.{Sound, BadRecord}
+use Rattle.model.specs.Anchor.{startOn}
+use Rattle.model.specs.Record.{updateKind}
+use Rattle.model.specs.Decode.{span, decodeAt}
+use Rattle.model.specs.Scan.{Scan, scanned, scan, fateIn, faultIn, Update, updatesIn, updateWords}
+use Rattle.model.specs.World.{World}
+use Rattle.model.specs.Causes.{tailOn, retained, faultFrom}
+use Rattle.model.proofs.Decode.{ChangeAt, CloseAt, found-change, found-close}
+use Rattle.model.proofs.Restart.Gain.{length-span}
+use Rattle.model.proofs.Scan.{scan-end, scan-step, scan-change, scan-close, scan-bad}
+use Rattle.log.specs.declared.read.Newest.{Newest}
+use Rattle.log.specs.declared.read.Newest.the-variants.{At, Broken}
+use Rattle.log.specs.Reading.{scanDisk, faultsFrom, isUpdateOf, newerOf, newestIn}
+
+pub update-words-append : (us vs : List Update) → updateWords (us ++ vs) ≡ updateWords us + updateWords vs
+unfolding updateWords
+update-words-append [] vs = sym (zero-add (updateWords vs))
+update-words-append (u ∷ us) vs = omega (arith, update-words-append us vs)
+
+-- an update of the transaction takes the place of what was found before, no other record does
+module _ (t p : ℕ) (sofar : Newest) {r : Decoded} {kind page slot number epoch width next : ℕ} {b : Bool}
+    (e : r ≡ Change kind page slot number epoch width next) (is : b ≡ isUpdateOf t (Change kind page slot number epoch width next)) where
+  newer-change : cond b (At p page slot width) sofar ≡ newerOf t p r sofar
+  newer-change = rw (is, e)
+
+  pub newer-update : b ≡ true → At p page slot width ≡ newerOf t p r sofar
+  newer-update u = ap (λ (x : Bool). cond x (At p page slot width) sofar) (sym u) ∙ newer-change
+
+  pub newer-other : b ≡ false → sofar ≡ newerOf t p r sofar
+  newer-other u = ap (λ (x : Bool). cond x (At p page slot width) sofar) (sym u) ∙ newer-change
+
+module _ (s : Sizes) (read : ℕ → ℕ) (stop : ℕ) where
+  -- what is known of a record r that was decoded at p
+  module _ {p : ℕ} {r : Decoded} (is : r ≡ decodeAt s read stop p) where
+    pub got-change : {kind page slot number epoch width next : ℕ} → r ≡ Change kind page slot number epoch width next
+        → ChangeAt s stop p kind page slot number width next
+    got-change e = found-change s read stop (sym is ∙ e)
+
+    pub got-close : {kind number next : ℕ} → r ≡ Close kind number next → CloseAt stop p kind number next
+    got-close e = found-close s read stop (sym is ∙ e)
+
+  -- the search ahead
+  pub fate-end : (t p : ℕ) → stop ≤ p → Unclosed ≡ fateIn t (scan s read stop p)
+  unfolding fateIn
+  fate-end t p h = sym (ap (fateIn t) (scan-end s read stop p h))
+
+  module _ {p : ℕ} {r : Decoded} (is : r ≡ decodeAt s read stop p) (h : p < stop) (t : ℕ) where
+    pub fate-change : {kind page slot number epoch width next : ℕ} → r ≡ Change kind page slot number epoch width next
+        → fateIn t (scan s read stop next) ≡ fateIn t (scan s read stop p)
+    unfolding fateIn
+    fate-change e = sym (ap (fateIn t) (scan-change s read stop h (sym is ∙ e)))
+
+    pub fate-other : {kind number next : ℕ} → r ≡ Close kind number next → (number ≡ t → ⊥)
+        → fateIn t (scan s read stop next) ≡ fateIn t (scan s read stop p)
+    unfolding fateIn
+    fate-other {number} e ne = sym (ap (fateIn t) (scan-close s read stop h (sym is ∙ e)) ∙ simp (ne-eqb number t ne))
+
+    pub fate-close : {kind number next : ℕ} → r ≡ Close kind number next → number ≡ t
+        → Closed ≡ fateIn t (scan s read stop p)
+    unfolding fateIn
+    fate-close {number} e eq = sym (ap (fateIn t) (scan-close s read stop h (sym is ∙ e)) ∙ simp (eq-eqb number t eq))
+
+    pub fate-bad : r ≡ Malformed → Unreadable p ≡ fateIn t (scan s read stop p)
+    unfolding fateIn
+    fate-bad e = sym (ap (fateIn t) (scan-bad s read stop h (sym is ∙ e)))
+
+  -- the check of a disk
+  pub fault-end : (disk p : ℕ) (rest : Fault) → stop ≤ p → faultIn disk (scan s read stop p) rest ≡ rest
+  unfolding faultIn
+  fault-end disk p rest h = ap (λ (x : Scan). faultIn disk x rest) (scan-end s read stop p h)
+
+  module _ {p : ℕ} {r : Decoded} (is : r ≡ decodeAt s read stop p) (h : p < stop) (disk : ℕ) (rest : Fault) where
+    pub fault-change : {kind page slot number epoch width next : ℕ} → r ≡ Change kind page slot number epoch width next
+        → faultIn disk (scan s read stop next) rest ≡ faultIn disk (scan s read stop p) rest
+    unfolding faultIn
+    fault-change e = sym (ap (λ (x : Scan). faultIn disk x rest) (scan-change s read stop h (sym is ∙ e)))
+
+    pub fault-close : {kind number next : ℕ} → r ≡ Close kind number next
+        → faultIn disk (scan s read stop next) rest ≡ faultIn disk (scan s read stop p) rest
+    unfolding faultIn
+    fault-close e = sym (ap (λ (x : Scan). faultIn disk x rest) (scan-close s read stop h (sym is ∙ e)))
+
+    pub fault-bad : r ≡ Malformed → BadRecord disk p ≡ faultIn disk (scan s read stop p) rest
+    unfolding faultIn
+    fault-bad e = sym (ap (λ (x : Scan). faultIn disk x rest) (scan-bad s read stop h (sym is ∙ e)))
+
+  -- the newest update below a bound
+  newest-cut : (t bound p : ℕ) (sofar : Newest) (d : Decoded) (f : ℕ → Scan) → bound ≤ p
+      → newestIn t bound sofar (scanned read p d f) ≡ sofar
+  unfolding newestIn
+  newest-cut t bound p sofar (Change kind page slot number epoch width next) f l = simp (le-ltb p bound l)
+  newest-cut t bound p sofar (Close kind number next) f l = simp (le-ltb p bound l)
+  newest-cut t bound p sofar Malformed f l = simp (le-ltb p bound l)
+
+  pub newest-end : (t bound p : ℕ) (sofar : Newest) → bound ≤ p → newestIn t bound sofar (scan s read stop p) ≡ sofar
+  unfolding newestIn
+  newest-end t bound p sofar l = go (decLt p stop)
+    where
+      go : Dec (p < stop) → newestIn t bound sofar (scan s read stop p) ≡ sofar
+      go (yes h) =
+          ap (newestIn t bound sofar) (scan-step s read stop p h) ∙ newest-cut t bound p sofar (decodeAt s read stop p) (scan s read stop) l
+      go (no h) = ap (newestIn t bound sofar) (scan-end s read stop p (omega arith))
+
+  module _ {p : ℕ} {r : Decoded} (is : r ≡ decodeAt s read stop p) (h : p < stop) (t bound : ℕ) (l : p < bound) (sofar : Newest) where
+    pub newest-change : {kind page slot number epoch width next : ℕ} {found : Newest}
+        → r ≡ Change kind page slot number epoch width next
+        → found ≡ newerOf t p (Change kind page slot number epoch width next) sofar
+        → newestIn t bound found (scan s read stop next) ≡ newestIn t bound sofar (scan s read stop p)
+    unfolding newestIn
+    newest-change {width} e f =
+        rw f
+        (sym (ap (newestIn t bound sofar) (scan-change s read stop h (sym is ∙ e))
+        ∙ simp (lt-ltb p bound l, length-span read (p + 3) width)))
+
+    pub newest-close : {kind number next : ℕ} → r ≡ Close kind number next
+        → newestIn t bound sofar (scan s read stop next) ≡ newestIn t bound sofar (scan s read stop p)
+    unfolding newestIn
+    newest-close e = sym (ap (newestIn t bound sofar) (scan-close s read stop h (sym is ∙ e)) ∙ simp (lt-ltb p bound l))
+
+    pub newest-bad : r ≡ Malformed → Broken p ≡ newestIn t bound sofar (scan s read stop p)
+    unfolding newestIn
+    newest-bad e = sym (ap (newestIn t bound sofar) (scan-bad s read stop h (sym is ∙ e)) ∙ simp (lt-ltb p bound l))
+
+  -- the words of a transaction's updates: n of them counted before p
+  pub words-end : {n sum : ℕ} (t p : ℕ) → stop ≤ p → n + updateWords (updatesIn t (scan s read stop p)) ≡ sum → n ≡ sum
+  unfolding updatesIn updateWords
+  words-end t p h e = omega (arith, ap (λ (x : Scan). updateWords (updatesIn t x)) (scan-end s read stop p h))
+
+  module _ {p : ℕ} {r : Decoded} (is : r ≡ decodeAt s read stop p) (h : p < stop) (t : ℕ) where
+    words-change : {kind page slot number epoch width next : ℕ} → r ≡ Change kind page slot number epoch width next
+        → updateWords (updatesIn t (scan s read stop p))
+        ≡ updateWords (updatesIn t (scan s read stop next)) + cond (isUpdateOf t (Change kind page slot number epoch width next)) (next - p) 0
+    unfolding updatesIn updateWords
+    words-change {kind} {page} {slot} {number} {width} {next} e =
+        ap (λ (x : Scan). updateWords (updatesIn t x)) (scan-change s read stop h (sym is ∙ e))
+        ∙ update-words-append (updatesIn t (scan s read stop next)) _
+        ∙ ap (λ (n : ℕ). updateWords (updatesIn t (scan s read stop next)) + n) (go (eqb kind updateKind && eqb number t))
+      where
+        u : Update
+        u = record { position = p; page = page; slot = slot; diff = span read (p + 3) width }
+
+        go : (b : Bool) → updateWords (cond b (u ∷ []) []) ≡ cond b (next - p) 0
+        go true = let f = got-change is e in omega (arith, length-span read (p + 3) width)
+        go false = refl
+
+    pub words-update : {kind page slot number epoch width next : ℕ} {b : Bool}
+        → r ≡ Change kind page slot number epoch width next → b ≡ isUpdateOf t (Change kind page slot number epoch width next) → b ≡ true
+        → updateWords (updatesIn t (scan s read stop p)) ≡ updateWords (updatesIn t (scan s read stop next)) + (next - p)
+    words-update e u v = words-change e ∙ rw (sym u ∙ v)
+
+    pub words-other : {kind page slot number epoch width next : ℕ} {b : Bool}
+        → r ≡ Change kind page slot number epoch width next → b ≡ isUpdateOf t (Change kind page slot number epoch width next) → b ≡ false
+        → updateWords (updatesIn t (scan s read stop p)) ≡ updateWords (updatesIn t (scan s read stop next)) + 0
+    words-other e u v = words-change e ∙ rw (sym u ∙ v)
+
+    pub words-close : {kind number next : ℕ} → r ≡ Close kind number next
+        → updateWords (updatesIn t (scan s read stop p)) ≡ updateWords (updatesIn t (scan s read stop next))
+    unfolding updatesIn updateWords
+    words-close e = ap (λ (x : Scan). updateWords (updatesIn t x)) (scan-close s read stop h (sym is ∙ e))
+
+    pub words-bad : {n sum : ℕ} → r ≡ Malformed → n + updateWords (updatesIn t (scan s read stop p)) ≡ sum → n ≡ sum
+    unfolding updatesIn updateWords
+    words-bad e u = omega (arith, ap (λ (x : Scan). updateWords (updatesIn t x)) (scan-bad s read stop h (sym is ∙ e)))
+
+-- disk d lies within the logs of all disks
+pub disk-within : (d disks ring : ℕ) → d < disks → d * (ring + 1) + (ring + 1) ≤ disks * (ring + 1)
+disk-within d disks ring h =
+    let e : (d + 1) * (ring + 1) ≤ disks * (ring + 1) = mul-le-mul-right (ring + 1) (omega arith) in
+    rw (add-mul, one-mul) at e
+
+-- the check of all disks, a disk at a time
+module _ (s : Sizes) (logs starts : List ℕ) where
+  pub faults-step : (disks d : ℕ) → d < disks
+      → faultsFrom s logs starts (disks - d) d
+      ≡ faultIn d (scanDisk s logs d (getD starts d 0)) (faultsFrom s logs starts (disks - (d + 1)) (d + 1))
+  unfolding faultsFrom
+  faults-step disks d h =
+      let e : disks - d ≡ suc (disks - (d + 1)) = omega arith in
+      ap (λ (n : ℕ). faultsFrom s logs starts n d) e
+
+  pub faults-done : (disks d : ℕ) → disks ≤ d → faultsFrom s logs starts (disks - d) d ≡ Sound
+  unfolding faultsFrom
+  faults-done disks d h =
+      let e : disks - d ≡ 0 = omega arith in
+      ap (λ (n : ℕ). faultsFrom s logs starts n d) e
+
+-- with the current row's starts it is what restart begin checks
+pub faults-from : (s : Sizes) (w : World) (starts : List ℕ) (n d : ℕ)
+    → ((e : ℕ) → d ≤ e → e < d + n → getD starts e 0 ≡ startOn (w .anchor) e)
+    → faultsFrom s (w .logs) starts n d ≡ faultFrom s w n d
+unfolding faultsFrom faultFrom retained tailOn
+faults-from s w starts zero d same = refl
+faults-from s w starts (suc n) d same =
+    rw (same d (omega arith) (omega arith), faults-from s w starts n (d + 1) (λ e l m. same e (omega arith) (omega arith)))

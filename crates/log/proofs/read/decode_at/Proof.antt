@@ -1,0 +1,113 @@
+-- `log::read::decode_at` meets its contract: each answer is the definition's, by the tests that led to it.
+use Prim.Native.Nat.{_%_, _/_}
+use mathlib.Core.Path.{refl, _∙_}
+use native.Mathlib.Omega.{arith}
+use borrow.Author.Needs.{needs}
+use Rattle.model.specs.Decode.{decodeAt}
+use Rattle.model.proofs.Decode.{words-change, words-ge}
+use Rattle.log.proofs.Decoding.{words-le, decode-kind, decode-past, decode-zero, decode-is-change, decode-is-close}
+use Rattle.log.proofs.read.decode_at.Statement.{statement}
+use Rattle.log.proofs.read.decode_at.Tie as tie
+
+read-word-requires : tie.Need-read-word-requires
+read-word-requires c κs = search needs
+
+returns : tie.Need-returns
+unfolding decodeAt
+returns c =
+    let s = c .before .before .before .before .args .sizes in
+    rw (← c .before .read-word .ensures s refl) (decode-kind s _ _ _ _ _ _ refl (c .if1 .taken))
+
+words-of-requires : tie.Need-words-of-requires
+words-of-requires c κs = search needs
+
+add-next : tie.Need-add-next
+add-next c = omega (arith, words-le (c .before .before .read-word .result % 8) (c .before .before .read-word .result / 65536))
+
+returns-2 : tie.Need-returns-2
+unfolding decodeAt
+returns-2 c =
+    let known = c .before .before in
+    let first = known .before in
+    let s = first .before .before .before .args .sizes in
+    rw (← first .read-word .ensures s refl)
+    (decode-past s _ _ _ _ _ _ (c .before .words-of .ensures) (known .if1 .left) (c .if2 .taken))
+
+add-read-word : tie.Need-add-read-word
+add-read-word c = search needs
+
+read-word-requires-2 : tie.Need-read-word-requires-2
+read-word-requires-2 c κs = omega (arith, words-ge (c .before .before .before .read-word .result % 8) (c .before .before .before .read-word .result / 65536))
+
+returns-3 : tie.Need-returns-3
+unfolding decodeAt
+returns-3 c =
+    let second = c .before in
+    let whole = second .before in
+    let known = whole .before .before in
+    let first = known .before in
+    let s = first .before .before .before .args .sizes in
+    rw (← first .read-word .ensures s refl, ← second .read-word2 .ensures s refl)
+    (decode-zero s _ _ _ _ _ _ (whole .before .words-of .ensures) (known .if1 .left) (whole .if2 .left) (c .if3 .taken))
+
+add-read-word-2 : tie.Need-add-read-word-2
+add-read-word-2 c = search needs
+
+read-word-requires-3 : tie.Need-read-word-requires-3
+read-word-requires-3 c κs =
+    let first = c .before .before .before .before .before .before in
+    omega (arith, words-change (first .read-word .result % 8) (first .read-word .result / 65536) (c .if4 .taken))
+
+decode-change-requires : tie.Need-decode-change-requires
+decode-change-requires c κs = search needs
+
+returns-4 : tie.Need-returns-4
+unfolding decodeAt
+returns-4 c =
+    let third = c .before in
+    let numbered = third .before .before in
+    let second = numbered .before in
+    let whole = second .before in
+    let known = whole .before .before in
+    let first = known .before in
+    let s = first .before .before .before .args .sizes in
+    rw (← first .read-word .ensures s refl, ← second .read-word2 .ensures s refl, ← third .read-word3 .ensures s refl)
+    (c .decode-change .ensures
+    ∙ decode-is-change s _ _ _ _ _ _ (whole .before .words-of .ensures) (known .if1 .left) (whole .if2 .left)
+    (numbered .if3 .left) (third .before .if4 .taken))
+
+decode-close-requires : tie.Need-decode-close-requires
+decode-close-requires c κs = search needs
+
+returns-5 : tie.Need-returns-5
+unfolding decodeAt
+returns-5 c =
+    let numbered = c .before .before in
+    let second = numbered .before in
+    let whole = second .before in
+    let known = whole .before .before in
+    let first = known .before in
+    let s = first .before .before .before .args .sizes in
+    rw (← first .read-word .ensures s refl, ← second .read-word2 .ensures s refl)
+    (c .decode-close .ensures
+    ∙ decode-is-close s _ _ _ _ _ _ (whole .before .words-of .ensures) (known .if1 .left) (whole .if2 .left)
+    (numbered .if3 .left) (c .before .if4 .left))
+
+pub decode-at-spec : {M : Type 1} → statement M
+decode-at-spec =
+    tie.close
+    (tie.spec
+    read-word-requires
+    returns
+    words-of-requires
+    add-next
+    returns-2
+    add-read-word
+    read-word-requires-2
+    returns-3
+    add-read-word-2
+    read-word-requires-3
+    decode-change-requires
+    returns-4
+    decode-close-requires
+    returns-5)

@@ -1,0 +1,43 @@
+-- `log::read::is_misplaced` meets its contract: its tests are the definition's, in their order.
+use borrow.Author.Needs.{needs}
+use borrow.Author.Tests.{le-leb, lt-leb}
+use Rattle.model.specs.Sizes.{slotsIn, widthIn}
+use Rattle.model.specs.Decode.{misplaced}
+use Rattle.log.proofs.read.is_misplaced.Statement.{statement}
+use Rattle.log.proofs.read.is_misplaced.Tie as tie
+
+returns : tie.Need-returns
+unfolding misplaced
+returns c = simp (le-leb _ _ (c .if1 .taken))
+
+element-copy-out-slots : tie.Need-element-copy-out-slots
+element-copy-out-slots c = search needs
+
+cast-slots : tie.Need-cast-slots
+cast-slots c = search needs
+
+returns-2 : tie.Need-returns-2
+unfolding misplaced slotsIn
+returns-2 c = simp (lt-leb _ _ (c .before .before .if1 .left), le-leb _ _ (c .if2 .taken))
+
+element-copy-out-width : tie.Need-element-copy-out-width
+element-copy-out-width c = search needs
+
+cast-width : tie.Need-cast-width
+cast-width c = search needs
+
+returns-3 : tie.Need-returns-3
+unfolding misplaced slotsIn widthIn
+returns-3 c = simp (lt-leb _ _ (c .before .before .before .if1 .left), lt-leb _ _ (c .before .if2 .left))
+
+pub is-misplaced-spec : {M : Type 1} → statement M
+is-misplaced-spec =
+    tie.close
+    (tie.spec
+    returns
+    element-copy-out-slots
+    cast-slots
+    returns-2
+    element-copy-out-width
+    cast-width
+    returns-3)

@@ -1,0 +1,84 @@
+-- What the readers of a log need, and what they give beyond model's definitions.
+use Prim.Native.Nat.{ℕ, zero, suc, _+_, _*_, _/_, _^_, _≤_, _<_}
+use mathlib.Core.List.{List, [], _∷_}
+use mathlib.Core.Bool.{Bool, false, cond, _&&_}
+use lib.ListN.{length, getD}
+use lib.Dec.{ltb, eqb}
+use Rattle.model.specs.declared.Sizes.{Sizes}
+use Rattle.model.specs.declared.Decoded.{Decoded}
+use Rattle.model.specs.declared.Decoded.the-variants.{Change, Close, Malformed}
+use Rattle.model.specs.declared.Fault.{Fault}
+use Rattle.model.specs.declared.Fault.the-variants.{Sound}
+use Rattle.model.specs.Sizes.{tailWord}
+use Rattle.model.specs.Record.{change, close, updateKind}
+use Rattle.model.specs.Decode.{readLog, kindField, pageField, slotField, widthField, misplaced}
+use Rattle.model.specs.Scan.{Scan, end, bad, item, scan, faultIn, Update}
+use Rattle.log.specs.declared.read.Newest.{Newest}
+use Rattle.log.specs.declared.read.Newest.the-variants.{At, Absent, Broken}
+
+-- a change by its first three words, a closing record by its two: what decodeWords makes of a known kind
+abbrev pub decodedChange : Sizes → ℕ → ℕ → ℕ → ℕ → Decoded
+decodedChange s w number epoch next =
+    cond (misplaced s w) Malformed
+    (Change (kindField w) (pageField w) (slotField w) number epoch (widthField w) next)
+
+abbrev pub decodedClose : ℕ → ℕ → ℕ → Decoded
+decodedClose w number next = cond (eqb (w / 8) 0) (Close (kindField w) number next) Malformed
+
+-- A log that can be read up to `stop`: its disk lies within the logs, and every position has a word in the ring or the buffer.
+pub record Readable (s : Sizes) (logs : List ℕ) (disk tail : ℕ) (buffer : List ℕ) (stop : ℕ) : Type 0 where
+  pub ring-pos : 1 ≤ s .ring
+  pub disk-fits : disk * (s .ring + 1) + (s .ring + 1) ≤ length logs
+  pub stop-le : stop ≤ tail + length buffer
+  pub stop-low : stop ≤ 2 ^ 63
+
+-- What the checks before No. 7 leave of the sizes, the logs' length and the tails.
+pub record Checkable (s : Sizes) (logs : List ℕ) : Type 0 where
+  pub disks-le : s .disks ≤ 8
+  pub ring-pos : 1 ≤ s .ring
+  pub logs-length : s .disks * (s .ring + 1) ≤ length logs
+  pub tails-low : (d : ℕ) → d < s .disks → getD logs (d * (s .ring + 1)) 0 ≤ 2 ^ 63
+
+-- a disk's log on the device, from a position up to its tail
+abbrev pub scanDisk : Sizes → List ℕ → ℕ → ℕ → Scan
+scanDisk s logs disk p = scan s (readLog s logs disk (getD logs (tailWord s disk) 0) []) (getD logs (tailWord s disk) 0) p
+
+-- of n disks from `disk` on, each from its start: "lowest disk, first position there"
+unfoldable pub faultsFrom : Sizes → List ℕ → List ℕ → ℕ → ℕ → Fault
+faultsFrom s logs starts zero disk = Sound
+faultsFrom s logs starts (suc n) disk =
+    faultIn disk (scanDisk s logs disk (getD starts disk 0)) (faultsFrom s logs starts n (disk + 1))
+
+-- is it an update record of the transaction
+abbrev pub isUpdateOf : ℕ → Decoded → Bool
+isUpdateOf number (Change kind page slot n epoch width next) = eqb kind updateKind && eqb n number
+isUpdateOf number (Close kind n next) = false
+isUpdateOf number Malformed = false
+
+-- the update decoded at p if it is one of the transaction, and else what was found before it
+abbrev pub newerOf : ℕ → ℕ → Decoded → Newest → Newest
+newerOf number p (Change kind page slot n epoch width next) sofar =
+    cond (eqb kind updateKind && eqb n number) (At p page slot width) sofar
+newerOf number p (Close kind n next) sofar = sofar
+newerOf number p Malformed sofar = sofar
+
+-- the newest update of a transaction before a bound, and `sofar` where there is none
+unfoldable pub newestIn : ℕ → ℕ → Newest → Scan → Newest
+newestIn number bound sofar end = sofar
+newestIn number bound sofar (bad p) = cond (ltb p bound) (Broken p) sofar
+newestIn number bound sofar (item p (close kind n) rest) = cond (ltb p bound) (newestIn number bound sofar rest) sofar
+newestIn number bound sofar (item p (change kind page slot n epoch diff) rest) =
+    cond (ltb p bound)
+    (newestIn number bound (cond (eqb kind updateKind && eqb n number) (At p page slot (length diff)) sofar) rest)
+    sofar
+
+-- of a transaction's updates, newest first: the head of those below a bound, and `other` where there is none
+unfoldable pub newestBelow : ℕ → Newest → List Update → Newest
+newestBelow bound other [] = other
+newestBelow bound other (u ∷ us) =
+    cond (ltb (u .position) bound) (At (u .position) (u .page) (u .slot) (length (u .diff))) (newestBelow bound other us)
+
+-- the newest of a transaction's updates, newest first
+unfoldable pub newestOf : List Update → Newest
+newestOf [] = Absent
+newestOf (u ∷ us) = At (u .position) (u .page) (u .slot) (length (u .diff))
