@@ -1,0 +1,97 @@
+-- Laws that the proofs of this crate share: products, the bounds on the sizes, and an array that is filled word by word.
+use mathlib.Core.Path.{_≡_, refl, sym, _∙_}
+use mathlib.Core.Bool.{Bool, true, false, true≢false, and-eq-true-iff, _&&_}
+use mathlib.Core.List.{List}
+use Prim.Native.Nat.{ℕ, _+_, _*_, _≤_, _<_}
+use native.Mathlib.Omega.{arith}
+use native.Mathlib.Numerals.{add-one}
+use native.Mathlib.Nat.{le-trans, mul-le-mul-left, mul-le-mul-right}
+use lib.Dec.{leb, ltb, eqb}
+use lib.ListN.{length, getD, set, take}
+use lib.Seq.{take-suc, take-suc-set, take-all}
+use borrow.Author.Tests.{eq-eqb, leb-true, ltb-true, ltb-false}
+use Rattle.model.specs.declared.Sizes.{Sizes}
+use Rattle.model.specs.Word.{part}
+use Rattle.model.specs.Below.{within, allBelow}
+use Rattle.model.specs.Sizes.{slotsIn, widthIn, pageWords, usedEntry, unusedEntry, entryInBounds, sizesInBounds}
+use Rattle.model.proofs.Below.{all-each}
+use Rattle.model.proofs.Bounds.{bounded}
+use Rattle.model.proofs.Parts.{length-part, getD-part}
+
+pub product-max : (a b m n : ℕ) → a ≤ m → b ≤ n → a * b ≤ m * n
+product-max a b m n h k = le-trans (mul-le-mul-left a k) (mul-le-mul-right n h)
+
+pub within-max : (low high n : ℕ) → within low high n ≡ true → n ≤ high
+unfolding within
+within-max low high n e = leb-true n high (and-eq-true-iff (leb low n) (leb n high) .0 e .1)
+
+-- An array that is filled from another list: the first i words are done, then one more.
+pub fill-more : (out source : List ℕ) (i v : ℕ) → i < length out → i < length source → v ≡ getD source i 0
+    → take i out ≡ take i source → take (i + 1) (set out i v) ≡ take (i + 1) source
+fill-more out source i v h k e done =
+    rw (add-one, take-suc-set out i v h, take-suc source i 0 k, done, e)
+
+pub read-more : (out anchor : List ℕ) (at n i : ℕ) → at + n ≤ length anchor → i < n → length out ≡ n
+    → take i out ≡ take i (part at n anchor) → take (i + 1) (set out i (getD anchor (at + i) 0)) ≡ take (i + 1) (part at n anchor)
+read-more out anchor at n i fits h long done =
+    fill-more out (part at n anchor) i (getD anchor (at + i) 0) (omega arith) (omega (arith, length-part at n anchor fits))
+    (sym (getD-part at n anchor i h)) done
+
+pub fill-end : (out source : List ℕ) (n i : ℕ) → i ≡ n → length out ≡ n → length source ≡ n → take i out ≡ take i source → out ≡ source
+fill-end out source n i last h k done = sym (take-all i out (omega arith)) ∙ done ∙ take-all i source (omega arith)
+
+-- The bounds on the entries speak of the pages and the two arrays alone.
+abbrev pub entriesOf : ℕ → List ℕ → List ℕ → Sizes
+entriesOf pages slots widths = record { pages = pages; disks = 0; ring = 0; slots = slots; widths = widths }
+
+abbrev pub countsInBounds : ℕ → ℕ → ℕ → Bool
+countsInBounds pages disks ring = within 1 64 pages && within 1 8 disks && within 128 65536 ring
+
+and-false : (a b : Bool) → b ≡ false → a && b ≡ false
+and-false true b e = e
+and-false false b e = refl
+
+pub all-more : (f : ℕ → Bool) (n : ℕ) → allBelow f n ≡ true → f n ≡ true → allBelow f (n + 1) ≡ true
+unfolding allBelow
+all-more f n e h = rw (add-one, e) h
+
+pub all-none : (f : ℕ → Bool) → allBelow f 0 ≡ true
+unfolding allBelow
+all-none f = refl
+
+all-fails : (f : ℕ → Bool) (n i : ℕ) → i < n → f i ≡ false → allBelow f n ≡ false
+all-fails f n i h e = go (allBelow f n) refl
+  where
+    go : (b : Bool) → allBelow f n ≡ b → b ≡ false
+    go true all = absurd (true≢false (sym (all-each f n all i h) ∙ e))
+    go false all = refl
+
+module _ (s : Sizes) where
+  pub counts-out : countsInBounds (s .pages) (s .disks) (s .ring) ≡ false → false ≡ sizesInBounds s
+  unfolding sizesInBounds
+  counts-out e = rw e
+
+  pub entry-out : (i : ℕ) → i < 64 → entryInBounds (entriesOf (s .pages) (s .slots) (s .widths)) i ≡ false → false ≡ sizesInBounds s
+  unfolding sizesInBounds entryInBounds usedEntry unusedEntry pageWords slotsIn widthIn
+  entry-out i h e =
+      let front : Bool =
+      countsInBounds (s .pages) (s .disks) (s .ring) && eqb (length (s .slots)) 64 && eqb (length (s .widths)) 64 in
+      sym (and-false front (allBelow (entryInBounds s) 64) (all-fails (entryInBounds s) 64 i h e))
+
+  pub all-in : countsInBounds (s .pages) (s .disks) (s .ring) ≡ true → length (s .slots) ≡ 64 → length (s .widths) ≡ 64
+      → allBelow (entryInBounds (entriesOf (s .pages) (s .slots) (s .widths))) 64 ≡ true → true ≡ sizesInBounds s
+  unfolding sizesInBounds entryInBounds usedEntry unusedEntry pageWords slotsIn widthIn
+  all-in counts slots widths e = sym (rw (counts, eq-eqb _ _ slots, eq-eqb _ _ widths) e)
+
+-- an entry in bounds is a byte, used or not
+pub entry-bytes : (s : Sizes) → sizesInBounds s ≡ true → (i : ℕ) → i < 64 → (getD (s .slots) i 0 < 256) × (getD (s .widths) i 0 < 256)
+unfolding slotsIn widthIn
+entry-bytes s e i h = go (ltb i (s .pages)) refl
+  where
+    go : (used : Bool) → ltb i (s .pages) ≡ used → (getD (s .slots) i 0 < 256) × (getD (s .widths) i 0 < 256)
+    go true p =
+        let b = bounded s e .used i (ltb-true i (s .pages) p) in
+        (omega (arith, b .slots-max), omega (arith, b .width-max))
+    go false p =
+        let b = bounded s e .unused i (ltb-false i (s .pages) p) h in
+        (omega (arith, b .0), omega (arith, b .1))

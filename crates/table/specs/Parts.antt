@@ -1,0 +1,54 @@
+-- A function is lent the parts of a state that it reads. These are states with those parts, so that its contract can cite model's definitions.
+use Prim.Native.Nat.{ℕ, _+_, _-_, _^_}
+use mathlib.Core.List.{List, []}
+use mathlib.Core.Bool.{Bool, not, _&&_, _||_}
+use lib.ListN.{getD}
+use lib.Dec.{leb, ltb, eqb}
+use Rattle.model.specs.declared.Stage.the-variants.{Open}
+use Rattle.model.specs.declared.Logs.{Logs}
+use Rattle.model.specs.declared.Table.{Table}
+use Rattle.model.specs.declared.Core.{Core}
+use Rattle.model.specs.Below.{within}
+use Rattle.model.specs.State.{limit, noCheckpoint, noReplay, startOf, endOf}
+
+abbrev pub logsOf : List ℕ → List ℕ → List ℕ → Logs
+logsOf starts tails fills = record { starts = starts; tails = tails; fills = fills }
+
+-- the first positions do not count for what is reserved
+abbrev pub tableOf : List ℕ → List ℕ → List ℕ → Table
+tableOf numbers disks reserved = record { numbers = numbers; disks = disks; firsts = []; reserved = reserved }
+
+abbrev pub coreOf : ℕ → ℕ → Logs → Table → Core
+coreOf disks ring logs table =
+    record {
+      stage = Open;
+      sizes = record { pages = 0; disks = disks; ring = ring; slots = []; widths = [] };
+      epoch = 0;
+      logs = logs;
+      table = table;
+      next = 0;
+      checkpoint = noCheckpoint;
+      replay = noReplay;
+    }
+
+-- where a sum of reserved words stops: it is above the limit, so that nothing more fits
+abbrev pub cap : ℕ
+cap = 2 ^ 63
+
+-- the room rule of the numbers of one disk
+unfoldable pub roomFor : ℕ → ℕ → ℕ → ℕ → ℕ → Bool
+roomFor start end reserved ring need = leb (end - start + reserved + need) ring && leb (end + reserved + need) limit
+
+-- the test of one entry of the table
+unfoldable pub entrySound : ℕ → Logs → ℕ → ℕ → ℕ → ℕ → Bool
+entrySound disks logs number disk first reserved =
+    eqb number 0
+    || ltb disk disks && leb 2 reserved && (not (ltb 2 reserved) || within (startOf logs disk) (endOf logs disk) first)
+
+-- a remembered end lies in its disk's log
+unfoldable pub endWithin : Logs → List ℕ → ℕ → Bool
+endWithin logs ends d = within (startOf logs d) (endOf logs d) (getD ends d 0)
+
+-- the next position to replay is at or below its disk's tail
+unfoldable pub positionWithin : List ℕ → List ℕ → ℕ → Bool
+positionWithin tails positions d = leb (getD tails d 0) limit && leb (getD positions d 0) (getD tails d 0)
