@@ -1,6 +1,14 @@
--- Laws of the definitions in the form in which the code meets them.
+-- Reading: laws of the definitions in the form in which the code meets them.
 pub mod Decoding
 pub mod Scanning
 pub mod Newest
 pub mod Kept
 pub mod Ready
+-- Writing: runs of words set in a list, and runs of words stored in a ring.
+pub mod Words
+pub mod Stores
+-- Lists of actions one after the other under one budget; appends.
+pub mod Ran
+pub mod Append
+-- For callers: the next call's premises; and the premises can be met.
+pub mod Next

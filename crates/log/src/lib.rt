@@ -1,2 +1,3 @@
 // A disk's log on slices and numbers, without state: its ring in the logs of all disks, then its buffer.
 pub mod read;
+pub mod write;

@@ -1,0 +1,60 @@
+-- Words set in a list one after the other, and the words of a record.
+use mathlib.Core.Path.{_≡_, refl, sym, ap, _∙_}
+use mathlib.Core.List.{List, [], _∷_, _++_, append-assoc}
+use Prim.Native.Nat.{ℕ, suc, _+_, _≤_, _<_}
+use native.Mathlib.Omega.{arith}
+use native.Mathlib.Nat.{add-zero}
+use native.Mathlib.Numerals.{add-one}
+use lib.ListN.{length, take, drop, set, getD}
+use lib.Seq.{take-suc, length-take-le, take-append-add, take-at, drop-at, sets, sets-eq}
+use Rattle.model.specs.Word.{part}
+use Rattle.model.specs.Record.{change, close, header, encode}
+use Rattle.model.proofs.Parts.{length-part}
+use Rattle.log.specs.declared.write.Head.{Head}
+use Rattle.log.specs.Write.{changeOf}
+
+sets-last : (l : List ℕ) (i : ℕ) (vs : List ℕ) (v : ℕ) → sets l i (vs ++ v ∷ []) ≡ set (sets l i vs) (i + length vs) v
+sets-last l i [] v = rw add-zero
+sets-last l i (x ∷ vs) v =
+    let e : suc i + length vs ≡ i + suc (length vs) = omega arith in
+    sets-last (set l i x) (suc i) vs v ∙ ap (λ (n : ℕ). set (sets (set l i x) (suc i) vs) n v) e
+
+-- one word more
+pub sets-more : (l : List ℕ) (at : ℕ) (words : List ℕ) (i : ℕ) → i < length words
+    → set (sets l at (take i words)) (at + i) (getD words i 0) ≡ sets l at (take (i + 1) words)
+sets-more l at words i h =
+    let e : length (take i words) ≡ i = length-take-le i words (omega arith) in
+    sym (rw (add-one, take-suc words i 0, sets-last, e))
+
+-- words that were set are the part that they make up
+part-set : (l : List ℕ) (at : ℕ) (words : List ℕ) → at + length words ≤ length l → part at (length words) (sets l at words) ≡ words
+unfolding part
+part-set l at words fits =
+    rw (sets-eq words l at fits, append-assoc (take at l) words, drop-at (take at l) (words ++ drop (at + length words) l) at (length-take-le at l (omega arith)))
+    (take-at words (drop (at + length words) l) (length words) refl)
+
+-- a closing record
+pub close-words : (kind number : ℕ) → kind ∷ number ∷ [] ≡ encode (close kind number)
+unfolding encode header
+close-words kind number = ap (λ (x : ℕ). x ∷ number ∷ []) (omega arith)
+
+-- a change whose difference stands behind its first three words
+pub change-words : (words : List ℕ) (kind page slot number epoch width : ℕ) → 3 + width ≤ length words
+    → take (3 + width) (sets words 0 (header kind page slot width ∷ number ∷ epoch ∷ []))
+    ≡ encode (change kind page slot number epoch (part 3 width words))
+unfolding encode part
+change-words words kind page slot number epoch width fits =
+    let first : List ℕ = header kind page slot width ∷ number ∷ epoch ∷ [] in
+    let long : length (take width (drop 3 words)) ≡ width = length-part 3 width words fits in
+    rw (sets-eq first words 0 (omega arith), take-append-add first (drop 3 words) width, long)
+
+pub change-length : (kind page slot number epoch : ℕ) (difference : List ℕ)
+    → length (encode (change kind page slot number epoch difference)) ≡ 3 + length difference
+unfolding encode
+change-length kind page slot number epoch difference = omega arith
+
+-- the same, with the difference put there first
+pub change-put : (l words difference : List ℕ) (h : Head) → 3 + length difference ≤ length l → words ≡ sets l 3 difference
+    → {after : List ℕ} → after ≡ encode (changeOf h (part 3 (length difference) words)) → after ≡ encode (changeOf h difference)
+change-put l words difference h fits put e =
+    e ∙ ap (λ (d : List ℕ). encode (changeOf h d)) (rw put (part-set l 3 difference fits))

@@ -1,0 +1,73 @@
+-- What the functions that write a log are lent, and what they do with it.
+use mathlib.Core.Path.{_≡_}
+use mathlib.Core.List.{List}
+use mathlib.Core.Bool.{Bool, true, false}
+use Prim.Native.Nat.{ℕ, _+_, _-_, _*_, _≤_, _<_, _^_}
+use lib.ListN.{length, set}
+use Rattle.model.specs.declared.Sizes.{Sizes}
+use Rattle.model.specs.declared.Logs.{Logs}
+use Rattle.model.specs.Sizes.{ringOf, diskAt}
+use Rattle.model.specs.Record.{Record, change}
+use Rattle.model.specs.World.{World, Action, perform, run, made, finishes, each}
+use Rattle.model.specs.Memory.{bufferAt}
+use Rattle.model.specs.State.{tailOf, fillOf}
+use Rattle.model.specs.Append.{storeLog, append}
+use Rattle.log.specs.declared.write.Head.{Head}
+use Rattle.log.specs.declared.write.Logged.{Logged}
+
+-- The numbers lay every index within its slice, and the end of the log within the bound of positions.
+pub record Within (disk ring buffer tail fill : ℕ) (logs work : List ℕ) : Type 0 where
+  pub some-ring : 0 < ring
+  pub disk-within : disk * (ring + 1) + (ring + 1) ≤ length logs
+  pub buffer-within : buffer + 64 ≤ length work
+  pub fill-small : fill ≤ 64
+  pub end-small : tail + fill ≤ 2 ^ 62
+
+-- The fields of a change fit its first word.
+pub record Encodable (h : Head) (width : ℕ) : Type 0 where
+  pub kind-small : h .kind ≤ 1
+  pub page-small : h .page < 64
+  pub slot-small : h .slot < 128
+  pub width-small : width ≤ 32
+
+abbrev pub changeOf : Head → List ℕ → Record
+changeOf h difference = change (h .kind) (h .page) (h .slot) (h .number) (h .epoch) difference
+
+-- The numbers and the two slices are those of a disk, in a state and a world.
+pub record Lent (s : Sizes) (l : Logs) (w : World) (disk ring buffer tail fill : ℕ) (logs work : List ℕ) : Type 0 where
+  pub same-ring : s .ring ≡ ring
+  pub same-buffer : bufferAt s disk ≡ buffer
+  pub same-tail : tailOf l disk ≡ tail
+  pub same-fill : fillOf l disk ≡ fill
+  pub same-logs : w .logs ≡ logs
+  pub same-work : w .work ≡ work
+
+-- the world with other logs and another work memory
+abbrev pub withSlices : World → List ℕ → List ℕ → World
+withSlices w logs work = record { anchor = w .anchor; pages = w .pages; backups = w .backups; logs = logs; work = work }
+
+-- A list of actions, performed as far as the budget goes.
+pub record Ran (budget rest : ℕ) (actions : List Action) (before after : World) (whole : Bool) : Type 0 where
+  pub world : after ≡ run budget actions before
+  pub left : rest ≡ budget - made budget actions
+  pub finished : whole ≡ finishes budget actions
+
+-- Words stored one after the other, the first at position `tail` of the ring whose word 0 is at index `first`.
+unfoldable pub Laid : ℕ → ℕ → ℕ → List ℕ → List ℕ → List ℕ → Type 0
+Laid first ring tail words before after =
+    (s : Sizes) (disk : ℕ) (w : World) → diskAt s disk + 1 ≡ first → ringOf s disk ≡ ring → w .logs ≡ before
+    → perform (each (storeLog s disk) tail words) w ≡ withSlices w after (w .work)
+
+-- The answer of an append: on a cut the log ends as before; else n words further on.
+pub record Ends (tail fill n : ℕ) (r : Logged) : Type 0 where
+  pub fill-small : r .fill ≤ 64
+  pub further : r .finished ≡ true → r .tail + r .fill ≡ tail + fill + n
+  pub same-tail : r .finished ≡ false → r .tail ≡ tail
+  pub same-fill : r .finished ≡ false → r .fill ≡ fill
+
+-- What an append does to the world, and the logs' part of the state after it.
+pub record Appends (budget rest : ℕ) (s : Sizes) (l : Logs) (disk : ℕ) (words : List ℕ) (before after : World) (r : Logged) : Type 0 where
+  pub ran : Ran budget rest (append s l (before .work) disk words .actions) before after (r .finished)
+  pub state : r .finished ≡ true
+      → append s l (before .work) disk words .logs
+      ≡ record { starts = l .starts; tails = set (l .tails) disk (r .tail); fills = set (l .fills) disk (r .fill) }

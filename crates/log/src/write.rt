@@ -1,0 +1,215 @@
+// Writing: a record's words into a disk's buffer, and a buffer's words into the ring.
+ghost use mathlib.Core.Path.{_≡_};
+ghost use mathlib.Core.List.{[], _∷_};
+ghost use Prim.Native.Nat.{_+_, _*_, _%_, _≤_, _<_};
+ghost use lib.ListN.{length, take};
+ghost use lib.Seq.{sets};
+ghost use Rattle.model.specs.declared.Sizes.{Sizes};
+ghost use Rattle.model.specs.declared.Logs.{Logs};
+ghost use Rattle.model.specs.Word.{part};
+ghost use Rattle.model.specs.Record.{close, header, encode};
+ghost use Rattle.model.specs.World.{World};
+ghost use Rattle.model.specs.Append.{flush};
+ghost use Rattle.log.specs.Write.{Within, Encodable, changeOf, Lent, Ran, Laid, Ends, Appends, withSlices};
+
+// The index in the ring after `at`.
+fn next_in_ring(at: u64, ring: u64) -> u64
+    requires { ⌜ at < ring ⌝ }
+    ensures { λ r. ⌜ r ≡ (at + 1) % ring ⌝ }
+{
+    if at + 1 == ring { 0 } else { at + 1 }
+}
+
+// Stores n words of the buffer in the ring whose word 0 is at `first`, from position `tail` on.
+fn store_words(
+    logs: &mut [u64],
+    first: u64,
+    ring: u64,
+    tail: u64,
+    work: &[u64],
+    buffer: u64,
+    n: u64,
+)
+    requires { ⌜ 0 < ring ⌝ }
+    requires { ⌜ first + ring ≤ length (now logs) ⌝ }
+    requires { ⌜ buffer + n ≤ length (now work) ⌝ }
+    ensures { λ _. ⌜ Laid first ring tail (part buffer n (now (work .entry)))
+        (now (logs .entry)) (now (logs .exit)) ⌝ }
+{
+    let mut at = tail % ring;
+    let mut i: u64 = 0;
+    while i < n {
+        logs[(first + at) as usize] = work[(buffer + i) as usize];
+        at = next_in_ring(at, ring);
+        i += 1;
+    }
+}
+
+// Stores a disk's buffered words at the tail and onward, then the new tail, as far as the budget goes; true if all are stored.
+pub fn flush_disk(
+    logs: &mut [u64],
+    work: &[u64],
+    disk: u64,
+    ring: u64,
+    buffer: u64,
+    tail: u64,
+    fill: u64,
+    budget: &mut u64,
+) -> bool
+    requires { ⌜ Within disk ring buffer tail fill (now logs) (now work) ⌝ }
+    ensures { λ r. ⌜ ((s : Sizes) (l : Logs) (w : World) → Lent s l w disk ring buffer tail fill (now (logs .entry)) (now (work .entry))
+        → Ran (now (budget .entry)) (now (budget .exit)) (flush s l (w .work) disk) w (withSlices w (now (logs .exit)) (now (work .entry))) r) ⌝ }
+{
+    if fill == 0 {
+        return true;
+    }
+    let place = disk * (ring + 1);
+    let left = *budget;
+    if left <= fill {
+        store_words(logs, place + 1, ring, tail, work, buffer, left);
+        *budget = 0;
+        return false;
+    }
+    store_words(logs, place + 1, ring, tail, work, buffer, fill);
+    logs[place as usize] = tail + fill;
+    *budget = left - fill - 1;
+    true
+}
+
+// What a change says beside its difference. `epoch` is 01's copy number.
+pub struct Head {
+    pub kind: u64,
+    pub page: u64,
+    pub slot: u64,
+    pub number: u64,
+    pub epoch: u64,
+}
+
+// Writes the first three words of a change into `words`, which has the difference from its fourth word on.
+pub fn encode_change(words: &mut [u64], head: Head, width: u64)
+    requires { ⌜ Encodable head width × (3 + width ≤ length (now words)) ⌝ }
+    ensures { λ _. ⌜ now (words .exit)
+        ≡ sets (now (words .entry)) 0 (header (head .kind) (head .page) (head .slot) width ∷ head .number ∷ head .epoch ∷ []) ⌝ }
+    ensures { λ _. ⌜ take (3 + width) (now (words .exit)) ≡ encode (changeOf head (part 3 width (now (words .entry)))) ⌝ }
+{
+    words[0] = head.kind + 8 * head.page + 512 * head.slot + 65536 * width;
+    words[1] = head.number;
+    words[2] = head.epoch;
+}
+
+// Puts a record's words into the work memory from index `at` on.
+pub fn put_record(work: &mut [u64], at: u64, words: &[u64])
+    requires { ⌜ at + length (now words) ≤ length (now work) ⌝ }
+    ensures { λ _. ⌜ now (work .exit) ≡ sets (now (work .entry)) at (now (words .entry)) ⌝ }
+{
+    let mut i = 0;
+    while i < words.len() {
+        work[at as usize + i] = words[i];
+        i += 1;
+    }
+}
+
+// What an append answers: whether all its stores were made, and the disk's tail and fill after it.
+pub struct Logged {
+    pub finished: bool,
+    pub tail: u64,
+    pub fill: u64,
+}
+
+// Puts a record's words behind those that the buffer has; it is flushed first where they do not fit its free words.
+pub fn append(
+    logs: &mut [u64],
+    work: &mut [u64],
+    disk: u64,
+    ring: u64,
+    buffer: u64,
+    tail: u64,
+    fill: u64,
+    words: &[u64],
+    budget: &mut u64,
+) -> Logged
+    requires { ⌜ Within disk ring buffer tail fill (now logs) (now work) × (length (now words) ≤ 64) ⌝ }
+    ensures { λ r. ⌜ ((s : Sizes) (l : Logs) (w : World) → Lent s l w disk ring buffer tail fill (now (logs .entry)) (now (work .entry))
+        → Appends (now (budget .entry)) (now (budget .exit)) s l disk (now (words .entry)) w (withSlices w (now (logs .exit)) (now (work .exit))) r) ⌝ }
+    ensures { λ r. ⌜ Ends tail fill (length (now (words .entry))) r ⌝ }
+{
+    let n = words.len() as u64;
+    if fill + n <= 64 {
+        put_record(work, buffer + fill, words);
+        return Logged {
+            finished: true,
+            tail,
+            fill: fill + n,
+        };
+    }
+    if !flush_disk(logs, work, disk, ring, buffer, tail, fill, budget) {
+        return Logged {
+            finished: false,
+            tail,
+            fill,
+        };
+    }
+    put_record(work, buffer, words);
+    Logged {
+        finished: true,
+        tail: tail + fill,
+        fill: n,
+    }
+}
+
+// Appends a closing record.
+pub fn append_close(
+    logs: &mut [u64],
+    work: &mut [u64],
+    disk: u64,
+    ring: u64,
+    buffer: u64,
+    tail: u64,
+    fill: u64,
+    kind: u64,
+    number: u64,
+    budget: &mut u64,
+) -> Logged
+    requires { ⌜ Within disk ring buffer tail fill (now logs) (now work) ⌝ }
+    ensures { λ r. ⌜ ((s : Sizes) (l : Logs) (w : World) → Lent s l w disk ring buffer tail fill (now (logs .entry)) (now (work .entry))
+        → Appends (now (budget .entry)) (now (budget .exit)) s l disk (encode (close kind number)) w (withSlices w (now (logs .exit)) (now (work .exit))) r) ⌝ }
+    ensures { λ r. ⌜ Ends tail fill 2 r ⌝ }
+{
+    let words = [kind, number];
+    append(logs, work, disk, ring, buffer, tail, fill, &words, budget)
+}
+
+// Appends a change, whose difference is lent.
+pub fn append_change(
+    logs: &mut [u64],
+    work: &mut [u64],
+    disk: u64,
+    ring: u64,
+    buffer: u64,
+    tail: u64,
+    fill: u64,
+    head: Head,
+    difference: &[u64],
+    budget: &mut u64,
+) -> Logged
+    requires { ⌜ Within disk ring buffer tail fill (now logs) (now work) × Encodable head (length (now difference)) ⌝ }
+    ensures { λ r. ⌜ ((s : Sizes) (l : Logs) (w : World) → Lent s l w disk ring buffer tail fill (now (logs .entry)) (now (work .entry))
+        → Appends (now (budget .entry)) (now (budget .exit)) s l disk (encode (changeOf head (now (difference .entry)))) w (withSlices w (now (logs .exit)) (now (work .exit))) r) ⌝ }
+    ensures { λ r. ⌜ Ends tail fill (3 + length (now (difference .entry))) r ⌝ }
+{
+    let n = difference.len();
+    let mut words = [0u64; 35];
+    put_record(&mut words, 3, difference);
+    encode_change(&mut words, head, n as u64);
+    append(
+        logs,
+        work,
+        disk,
+        ring,
+        buffer,
+        tail,
+        fill,
+        &words[..3 + n],
+        budget,
+    )
+}
