@@ -16,7 +16,7 @@ use Rattle.model.specs.Scan.{end, bad, scan}
 use Rattle.model.proofs.Decode.{decode-cong}
 use Rattle.model.proofs.Reading.{ending}
 use Rattle.model.proofs.Scan.{scan-change, scan-close, scan-bad}
-use Rattle.log.specs.declared.read.Newest.{Newest}
+use Rattle.log.specs.declared.newest.Newest.{Newest}
 use Rattle.log.specs.Reading.{decodedChange, decodedClose, newestIn}
 use Rattle.log.proofs.Scanning.{got-change, got-close, newest-end, newest-change, newest-close}
 

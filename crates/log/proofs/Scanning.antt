@@ -24,8 +24,8 @@ use Rattle.model.specs.Causes.{tailOn, retained, faultFrom}
 use Rattle.model.proofs.Decode.{ChangeAt, CloseAt, found-change, found-close}
 use Rattle.model.proofs.Restart.Gain.{length-span}
 use Rattle.model.proofs.Scan.{scan-end, scan-step, scan-change, scan-close, scan-bad}
-use Rattle.log.specs.declared.read.Newest.{Newest}
-use Rattle.log.specs.declared.read.Newest.the-variants.{At, Broken}
+use Rattle.log.specs.declared.newest.Newest.{Newest}
+use Rattle.log.specs.declared.newest.Newest.the-variants.{At, Broken}
 use Rattle.log.specs.Reading.{scanDisk, faultsFrom, isUpdateOf, newerOf, newestIn}
 
 pub update-words-append : (us vs : List Update) → updateWords (us ++ vs) ≡ updateWords us + updateWords vs

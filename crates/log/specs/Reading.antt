@@ -13,8 +13,8 @@ use Rattle.model.specs.Sizes.{tailWord}
 use Rattle.model.specs.Record.{change, close, updateKind}
 use Rattle.model.specs.Decode.{readLog, kindField, pageField, slotField, widthField, misplaced}
 use Rattle.model.specs.Scan.{Scan, end, bad, item, scan, faultIn, Update}
-use Rattle.log.specs.declared.read.Newest.{Newest}
-use Rattle.log.specs.declared.read.Newest.the-variants.{At, Absent, Broken}
+use Rattle.log.specs.declared.newest.Newest.{Newest}
+use Rattle.log.specs.declared.newest.Newest.the-variants.{At, Absent, Broken}
 
 -- a change by its first three words, a closing record by its two: what decodeWords makes of a known kind
 abbrev pub decodedChange : Sizes → ℕ → ℕ → ℕ → ℕ → Decoded

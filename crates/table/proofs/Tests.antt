@@ -16,7 +16,7 @@ use Rattle.model.specs.State.{limit, places, startOf, tailOf, fillOf, endOf, nu
 use Rattle.model.proofs.Below.{all-each}
 use Rattle.table.specs.Parts.{cap, tableOf, coreOf, roomFor, entrySound, endWithin, positionWithin}
 use Rattle.table.proofs.Places.{reserved-parts}
-use Rattle.table.proofs.Room.{room-capped}
+use Rattle.table.proofs.HasRoom.{room-capped}
 
 -- A loop that tests every number below n: it goes on, stops at one that fails, or ends.
 module _ (f : ℕ → Bool) where

@@ -11,8 +11,8 @@ use lib.Seq.{sets, take-suc, take-length, getD-drop}
 use Rattle.model.specs.Word.{_⊕_, xors, part}
 use Rattle.model.specs.Image.{xorAt}
 use Rattle.model.proofs.Xor.{length-xors-same}
-use Rattle.model.proofs.Link.Parts.{getD-sets-behind}
-use Rattle.model.proofs.Restart.Words.{length-part}
+use Rattle.model.proofs.Parts.{getD-sets-behind}
+use Rattle.model.proofs.Parts.{length-part}
 
 -- a run of stores, and one store behind it
 pub sets-snoc : (l : List ℕ) (at : ℕ) (vs : List ℕ) (v : ℕ) → sets l at (vs ++ (v ∷ [])) ≡ set (sets l at vs) (at + length vs) v

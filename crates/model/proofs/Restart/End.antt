@@ -101,10 +101,8 @@ unfolding restartEndTask freshMemory act
 end-keeps c w =
     let pages = keeps-each (store backups) (λ i x v. refl) (backupAt (c .sizes) (c .epoch + 1)) (w .pages) in
     let rows = keeps-list (λ d. store anchor (startWord (c .epoch + 1) d) (tailOf (c .logs) d)) (λ d v. refl) (c .sizes .disks) in
-    let owners = keeps-each (write work) (λ i x v. refl) 0 (replicate (total (c .sizes)) 0) in
-    let epochs = keeps-each (write work) (λ i x v. refl) (epochAt (c .sizes) 0) (replicate 64 (c .epoch + 1)) in
     let epoch = keeps-cons (store anchor epochWord (c .epoch + 1)) [] (λ v. refl) keeps-none in
-    keeps-append _ _ (keeps-append _ _ (keeps-append _ _ pages rows) epoch) (keeps-append _ _ owners epochs)
+    keeps-append _ _ (keeps-append _ _ (keeps-append _ _ pages rows) epoch) (keeps-append _ _ (keeps-each (write work) (λ i x v. refl) _ _) (keeps-each (write work) (λ i x v. refl) _ _))
 
 -- the end is taken only when nothing remains
 end-none : (c : Core) (w : World) (budget : ℕ) → Taken (restartEnd budget) c w → (i : ℕ) → i < c .sizes .disks + 1 → remaining c i ≡ 0

@@ -1,0 +1,73 @@
+-- The loop's invariant: the first i words are done.
+use Prim.Native.Nat.{_-_, _≤_}
+use mathlib.Core.Path.{_≡_}
+use native.Mathlib.Omega.{arith}
+use borrow.Author.Needs.{needs}
+use lib.ListN.{length, take, length-set}
+use Rattle.model.specs.Word.{part}
+use Rattle.model.proofs.Parts.{length-part}
+use Rattle.layout.proofs.Laws.{read-more, fill-end}
+use Rattle.layout.proofs.anchor.read_entries.Statement.{statement}
+use Rattle.layout.proofs.anchor.read_entries.Tie as tie
+
+abbrev Inv-loop : tie.InvT-loop
+Inv-loop anchor at words₀ i₀ words i = (i ≤ 64) × (length words ≡ 64) × (take i words ≡ take i (part at 64 anchor))
+
+abbrev μ-loop : tie.MeasureT-loop
+μ-loop anchor at words₀ i₀ words i = 64 - i
+
+loop-holds : tie.Need-loop-holds Inv-loop μ-loop
+loop-holds c = search needs
+
+add-words : tie.Need-add-words Inv-loop μ-loop
+add-words c = search needs
+
+mul-words : tie.Need-mul-words Inv-loop μ-loop
+mul-words c = search needs
+
+shared-slice-read-words : tie.Need-shared-slice-read-words Inv-loop μ-loop
+shared-slice-read-words c = search needs
+
+mul-words-2 : tie.Need-mul-words-2 Inv-loop μ-loop
+mul-words-2 c = search needs
+
+array-write-words : tie.Need-array-write-words Inv-loop μ-loop
+array-write-words c = search needs
+
+add-i : tie.Need-add-i Inv-loop μ-loop
+add-i c = search needs
+
+loop-less : tie.Need-loop-less Inv-loop μ-loop
+loop-less c = search needs
+
+loop-again : tie.Need-loop-again Inv-loop μ-loop
+loop-again c =
+    let args = c .before .before .before .args in
+    let inv = c .before .before .loop .inv in (
+      omega arith,
+      simp length-set (inv .1),
+      read-more (c .before .before .loop .words) (args .anchor .now) (args .at) 64 (c .before .before .loop .i) (search needs) (search needs) (inv .1) (inv .2),
+    )
+
+returns : tie.Need-returns Inv-loop μ-loop
+returns c =
+    let args = c .before .before .args in
+    let inv = c .before .loop .inv in
+    fill-end (c .before .loop .words) (part (args .at) 64 (args .anchor .now)) 64 (c .before .loop .i) (omega arith) (inv .1) (length-part (args .at) 64 (args .anchor .now) (search needs)) (inv .2)
+
+pub read-entries-spec : {M : Type 1} → statement M
+read-entries-spec =
+    tie.close
+    (tie.spec
+    Inv-loop
+    μ-loop
+    loop-holds
+    add-words
+    mul-words
+    shared-slice-read-words
+    mul-words-2
+    array-write-words
+    add-i
+    loop-less
+    loop-again
+    returns)

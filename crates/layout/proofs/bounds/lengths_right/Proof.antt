@@ -1,0 +1,77 @@
+use Prim.Native.Nat.{_+_}
+use native.Mathlib.Omega.{arith}
+use borrow.Author.Needs.{needs}
+use borrow.Author.Tests.{eq-eqb, ne-eqb}
+use Rattle.model.specs.Sizes.{diskAt, logWords}
+use Rattle.model.specs.Memory.{bufferAt, epochAt, workWords}
+use Rattle.model.proofs.Bounds.{bounded}
+use Rattle.layout.proofs.Laws.{product-max}
+use Rattle.layout.proofs.bounds.lengths_right.Statement.{statement}
+use Rattle.layout.proofs.bounds.lengths_right.Tie as tie
+
+total-requires : tie.Need-total-requires
+total-requires c κs = bounded _ (c .pre) .pages-max
+
+returns : tie.Need-returns
+returns c = rw (← c .before .total .ensures .0, ne-eqb _ _ (c .if1 .taken))
+
+mul-if2 : tie.Need-mul-if2
+mul-if2 c = search needs
+
+returns-2 : tie.Need-returns-2
+returns-2 c =
+    rw (← c .before .before .total .ensures .0, eq-eqb _ _ (c .before .if1 .left), ne-eqb _ _ (c .if2 .taken))
+
+add-if3 : tie.Need-add-if3
+add-if3 c = omega (arith, bounded _ (c .before .before .before .pre) .ring-max)
+
+mul-if3 : tie.Need-mul-if3
+mul-if3 c =
+    let sizes = c .before .before .before .args .sizes in
+    let b = bounded sizes (c .before .before .before .pre) in
+    omega (arith, product-max (sizes .disks) (sizes .ring + 1) 8 65537 (b .disks-max) (omega arith))
+
+returns-3 : tie.Need-returns-3
+unfolding logWords diskAt
+returns-3 c =
+    rw (
+      ← c .before .before .before .total .ensures .0,
+      eq-eqb _ _ (c .before .before .if1 .left),
+      eq-eqb _ _ (c .before .if2 .left),
+      ne-eqb _ _ (c .if3 .taken),
+    )
+
+mul-result : tie.Need-mul-result
+mul-result c = omega (arith, bounded _ (c .before .before .before .before .pre) .disks-max)
+
+add-result : tie.Need-add-result
+add-result c = omega (arith, bounded _ (c .before .before .before .before .pre) .disks-max)
+
+add-result-2 : tie.Need-add-result-2
+add-result-2 c = omega (arith, bounded _ (c .before .before .before .before .pre) .disks-max)
+
+returns-4 : tie.Need-returns-4
+unfolding logWords diskAt workWords epochAt bufferAt
+returns-4 c =
+    rw (
+      ← c .before .before .before .total .ensures .0,
+      eq-eqb _ _ (c .before .before .if1 .left),
+      eq-eqb _ _ (c .before .if2 .left),
+      eq-eqb _ _ (c .if3 .left),
+    )
+
+pub lengths-right-spec : {M : Type 1} → statement M
+lengths-right-spec =
+    tie.close
+    (tie.spec
+    total-requires
+    returns
+    mul-if2
+    returns-2
+    add-if3
+    mul-if3
+    returns-3
+    mul-result
+    add-result
+    add-result-2
+    returns-4)

@@ -1,0 +1,16 @@
+-- The product of two bytes is below 2^16.
+use mathlib.Core.Path.{refl}
+use native.Mathlib.Omega.{arith}
+use borrow.Author.Needs.{needs}
+use Rattle.layout.proofs.Laws.{product-max}
+use Rattle.layout.proofs.places.words_of.Statement.{statement}
+use Rattle.layout.proofs.places.words_of.Tie as tie
+
+mul-result : tie.Need-mul-result
+mul-result c = record { fits = omega (arith, product-max (c .args .slots) (c .args .width) 255 255 (search needs) (search needs)) }
+
+returns : tie.Need-returns
+returns c = (refl, omega (arith, product-max (c .args .slots) (c .args .width) 255 255 (search needs) (search needs)))
+
+pub words-of-spec : {M : Type 1} → statement M
+words-of-spec = tie.close (tie.spec mul-result returns)

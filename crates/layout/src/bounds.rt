@@ -1,0 +1,151 @@
+// The bounds of the sizes, and the lengths that they give the lent slices.
+use crate::places::total;
+use crate::places::word_of;
+use model::Sizes;
+ghost use mathlib.Core.Path.{_≡_};
+ghost use mathlib.Core.Bool.{true, cond, _&&_};
+ghost use Prim.Native.Nat.{ℕ, _*_, _<_};
+ghost use lib.Dec.{leb, eqb};
+ghost use lib.ListN.{getD};
+ghost use Rattle.model.specs.Below.{within};
+ghost use Rattle.model.specs.Sizes.{total, logWords, sizesInBounds};
+ghost use Rattle.model.specs.Memory.{workWords};
+
+// Whether the lent slices have the lengths that the sizes give; the anchor's is fixed.
+pub fn lengths_right(sizes: Sizes, pages: usize, backups: usize, logs: usize, work: usize) -> bool
+    requires { ⌜ sizesInBounds sizes ≡ true ⌝ }
+    ensures { λ r. ⌜ r ≡ (eqb pages (total sizes) && eqb backups (2 * total sizes) && eqb logs (logWords sizes) && eqb work (workWords sizes)) ⌝ }
+{
+    let words = total(sizes) as usize;
+    let disks = sizes.disks as usize;
+    let ring = sizes.ring as usize;
+    if pages != words {
+        return false;
+    }
+    if backups != 2 * words {
+        return false;
+    }
+    if logs != disks * (ring + 1) {
+        return false;
+    }
+    work == words + 64 * disks + 64
+}
+
+fn is_within(low: u64, high: u64, n: u64) -> bool
+    ensures { λ r. ⌜ r ≡ within low high n ⌝ }
+{
+    if n < low {
+        return false;
+    }
+    n <= high
+}
+
+// The ranges are tested before the product, which then cannot overflow.
+fn used_entry(slots: u64, width: u64) -> bool
+    ensures { λ r. ⌜ r ≡ (within 1 128 slots && within 1 32 width && leb (slots * width) 128) ⌝ }
+{
+    if !is_within(1, 128, slots) {
+        return false;
+    }
+    if !is_within(1, 32, width) {
+        return false;
+    }
+    slots * width <= 128
+}
+
+fn unused_entry(slots: u64, width: u64) -> bool
+    ensures { λ r. ⌜ r ≡ (eqb slots 0 && eqb width 0) ⌝ }
+{
+    if slots != 0 {
+        return false;
+    }
+    width == 0
+}
+
+fn entry_in_bounds(used: bool, slots: u64, width: u64) -> bool
+    ensures { λ r. ⌜ r ≡ cond used (within 1 128 slots && within 1 32 width && leb (slots * width) 128) (eqb slots 0 && eqb width 0) ⌝ }
+{
+    if used {
+        return used_entry(slots, width);
+    }
+    unused_entry(slots, width)
+}
+
+fn counts_in_bounds(pages: u64, disks: u64, ring: u64) -> bool
+    ensures { λ r. ⌜ r ≡ (within 1 64 pages && within 1 8 disks && within 128 65536 ring) ⌝ }
+{
+    if !is_within(1, 64, pages) {
+        return false;
+    }
+    if !is_within(1, 8, disks) {
+        return false;
+    }
+    is_within(128, 65536, ring)
+}
+
+// Of any numbers.
+pub fn in_bounds(pages: u64, disks: u64, ring: u64, slots: [u64; 64], widths: [u64; 64]) -> bool
+    ensures { λ r. ⌜ r ≡ sizesInBounds (record { pages = pages; disks = disks; ring = ring; slots = slots; widths = widths }) ⌝ }
+{
+    if !counts_in_bounds(pages, disks, ring) {
+        return false;
+    }
+    let end = pages as usize;
+    let mut i: usize = 0;
+    while i < 64 {
+        if !entry_in_bounds(i < end, slots[i], widths[i]) {
+            return false;
+        }
+        i += 1;
+    }
+    true
+}
+
+// The same of sizes whose entries are bytes.
+pub fn sizes_in_bounds(sizes: Sizes) -> bool
+    ensures { λ r. ⌜ r ≡ sizesInBounds sizes ⌝ }
+{
+    if !counts_in_bounds(sizes.pages, sizes.disks, sizes.ring) {
+        return false;
+    }
+    let end = sizes.pages as usize;
+    let slots = sizes.slots;
+    let widths = sizes.widths;
+    let mut i: usize = 0;
+    while i < 64 {
+        if !entry_in_bounds(i < end, word_of(slots[i]), word_of(widths[i])) {
+            return false;
+        }
+        i += 1;
+    }
+    true
+}
+
+fn bytes_of(words: [u64; 64]) -> [u8; 64]
+    requires { ⌜ ((i : ℕ) → i < 64 → getD words i 0 < 256) ⌝ }
+    ensures { λ r. ⌜ r ≡ words ⌝ }
+{
+    let mut bytes = [0u8; 64];
+    let mut i: usize = 0;
+    while i < 64 {
+        bytes[i] = words[i] as u8;
+        i += 1;
+    }
+    bytes
+}
+
+// The entries of sizes in bounds fit into bytes.
+pub fn narrow(pages: u64, disks: u64, ring: u64, slots: [u64; 64], widths: [u64; 64]) -> Sizes
+    requires { ⌜ sizesInBounds (record { pages = pages; disks = disks; ring = ring; slots = slots; widths = widths }) ≡ true ⌝ }
+    ensures { λ r. ⌜ r ≡ record { pages = pages; disks = disks; ring = ring; slots = slots; widths = widths } ⌝ }
+{
+    let slot_bytes = bytes_of(slots);
+    let width_bytes = bytes_of(widths);
+    Sizes {
+        pages,
+        disks,
+        ring,
+        slots: slot_bytes,
+        widths: width_bytes,
+    }
+}

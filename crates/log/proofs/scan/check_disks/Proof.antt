@@ -1,0 +1,159 @@
+-- `log::scan::check_disks` meets its contract. Both loops keep: nothing malformed was met, and what is found from here on is what
+-- is found from disk 0 on. The measures are the disks and the words left.
+use Prim.Native.Nat.{_+_, _-_, _≤_, _<_}
+use mathlib.Core.Path.{_≡_, refl, sym, _∙_}
+use mathlib.Core.List.{[]}
+use native.Mathlib.Omega.{arith}
+use native.Mathlib.Nat.{sub-zero}
+use borrow.Author.Needs.{needs}
+use denote.Ref.{now}
+use Rattle.model.specs.declared.Fault.the-variants.{Sound}
+use Rattle.model.specs.Sizes.{diskAt, tailWord}
+use Rattle.model.specs.Decode.{readLog}
+use Rattle.model.specs.Scan.{scan, faultIn}
+use Rattle.log.specs.Reading.{faultsFrom}
+use Rattle.log.proofs.Scanning.{got-change, got-close, disk-within, fault-end, fault-change, fault-close, fault-bad, faults-step, faults-done}
+use Rattle.log.proofs.scan.check_disks.Statement.{statement}
+use Rattle.log.proofs.scan.check_disks.Tie as tie
+
+abbrev Inv-loop : tie.InvT-loop
+Inv-loop sizes logs starts disks ring none d fault₀ tail p₀ fault p =
+    (fault ≡ Sound)
+    × (faultIn d (scan sizes (readLog sizes logs d tail []) tail p) (faultsFrom sizes logs starts (disks - (d + 1)) (d + 1))
+    ≡ faultsFrom sizes logs starts disks 0)
+
+abbrev μ-loop : tie.MeasureT-loop
+μ-loop sizes logs starts disks ring none d fault₀ tail p₀ fault p = tail - p
+
+abbrev Inv-disks : tie.InvT-disks
+Inv-disks sizes logs starts disks ring none d₀ fault₀ d fault =
+    (d ≤ disks) × (fault ≡ Sound)
+    × (faultsFrom sizes logs starts (disks - d) d ≡ faultsFrom sizes logs starts disks 0)
+
+abbrev μ-disks : tie.MeasureT-disks
+μ-disks sizes logs starts disks ring none d₀ fault₀ d fault = disks - d
+
+sub-none : tie.Need-sub-none Inv-loop μ-loop Inv-disks μ-disks
+sub-none c = search needs
+
+part-none-start : tie.Need-part-none-start Inv-loop μ-loop Inv-disks μ-disks
+part-none-start c = search needs
+
+part-none-end : tie.Need-part-none-end Inv-loop μ-loop Inv-disks μ-disks
+part-none-end c = search needs
+
+disks-holds : tie.Need-disks-holds Inv-loop μ-loop Inv-disks μ-disks
+disks-holds c = (omega arith, refl, simp sub-zero)
+
+tail-of-requires : tie.Need-tail-of-requires Inv-loop μ-loop Inv-disks μ-disks
+tail-of-requires c κs =
+    let s = c .before .before .before .before .args .sizes in
+    omega (arith, disk-within (c .before .disks .d) (s .disks) (s .ring) (c .disks-test .taken))
+
+mul-p : tie.Need-mul-p Inv-loop μ-loop Inv-disks μ-disks
+mul-p c = omega arith
+
+array-read-p : tie.Need-array-read-p Inv-loop μ-loop Inv-disks μ-disks
+array-read-p c = omega arith
+
+loop-holds : tie.Need-loop-holds Inv-loop μ-loop Inv-disks μ-disks
+loop-holds c =
+    let a = c .before .before .before .before .before .args in
+    let inv = c .before .before .disks .inv in
+    let step = faults-step (a .sizes) (now (a .logs)) (a .t3) (a .sizes .disks) (c .before .before .disks .d) (c .before .disks-test .taken) in
+    (inv .1, rw (c .tail-of .ensures (a .sizes) refl) (sym step ∙ inv .2))
+
+decode-at-requires : tie.Need-decode-at-requires Inv-loop μ-loop Inv-disks μ-disks
+unfolding tailWord diskAt
+decode-at-requires c κs =
+    let s = c .before .before .before .before .before .before .before .args .sizes in
+    let d = c .before .before .before .before .disks .d in
+    let h : d < s .disks = c .before .before .before .disks-test .taken in
+    let tail = c .before .before .tail-of .ensures s refl in (
+      record {
+        ring-pos = c .before .before .before .before .before .before .before .pre .ring-pos;
+        disk-fits = omega (arith, disk-within d (s .disks) (s .ring) h);
+        stop-le = omega arith;
+        stop-low = omega (arith, c .before .before .before .before .before .before .before .pre .tails-low d h);
+      },
+      c .loop-test .taken,
+    )
+
+enum-known-here : tie.Need-enum-known-here Inv-loop μ-loop Inv-disks μ-disks
+enum-known-here c = search needs
+
+enum-known-here-2 : tie.Need-enum-known-here-2 Inv-loop μ-loop Inv-disks μ-disks
+enum-known-here-2 c = search needs
+
+enum-told : tie.Need-enum-told Inv-loop μ-loop Inv-disks μ-disks
+enum-told c = search needs
+
+loop-less : tie.Need-loop-less Inv-loop μ-loop Inv-disks μ-disks
+loop-less c = let f = got-change _ _ _ (c .before .before .before .decode-at .ensures) (c .before .here .given .1) in omega arith
+
+loop-again : tie.Need-loop-again Inv-loop μ-loop Inv-disks μ-disks
+loop-again c =
+    let read = c .before .before .before in
+    let inv = read .before .before .loop .inv in
+    (inv .0, fault-change _ _ _ (read .decode-at .ensures) (read .before .loop-test .taken) _ _ (c .before .here .given .1) ∙ inv .1)
+
+loop-less-2 : tie.Need-loop-less-2 Inv-loop μ-loop Inv-disks μ-disks
+loop-less-2 c = let f = got-close _ _ _ (c .before .before .before .decode-at .ensures) (c .before .here2 .given .1) in omega arith
+
+loop-again-2 : tie.Need-loop-again-2 Inv-loop μ-loop Inv-disks μ-disks
+loop-again-2 c =
+    let read = c .before .before .before in
+    let inv = read .before .before .loop .inv in
+    (inv .0, fault-close _ _ _ (read .decode-at .ensures) (read .before .loop-test .taken) _ _ (c .before .here2 .given .1) ∙ inv .1)
+
+add-d : tie.Need-add-d Inv-loop μ-loop Inv-disks μ-disks
+add-d c = omega arith
+
+disks-less : tie.Need-disks-less Inv-loop μ-loop Inv-disks μ-disks
+disks-less c = omega arith
+
+disks-again : tie.Need-disks-again Inv-loop μ-loop Inv-disks μ-disks
+disks-again c =
+    let inv = c .before .loop .inv in
+    (omega arith, inv .0, sym (fault-end _ _ _ _ _ _ (c .loop-test .left)) ∙ inv .1)
+
+returns : tie.Need-returns Inv-loop μ-loop Inv-disks μ-disks
+returns c =
+    let a = c .before .before .before .before .args in
+    let inv = c .before .disks .inv in
+    inv .1 ∙ sym (faults-done (a .sizes) (now (a .logs)) (a .t3) (a .sizes .disks) _ (c .disks-test .left)) ∙ inv .2
+
+returns-2 : tie.Need-returns-2 Inv-loop μ-loop Inv-disks μ-disks
+returns-2 c =
+    fault-bad _ _ _ (c .before .before .decode-at .ensures) (c .before .before .before .loop-test .taken) _ _ (c .enum-told .given .1)
+    ∙ c .before .before .before .before .loop .inv .1
+
+pub check-disks-spec : {M : Type 1} → statement M
+check-disks-spec =
+    tie.close
+    (tie.spec
+    Inv-loop
+    μ-loop
+    Inv-disks
+    μ-disks
+    sub-none
+    part-none-start
+    part-none-end
+    disks-holds
+    tail-of-requires
+    mul-p
+    array-read-p
+    loop-holds
+    decode-at-requires
+    enum-known-here
+    enum-known-here-2
+    enum-told
+    loop-less
+    loop-again
+    loop-less-2
+    loop-again-2
+    add-d
+    disks-less
+    disks-again
+    returns
+    returns-2)

@@ -1,0 +1,84 @@
+-- `log::scan::fate_from` meets its contract. The loop's invariant: the fate from p on is the fate from the start on. The measure is
+-- what is left of the log.
+use Prim.Native.Nat.{_-_}
+use mathlib.Core.Path.{_≡_, refl, _∙_}
+use native.Mathlib.Omega.{arith}
+use borrow.Author.Needs.{needs}
+use Rattle.model.specs.Decode.{readLog}
+use Rattle.model.specs.Scan.{scan, fateIn}
+use Rattle.log.proofs.Scanning.{got-change, got-close, fate-end, fate-change, fate-other, fate-close, fate-bad}
+use Rattle.log.proofs.scan.fate_from.Statement.{statement}
+use Rattle.log.proofs.scan.fate_from.Tie as tie
+
+abbrev Inv-loop : tie.InvT-loop
+Inv-loop sizes logs disk tail buffer end from number p₀ p =
+    fateIn number (scan sizes (readLog sizes logs disk tail buffer) end p)
+    ≡ fateIn number (scan sizes (readLog sizes logs disk tail buffer) end from)
+
+abbrev μ-loop : tie.MeasureT-loop
+μ-loop sizes logs disk tail buffer end from number p₀ p = end - p
+
+loop-holds : tie.Need-loop-holds Inv-loop μ-loop
+loop-holds c = refl
+
+decode-at-requires : tie.Need-decode-at-requires Inv-loop μ-loop
+decode-at-requires c κs = search needs
+
+enum-known-here : tie.Need-enum-known-here Inv-loop μ-loop
+enum-known-here c = search needs
+
+loop-less : tie.Need-loop-less Inv-loop μ-loop
+loop-less c = let f = got-change _ _ _ (c .before .before .before .decode-at .ensures) (c .before .here .given .1) in omega arith
+
+loop-again : tie.Need-loop-again Inv-loop μ-loop
+loop-again c =
+    fate-change _ _ _ (c .before .before .before .decode-at .ensures) (c .before .before .before .before .if1 .left) _ (c .before .here .given .1)
+    ∙ c .before .before .before .before .before .loop .inv
+
+enum-known-here-2 : tie.Need-enum-known-here-2 Inv-loop μ-loop
+enum-known-here-2 c = search needs
+
+loop-less-2 : tie.Need-loop-less-2 Inv-loop μ-loop
+loop-less-2 c = let f = got-close _ _ _ (c .before .before .before .before .decode-at .ensures) (c .before .before .here2 .given .1) in omega arith
+
+loop-again-2 : tie.Need-loop-again-2 Inv-loop μ-loop
+loop-again-2 c =
+    let read = c .before .before .before .before in
+    fate-other _ _ _ (read .decode-at .ensures) (read .before .if1 .left) _ (c .before .before .here2 .given .1) (c .if2 .left)
+    ∙ read .before .before .loop .inv
+
+enum-told : tie.Need-enum-told Inv-loop μ-loop
+enum-told c = search needs
+
+returns : tie.Need-returns Inv-loop μ-loop
+returns c = fate-end _ _ _ _ _ (c .if1 .taken) ∙ c .before .loop .inv
+
+returns-2 : tie.Need-returns-2 Inv-loop μ-loop
+returns-2 c =
+    let read = c .before .before .before .before in
+    fate-close _ _ _ (read .decode-at .ensures) (read .before .if1 .left) _ (c .before .before .here2 .given .1) (c .if2 .taken)
+    ∙ read .before .before .loop .inv
+
+returns-3 : tie.Need-returns-3 Inv-loop μ-loop
+returns-3 c =
+    fate-bad _ _ _ (c .before .before .decode-at .ensures) (c .before .before .before .if1 .left) _ (c .enum-told .given .1)
+    ∙ c .before .before .before .before .loop .inv
+
+pub fate-from-spec : {M : Type 1} → statement M
+fate-from-spec =
+    tie.close
+    (tie.spec
+    Inv-loop
+    μ-loop
+    loop-holds
+    decode-at-requires
+    enum-known-here
+    loop-less
+    loop-again
+    enum-known-here-2
+    loop-less-2
+    loop-again-2
+    enum-told
+    returns
+    returns-2
+    returns-3)

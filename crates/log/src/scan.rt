@@ -1,0 +1,89 @@
+// Reading a log on: the search ahead for a transaction's close, and the check of all disks.
+use crate::read::decode_at;
+use model::Decoded;
+use model::Fate;
+use model::Fault;
+use model::Sizes;
+ghost use mathlib.Core.Path.{_≡_};
+ghost use Prim.Native.Nat.{_+_, _*_, _≤_};
+ghost use lib.ListN.{length, getD};
+ghost use Rattle.model.specs.Sizes.{tailWord};
+ghost use Rattle.model.specs.Decode.{readLog};
+ghost use Rattle.model.specs.Scan.{scan, fateIn};
+ghost use Rattle.log.specs.Reading.{Readable, Checkable, faultsFrom};
+
+// The search ahead for a transaction's closing record.
+pub fn fate_from(
+    sizes: Sizes,
+    logs: &[u64],
+    disk: u64,
+    tail: u64,
+    buffer: &[u64],
+    end: u64,
+    from: u64,
+    number: u64,
+) -> Fate
+    requires { ⌜ Readable sizes (now logs) disk tail (now buffer) end ⌝ }
+    ensures { λ r. ⌜ r ≡ fateIn number (scan sizes (readLog sizes (now (logs .entry)) disk tail (now (buffer .entry))) end from) ⌝ }
+{
+    let mut p = from;
+    let fate = loop {
+        if end <= p {
+            break Fate::Unclosed;
+        }
+        let here = decode_at(sizes, logs, disk, tail, buffer, end, p);
+        match here {
+            Decoded::Change { next, .. } => p = next,
+            Decoded::Close {
+                number: n,
+                next,
+                ..
+            } => {
+                if n == number {
+                    break Fate::Closed;
+                }
+                p = next;
+            }
+            Decoded::Malformed => break Fate::Unreadable { position: p },
+        }
+    };
+    fate
+}
+
+// A disk's tail.
+fn tail_of(logs: &[u64], disk: u64, ring: u64) -> u64
+    requires { ⌜ disk * (ring + 1) + (ring + 1) ≤ length (now logs) ⌝ }
+    ensures { λ r. ⌜ ((s : Sizes) → s .ring ≡ ring → r ≡ getD (now (logs .entry)) (tailWord s disk) 0) ⌝ }
+{
+    let at = (disk * (ring + 1)) as usize;
+    logs[at]
+}
+
+// The check of every disk's retained log: the first malformed record of the lowest disk that has one.
+pub fn check_disks(sizes: Sizes, logs: &[u64], starts: [u64; 8]) -> Fault
+    requires { ⌜ Checkable sizes (now logs) ⌝ }
+    ensures { λ r. ⌜ r ≡ faultsFrom sizes (now (logs .entry)) starts (sizes .disks) 0 ⌝ }
+{
+    let disks = sizes.disks;
+    let ring = sizes.ring;
+    let none = &logs[0..0];
+    let mut d: u64 = 0;
+    let mut fault = Fault::Sound;
+    'disks: while d < disks {
+        let tail = tail_of(logs, d, ring);
+        let mut p = starts[d as usize];
+        while p < tail {
+            let here = decode_at(sizes, logs, d, tail, none, tail, p);
+            let (Decoded::Change { next, .. } | Decoded::Close { next, .. }) = here else {
+                fault = Fault::BadRecord {
+                    disk: d,
+                    position: p,
+                };
+                break 'disks;
+            };
+            p = next;
+        }
+        d += 1;
+    }
+    fault
+}

@@ -1,0 +1,89 @@
+-- `table::room::idlest` meets its contract: the best of the disks passed. Assumes nothing.
+use Prim.Native.Nat.{_-_, _≤_}
+use mathlib.Core.Path.{_≡_}
+use native.Mathlib.Omega.{arith}
+use borrow.Author.Needs.{needs}
+use Rattle.model.specs.Room.{idlest, hasRoom, loadOf, idlestBelow}
+use Rattle.model.specs.Sizes.{ringOf}
+use Rattle.table.specs.Parts.{coreOf}
+use Rattle.table.proofs.HasRoom.{room-computed, idlest-step}
+use Rattle.table.proofs.room.idlest.Statement.{statement}
+use Rattle.table.proofs.room.idlest.Tie as tie
+
+abbrev Inv-loop : tie.InvT-loop
+Inv-loop need disks ring logs table best₀ d₀ best d = (d ≤ disks) × (best ≤ 8) × (best ≡ idlestBelow (hasRoom (coreOf disks ring logs table) need) (loadOf logs) d)
+
+abbrev μ-loop : tie.MeasureT-loop
+μ-loop need disks ring logs table best₀ d₀ best d = disks - d
+
+loop-holds : tie.Need-loop-holds Inv-loop μ-loop
+unfolding idlestBelow
+loop-holds c = search needs
+
+reserved-capped-requires : tie.Need-reserved-capped-requires Inv-loop μ-loop
+reserved-capped-requires c κs = search needs
+
+mul-room-for : tie.Need-mul-room-for Inv-loop μ-loop
+mul-room-for c = search needs
+
+element-copy-out-room-for : tie.Need-element-copy-out-room-for Inv-loop μ-loop
+element-copy-out-room-for c = search needs
+
+mul-room-for-2 : tie.Need-mul-room-for-2 Inv-loop μ-loop
+mul-room-for-2 c = search needs
+
+element-copy-out-room-for-2 : tie.Need-element-copy-out-room-for-2 Inv-loop μ-loop
+element-copy-out-room-for-2 c = search needs
+
+mul-room-for-3 : tie.Need-mul-room-for-3 Inv-loop μ-loop
+mul-room-for-3 c = search needs
+
+element-copy-out-room-for-3 : tie.Need-element-copy-out-room-for-3 Inv-loop μ-loop
+element-copy-out-room-for-3 c = search needs
+
+room-for-requires : tie.Need-room-for-requires Inv-loop μ-loop
+room-for-requires c κs = search needs
+
+better-disk-requires : tie.Need-better-disk-requires Inv-loop μ-loop
+better-disk-requires c κs = search needs
+
+add-d : tie.Need-add-d Inv-loop μ-loop
+add-d c = search needs
+
+loop-less : tie.Need-loop-less Inv-loop μ-loop
+loop-less c = search needs
+
+loop-again : tie.Need-loop-again Inv-loop μ-loop
+loop-again c = (
+  search needs,
+  search needs,
+  idlest-step _ _ _ _ _ _ (c .before .before .before .before .before .before .before .before .before .before .before .before .before .loop .inv .2)
+      (room-computed _ _ _ _ _ _ _ _ (c .before .before .before .before .before .before .before .reserved-capped .ensures) (c .before .before .before .room-for .ensures))
+      (c .better-disk .ensures .1),
+)
+
+returns : tie.Need-returns Inv-loop μ-loop
+unfolding idlest hasRoom ringOf
+returns c = let e : c .before .loop .d ≡ c .before .before .before .before .args .core .sizes .disks = omega arith in
+    (search needs, rw e at (c .before .loop .inv .2))
+
+pub idlest-spec : {M : Type 1} → statement M
+idlest-spec =
+    tie.close
+    (tie.spec
+    Inv-loop
+    μ-loop
+    loop-holds
+    reserved-capped-requires
+    mul-room-for
+    element-copy-out-room-for
+    mul-room-for-2
+    element-copy-out-room-for-2
+    mul-room-for-3
+    element-copy-out-room-for-3
+    room-for-requires
+    better-disk-requires
+    add-d
+    loop-less
+    loop-again
+    returns)

@@ -1,0 +1,63 @@
+-- `table::room::room_for` meets its contract: what is above the limit has no room, and the other sums fit a word. Assumes nothing.
+use native.Mathlib.Omega.{arith}
+use borrow.Author.Needs.{needs}
+use Rattle.table.proofs.HasRoom.{no-room, room-by-ring}
+use Rattle.table.proofs.room.room_for.Statement.{statement}
+use Rattle.table.proofs.room.room_for.Tie as tie
+
+returns : tie.Need-returns
+returns c = no-room _ _ _ _ _ (omega arith)
+
+returns-2 : tie.Need-returns-2
+returns-2 c = no-room _ _ _ _ _ (omega arith)
+
+returns-3 : tie.Need-returns-3
+returns-3 c = no-room _ _ _ _ _ (omega arith)
+
+returns-4 : tie.Need-returns-4
+returns-4 c = no-room _ _ _ _ _ (omega arith)
+
+add-end : tie.Need-add-end
+add-end c = search needs
+
+returns-5 : tie.Need-returns-5
+returns-5 c = no-room _ _ _ _ _ (omega arith)
+
+add-whole : tie.Need-add-whole
+add-whole c = search needs
+
+add-whole-2 : tie.Need-add-whole-2
+add-whole-2 c = search needs
+
+returns-6 : tie.Need-returns-6
+returns-6 c = no-room _ _ _ _ _ (omega arith)
+
+beyond-requires : tie.Need-beyond-requires
+beyond-requires c κs = search needs
+
+add-result : tie.Need-add-result
+add-result c = search needs
+
+add-result-2 : tie.Need-add-result-2
+add-result-2 c = search needs
+
+returns-7 : tie.Need-returns-7
+returns-7 c = rw (c .beyond .ensures) (room-by-ring _ _ _ _ _ (omega arith))
+
+pub room-for-spec : {M : Type 1} → statement M
+room-for-spec =
+    tie.close
+    (tie.spec
+    returns
+    returns-2
+    returns-3
+    returns-4
+    add-end
+    returns-5
+    add-whole
+    add-whole-2
+    returns-6
+    beyond-requires
+    add-result
+    add-result-2
+    returns-7)

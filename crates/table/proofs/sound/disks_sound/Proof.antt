@@ -1,0 +1,88 @@
+-- `table::sound::disks_sound` meets its contract: the disks passed are sound. Assumes nothing.
+use Prim.Native.Nat.{_-_, _≤_}
+use mathlib.Core.Path.{_≡_, refl, _∙_}
+use mathlib.Core.Bool.{true}
+use native.Mathlib.Omega.{arith}
+use borrow.Author.Tests.{not-true, not-false}
+use borrow.Author.Needs.{needs}
+use Rattle.model.specs.Below.{allBelow}
+use Rattle.model.specs.State.{diskSound}
+use Rattle.table.specs.Parts.{coreOf}
+use Rattle.table.proofs.Tests.{all-more, all-stop, all-done, disk-computed}
+use Rattle.table.proofs.sound.disks_sound.Statement.{statement}
+use Rattle.table.proofs.sound.disks_sound.Tie as tie
+
+abbrev Inv-loop : tie.InvT-loop
+Inv-loop disks ring logs table d₀ d = (d ≤ disks) × (allBelow (diskSound (coreOf disks ring logs table)) d ≡ true)
+
+abbrev μ-loop : tie.MeasureT-loop
+μ-loop disks ring logs table d₀ d = disks - d
+
+loop-holds : tie.Need-loop-holds Inv-loop μ-loop
+unfolding allBelow
+loop-holds c = (search needs, refl)
+
+reserved-capped-requires : tie.Need-reserved-capped-requires Inv-loop μ-loop
+reserved-capped-requires c κs = search needs
+
+mul-disk-sound : tie.Need-mul-disk-sound Inv-loop μ-loop
+mul-disk-sound c = search needs
+
+element-copy-out-disk-sound : tie.Need-element-copy-out-disk-sound Inv-loop μ-loop
+element-copy-out-disk-sound c = search needs
+
+mul-disk-sound-2 : tie.Need-mul-disk-sound-2 Inv-loop μ-loop
+mul-disk-sound-2 c = search needs
+
+element-copy-out-disk-sound-2 : tie.Need-element-copy-out-disk-sound-2 Inv-loop μ-loop
+element-copy-out-disk-sound-2 c = search needs
+
+mul-disk-sound-3 : tie.Need-mul-disk-sound-3 Inv-loop μ-loop
+mul-disk-sound-3 c = search needs
+
+element-copy-out-disk-sound-3 : tie.Need-element-copy-out-disk-sound-3 Inv-loop μ-loop
+element-copy-out-disk-sound-3 c = search needs
+
+disk-sound-requires : tie.Need-disk-sound-requires Inv-loop μ-loop
+disk-sound-requires c κs = search needs
+
+returns : tie.Need-returns Inv-loop μ-loop
+returns c = all-stop _ _ (c .before .before .before .before .before .before .before .before .before .before .before .loop .d) (omega arith)
+    (disk-computed _ _ _ _ _ _ _ (c .before .before .before .before .before .reserved-capped .ensures) (c .before .disk-sound .ensures) ∙ not-true _ (c .if1 .taken))
+
+add-d : tie.Need-add-d Inv-loop μ-loop
+add-d c = search needs
+
+loop-less : tie.Need-loop-less Inv-loop μ-loop
+loop-less c = search needs
+
+loop-again : tie.Need-loop-again Inv-loop μ-loop
+loop-again c = (
+  search needs,
+  all-more _ _ (c .before .before .before .before .before .before .before .before .before .before .before .loop .inv .1)
+      (disk-computed _ _ _ _ _ _ _ (c .before .before .before .before .before .reserved-capped .ensures) (c .before .disk-sound .ensures) ∙ not-false _ (c .if1 .left)),
+)
+
+returns-2 : tie.Need-returns-2 Inv-loop μ-loop
+returns-2 c = all-done _ _ _ (c .before .loop .inv .0) (omega arith) (c .before .loop .inv .1)
+
+pub disks-sound-spec : {M : Type 1} → statement M
+disks-sound-spec =
+    tie.close
+    (tie.spec
+    Inv-loop
+    μ-loop
+    loop-holds
+    reserved-capped-requires
+    mul-disk-sound
+    element-copy-out-disk-sound
+    mul-disk-sound-2
+    element-copy-out-disk-sound-2
+    mul-disk-sound-3
+    element-copy-out-disk-sound-3
+    disk-sound-requires
+    returns
+    add-d
+    loop-less
+    loop-again
+    returns-2)

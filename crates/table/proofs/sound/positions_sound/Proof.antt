@@ -1,0 +1,72 @@
+-- `table::sound::positions_sound` meets its contract: the positions passed are at or below their tails. Assumes nothing.
+use Prim.Native.Nat.{_-_, _≤_}
+use mathlib.Core.Bool.{true}
+use mathlib.Core.Path.{_≡_, refl, sym, _∙_}
+use native.Mathlib.Omega.{arith}
+use borrow.Author.Tests.{not-true, not-false}
+use borrow.Author.Needs.{needs}
+use Rattle.model.specs.Below.{allBelow}
+use Rattle.table.specs.Parts.{positionWithin}
+use Rattle.table.proofs.Tests.{all-more, all-stop, all-done}
+use Rattle.table.proofs.sound.positions_sound.Statement.{statement}
+use Rattle.table.proofs.sound.positions_sound.Tie as tie
+
+abbrev Inv-loop : tie.InvT-loop
+Inv-loop disks tails positions d₀ d = (d ≤ disks) × (allBelow (positionWithin tails positions) d ≡ true)
+
+abbrev μ-loop : tie.MeasureT-loop
+μ-loop disks tails positions d₀ d = disks - d
+
+loop-holds : tie.Need-loop-holds Inv-loop μ-loop
+unfolding allBelow
+loop-holds c = (search needs, refl)
+
+mul-position-sound : tie.Need-mul-position-sound Inv-loop μ-loop
+mul-position-sound c = search needs
+
+array-read-position-sound : tie.Need-array-read-position-sound Inv-loop μ-loop
+array-read-position-sound c = search needs
+
+mul-position-sound-2 : tie.Need-mul-position-sound-2 Inv-loop μ-loop
+mul-position-sound-2 c = search needs
+
+array-read-position-sound-2 : tie.Need-array-read-position-sound-2 Inv-loop μ-loop
+array-read-position-sound-2 c = search needs
+
+position-sound-requires : tie.Need-position-sound-requires Inv-loop μ-loop
+position-sound-requires c κs = search needs
+
+returns : tie.Need-returns Inv-loop μ-loop
+unfolding positionWithin
+returns c = all-stop _ _ (c .before .before .before .loop .d) (omega arith) (sym (c .before .position-sound .ensures) ∙ not-true _ (c .if1 .taken))
+
+add-d : tie.Need-add-d Inv-loop μ-loop
+add-d c = search needs
+
+loop-less : tie.Need-loop-less Inv-loop μ-loop
+loop-less c = search needs
+
+loop-again : tie.Need-loop-again Inv-loop μ-loop
+unfolding positionWithin
+loop-again c = (search needs, all-more _ _ (c .before .before .before .loop .inv .1) (sym (c .before .position-sound .ensures) ∙ not-false _ (c .if1 .left)))
+
+returns-2 : tie.Need-returns-2 Inv-loop μ-loop
+returns-2 c = all-done _ _ _ (c .before .loop .inv .0) (omega arith) (c .before .loop .inv .1)
+
+pub positions-sound-spec : {M : Type 1} → statement M
+positions-sound-spec =
+    tie.close
+    (tie.spec
+    Inv-loop
+    μ-loop
+    loop-holds
+    mul-position-sound
+    array-read-position-sound
+    mul-position-sound-2
+    array-read-position-sound-2
+    position-sound-requires
+    returns
+    add-d
+    loop-less
+    loop-again
+    returns-2)

@@ -1,0 +1,199 @@
+// The tests that a state made by the calls passes, but for those of its sizes.
+use crate::room::LIMIT;
+use crate::room::reserved_capped;
+use crate::room::room_for;
+use model::Core;
+use model::Logs;
+use model::Table;
+ghost use mathlib.Core.Path.{_≡_};
+ghost use mathlib.Core.Bool.{_&&_};
+ghost use Prim.Native.Nat.{_+_, _≤_};
+ghost use lib.Dec.{leb, ltb};
+ghost use Rattle.model.specs.Below.{within, allBelow};
+ghost use Rattle.model.specs.State.{limit, places, diskSound, placeSound, checkpointSound};
+ghost use Rattle.table.specs.Parts.{logsOf, coreOf, roomFor, entrySound, endWithin, positionWithin};
+
+// start ≤ position ≤ tail + fill, without the sum, which may not fit a word.
+fn covers(start: u64, tail: u64, fill: u64, position: u64) -> bool
+    ensures { λ r. ⌜ r ≡ within start (tail + fill) position ⌝ }
+{
+    if position < start {
+        return false;
+    }
+    if position <= tail {
+        return true;
+    }
+    position - tail <= fill
+}
+
+// The bounds of one disk's log.
+fn disk_sound(start: u64, tail: u64, fill: u64, reserved: u64, ring: u64) -> bool
+    ensures { λ r. ⌜ r ≡ (leb fill 64 && leb start tail && roomFor start (tail + fill) reserved ring 0) ⌝ }
+{
+    if 64 < fill {
+        return false;
+    }
+    if tail < start {
+        return false;
+    }
+    room_for(start, tail, fill, reserved, ring, 0)
+}
+
+fn disks_sound(disks: usize, ring: u64, logs: Logs, table: Table) -> bool
+    requires { ⌜ disks ≤ 8 ⌝ }
+    ensures { λ r. ⌜ r ≡ allBelow (diskSound (coreOf disks ring logs table)) disks ⌝ }
+{
+    let mut d: usize = 0;
+    while d < disks {
+        let sum = reserved_capped(&table.numbers, &table.disks, &table.reserved, d as u64);
+        if !disk_sound(logs.starts[d], logs.tails[d], logs.fills[d], sum, ring) {
+            return false;
+        }
+        d += 1;
+    }
+    true
+}
+
+// The bounds of one entry. A free place and a transaction without an update have no first position to test.
+fn entry_sound<'a>(
+    disks: usize,
+    starts: &'a [u64; 8],
+    tails: &'a [u64; 8],
+    fills: &'a [u64; 8],
+    number: u64,
+    disk: u64,
+    first: u64,
+    reserved: u64,
+) -> bool
+    requires { ⌜ disks ≤ 8 ⌝ }
+    ensures { λ r. ⌜ r ≡ entrySound disks (logsOf (now (starts .entry)) (now (tails .entry)) (now (fills .entry))) number disk first reserved ⌝ }
+{
+    if number == 0 {
+        return true;
+    }
+    let d = disk as usize;
+    if d >= disks {
+        return false;
+    }
+    if reserved < 2 {
+        return false;
+    }
+    if reserved == 2 {
+        return true;
+    }
+    covers(starts[d], tails[d], fills[d], first)
+}
+
+fn places_sound(disks: usize, ring: u64, logs: Logs, table: Table) -> bool
+    requires { ⌜ disks ≤ 8 ⌝ }
+    ensures { λ r. ⌜ r ≡ allBelow (placeSound (coreOf disks ring logs table)) places ⌝ }
+{
+    let mut i: usize = 0;
+    while i < 16 {
+        if !entry_sound(
+            disks,
+            &logs.starts,
+            &logs.tails,
+            &logs.fills,
+            table.numbers[i],
+            table.disks[i],
+            table.firsts[i],
+            table.reserved[i],
+        ) {
+            return false;
+        }
+        i += 1;
+    }
+    true
+}
+
+// An open or copying state, but for its sizes.
+pub fn serving_bounds(core: Core) -> bool
+    requires { ⌜ core .sizes .disks ≤ 8 ⌝ }
+    ensures { λ r. ⌜ r ≡ (allBelow (diskSound core) (core .sizes .disks) && allBelow (placeSound core) places) ⌝ }
+{
+    let disks = core.sizes.disks as usize;
+    let ring = core.sizes.ring;
+    let logs = core.logs;
+    let table = core.table;
+    if !disks_sound(disks, ring, logs, table) {
+        return false;
+    }
+    places_sound(disks, ring, logs, table)
+}
+
+// Each remembered end lies in its log.
+fn ends_sound(disks: usize, logs: Logs, ends: [u64; 8]) -> bool
+    requires { ⌜ disks ≤ 8 ⌝ }
+    ensures { λ r. ⌜ r ≡ allBelow (endWithin logs ends) disks ⌝ }
+{
+    let mut d: usize = 0;
+    while d < disks {
+        if !covers(logs.starts[d], logs.tails[d], logs.fills[d], ends[d]) {
+            return false;
+        }
+        d += 1;
+    }
+    true
+}
+
+// What a copying state passes beside `serving_bounds`.
+pub fn checkpoint_bounds(core: Core) -> bool
+    requires { ⌜ core .sizes .disks ≤ 8 ⌝ }
+    ensures { λ r. ⌜ r ≡ checkpointSound core ⌝ }
+{
+    if core.epoch >= LIMIT {
+        return false;
+    }
+    let checkpoint = core.checkpoint;
+    if checkpoint.copied > core.sizes.pages {
+        return false;
+    }
+    let disks = core.sizes.disks as usize;
+    let logs = core.logs;
+    let ends = checkpoint.ends;
+    ends_sound(disks, logs, ends)
+}
+
+// A tail, and the next position to replay, which is at or below it.
+fn position_sound(tail: u64, position: u64) -> bool
+    ensures { λ r. ⌜ r ≡ (leb tail limit && leb position tail) ⌝ }
+{
+    if LIMIT < tail {
+        return false;
+    }
+    position <= tail
+}
+
+fn positions_sound(disks: usize, tails: [u64; 8], positions: [u64; 8]) -> bool
+    requires { ⌜ disks ≤ 8 ⌝ }
+    ensures { λ r. ⌜ r ≡ allBelow (positionWithin tails positions) disks ⌝ }
+{
+    let mut d: usize = 0;
+    while d < disks {
+        if !position_sound(tails[d], positions[d]) {
+            return false;
+        }
+        d += 1;
+    }
+    true
+}
+
+// A replaying state, but for its sizes.
+pub fn replay_bounds(core: Core) -> bool
+    requires { ⌜ core .sizes .disks ≤ 8 ⌝ }
+    ensures { λ r. ⌜ r ≡ (ltb (core .epoch) limit && leb (core .replay .page) (core .sizes .pages) && allBelow (positionWithin (core .logs .tails) (core .replay .positions)) (core .sizes .disks)) ⌝ }
+{
+    if core.epoch >= LIMIT {
+        return false;
+    }
+    let replay = core.replay;
+    if replay.page > core.sizes.pages {
+        return false;
+    }
+    let disks = core.sizes.disks as usize;
+    let logs = core.logs;
+    let tails = logs.tails;
+    let positions = replay.positions;
+    positions_sound(disks, tails, positions)
+}
