@@ -84,8 +84,8 @@ Table = Always λ m r. whenServing (m .core .stage) ≡ true → PlainTable m r
 
 -- The log. Each disk holds the records that the calls put there (specs/History.antt: an update's difference is before XOR after,
 -- 000's definition 1), and the reader gives back those records at their positions, and no others. In every stage, so also after lost
--- power: the words of a disk from its start to its tail are the encoding of a stretch of what was put, and what comes after that
--- stretch was buffered.
+-- power: the words of a disk from its start to its tail are the encoding of a stretch of what was put; what was put after that stretch is
+-- lost with the buffer.
 pub record Stored (i : Image) (disk : ℕ) (put : List Record) : Type 0 where
   pub old : List Record
   pub kept : List Record
@@ -125,8 +125,8 @@ LogKept =
 unfoldable pub NeverMalformed : Type 0
 NeverMalformed = Always λ m r. (k : Call) → numberOf (result m k .answer) ≡ 7 → ⊥
 
--- What the state says is true. The sizes, the checkpoint number, the starts and the tails are the device words; an open transaction's first
--- position and its reserved words are those of its update records in the log; a page's copy epoch is the number of the last
+-- What the state says is true. The sizes, the checkpoint number, the starts and the tails are the device words; an open transaction's
+-- first position and its reserved words are those of its update records in the log; a page's copy epoch is the number of the last
 -- checkpoint that copied it: the one under way if that has copied it already, else the last one that ended.
 pub record Truth (m : Machine) : Type 0 where
   pub sizes : sizesOn (m .world .anchor) ≡ m .core .sizes
