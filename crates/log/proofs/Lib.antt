@@ -7,8 +7,7 @@ pub mod Ready
 -- Writing: runs of words set in a list, and runs of words stored in a ring.
 pub mod Words
 pub mod Stores
--- Lists of actions one after the other under one budget; appends.
-pub mod Ran
+-- Appends.
 pub mod Append
 -- For callers: the next call's premises; and the premises can be met.
 pub mod Next

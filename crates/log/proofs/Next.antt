@@ -15,7 +15,8 @@ use Rattle.model.specs.Memory.{bufferAt}
 use Rattle.model.specs.State.{tailOf, fillOf}
 use Rattle.model.specs.Append.{append}
 use Rattle.log.specs.declared.write.Logged.{Logged}
-use Rattle.log.specs.Write.{Within, Lent, withSlices, Ends, Appends}
+use Rattle.device.specs.Ran.{withSlices}
+use Rattle.log.specs.Write.{Within, Lent, Ends, Appends}
 
 -- a finished append: the answer's tail and fill are those of the state after it
 pub appended-lent : {s : Sizes} {l : Logs} {w : World} {disk ring buffer tail fill : ℕ} {before memory after full : List ℕ}

@@ -19,7 +19,8 @@ use Rattle.model.specs.Append.{storeLog, storeAll, flush}
 use Rattle.model.proofs.Parts.{length-part}
 use Rattle.model.proofs.Run.{perform-append, each-append, covered-all}
 use Rattle.model.proofs.Counts.{flush-empty, flush-stores}
-use Rattle.log.specs.Write.{Lent, withSlices, Ran, Laid}
+use Rattle.device.specs.Ran.{Ran, withSlices}
+use Rattle.log.specs.Write.{Lent, Laid}
 
 -- the ring index of the next position
 pub next-index : (tail i ring at next : ℕ) → at ≡ (tail + i) % ring → next ≡ (at + 1) % ring → next ≡ (tail + (i + 1)) % ring

@@ -8,10 +8,11 @@ use Rattle.model.specs.declared.Sizes.{Sizes}
 use Rattle.model.specs.declared.Logs.{Logs}
 use Rattle.model.specs.Sizes.{ringOf, diskAt}
 use Rattle.model.specs.Record.{Record, change}
-use Rattle.model.specs.World.{World, Action, perform, run, made, finishes, each}
+use Rattle.model.specs.World.{World, perform, each}
 use Rattle.model.specs.Memory.{bufferAt}
 use Rattle.model.specs.State.{tailOf, fillOf}
 use Rattle.model.specs.Append.{storeLog, append}
+use Rattle.device.specs.Ran.{Ran, withSlices}
 use Rattle.log.specs.declared.write.Head.{Head}
 use Rattle.log.specs.declared.write.Logged.{Logged}
 
@@ -41,16 +42,6 @@ pub record Lent (s : Sizes) (l : Logs) (w : World) (disk ring buffer tail fill :
   pub same-fill : fillOf l disk ≡ fill
   pub same-logs : w .logs ≡ logs
   pub same-work : w .work ≡ work
-
--- the world with other logs and another work memory
-abbrev pub withSlices : World → List ℕ → List ℕ → World
-withSlices w logs work = record { anchor = w .anchor; pages = w .pages; backups = w .backups; logs = logs; work = work }
-
--- A list of actions, performed as far as the budget goes.
-pub record Ran (budget rest : ℕ) (actions : List Action) (before after : World) (whole : Bool) : Type 0 where
-  pub world : after ≡ run budget actions before
-  pub left : rest ≡ budget - made budget actions
-  pub finished : whole ≡ finishes budget actions
 
 -- Words stored one after the other, the first at position `tail` of the ring whose word 0 is at index `first`.
 unfoldable pub Laid : ℕ → ℕ → ℕ → List ℕ → List ℕ → List ℕ → Type 0

@@ -10,7 +10,8 @@ ghost use Rattle.model.specs.Word.{part};
 ghost use Rattle.model.specs.Record.{close, header, encode};
 ghost use Rattle.model.specs.World.{World};
 ghost use Rattle.model.specs.Append.{flush};
-ghost use Rattle.log.specs.Write.{Within, Encodable, changeOf, Lent, Ran, Laid, Ends, Appends, withSlices};
+ghost use Rattle.device.specs.Ran.{Ran, withSlices};
+ghost use Rattle.log.specs.Write.{Within, Encodable, changeOf, Lent, Laid, Ends, Appends};
 
 // The index in the ring after `at`.
 fn next_in_ring(at: u64, ring: u64) -> u64

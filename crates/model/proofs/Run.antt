@@ -164,6 +164,13 @@ unfolding perform act each
 perform-backups i [] w = refl
 perform-backups i (x ∷ xs) w = rw add-one (perform-backups (suc i) xs (act (store backups i x) w))
 
+pub perform-logs : (i : ℕ) (xs : List ℕ) (w : World)
+    → perform (each (store logs) i xs) w
+    ≡ record { anchor = w .anchor; pages = w .pages; backups = w .backups; logs = sets (w .logs) i xs; work = w .work }
+unfolding perform act each
+perform-logs i [] w = refl
+perform-logs i (x ∷ xs) w = rw add-one (perform-logs (suc i) xs (act (store logs i x) w))
+
 -- Actions keep the length of every list.
 pub record SameLengths (v w : World) : Type 0 where
   pub anchor : length (v .anchor) ≡ length (w .anchor)

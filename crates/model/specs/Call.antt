@@ -1,8 +1,10 @@
 -- The calls with their arguments, and what each gives on any state and any lent slices.
+use mathlib.Core.Path.{_≡_}
 use Prim.Native.Nat.{ℕ}
 use mathlib.Core.List.{List, []}
 use Rattle.model.specs.declared.Sizes.{Sizes}
 use Rattle.model.specs.declared.Core.{Core}
+use Rattle.model.specs.declared.Reply.{Reply}
 use Rattle.model.specs.World.{World}
 use Rattle.model.specs.State.{newCore}
 use Rattle.model.specs.Refusal.{Row, Task, Result, verdict, conclude}
@@ -78,3 +80,8 @@ budgetOf newState = 0
 
 unfoldable pub resultOf : Call → Core → World → Result
 resultOf call c w = conclude (verdict (rowsOf call c w)) (budgetOf call) (taskOf call c w) c w
+
+-- A call of the code, on a state and the words lent to it, gives what the definition says: the answer, the budget that is left, the
+-- state handed back and every lent word.
+unfoldable pub Gives : Call → Core → World → Reply → ℕ → World → Type 0
+Gives call c w reply budget v = record { answer = reply .answer; budget = budget; core = reply .core; world = v } ≡ resultOf call c w

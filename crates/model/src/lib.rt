@@ -104,3 +104,9 @@ pub enum Fault {
     Sound,
     BadRecord { disk: u64, position: u64 },
 }
+
+// What a call hands back beside the lent slices and the budget.
+pub struct Reply {
+    pub answer: Answer,
+    pub core: Core,
+}

@@ -1,0 +1,4 @@
+-- The state's test by stage; a call's rows and task against `Gives`; a disk as it is lent.
+pub mod Passing
+pub mod Verdicts
+pub mod Homes

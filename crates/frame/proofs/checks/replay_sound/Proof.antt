@@ -1,0 +1,24 @@
+-- `frame::checks::replay_sound` meets its contract: the sizes, then the rest of the test. Assumes nothing.
+use mathlib.Core.Path.{refl, sym, _∙_}
+use borrow.Author.Tests.{not-true, not-false}
+use Rattle.model.proofs.Bounds.{bounded}
+use Rattle.table.proofs.Tests.{replay-split}
+use borrow.Author.Needs.{needs}
+use Rattle.frame.proofs.checks.replay_sound.Statement.{statement}
+use Rattle.frame.proofs.checks.replay_sound.Tie as tie
+
+sizes-in-bounds-requires : tie.Need-sizes-in-bounds-requires
+sizes-in-bounds-requires c κs = search needs
+
+returns : tie.Need-returns
+returns c = rw (replay-split (c .before .before .args .core), ← c .before .sizes-in-bounds .ensures, not-true (c .before .sizes-in-bounds .result) (c .if1 .taken)) refl
+
+replay-bounds-requires : tie.Need-replay-bounds-requires
+replay-bounds-requires c κs = bounded _ (sym (c .before .sizes-in-bounds .ensures) ∙ not-false _ (c .if1 .left)) .disks-max
+
+returns-2 : tie.Need-returns-2
+returns-2 c = rw (replay-split (c .before .before .before .args .core), ← c .before .before .sizes-in-bounds .ensures, not-false (c .before .before .sizes-in-bounds .result) (c .before .if1 .left)) (c .replay-bounds .ensures)
+
+pub replay-sound-spec : {M : Type 1} → statement M
+replay-sound-spec =
+    tie.close (tie.spec sizes-in-bounds-requires returns replay-bounds-requires returns-2)

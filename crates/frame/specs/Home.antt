@@ -1,0 +1,27 @@
+-- A disk of a serving state, as the functions of `log` are lent it.
+use mathlib.Core.Path.{_≡_}
+use mathlib.Core.List.{List}
+use mathlib.Core.Bool.{true}
+use Prim.Native.Nat.{ℕ}
+use lib.ListN.{length}
+use Rattle.model.specs.declared.Core.{Core}
+use Rattle.model.specs.Sizes.{logWords}
+use Rattle.model.specs.Memory.{bufferAt, workWords}
+use Rattle.model.specs.State.{tailOf, fillOf, servingSound}
+use Rattle.frame.specs.declared.home.Home.{Home}
+
+-- A serving state, and slices of the lengths that it gives.
+pub record Serves (c : Core) (logs work : List ℕ) : Type 0 where
+  pub state : servingSound c ≡ true
+  pub log-words : length logs ≡ logWords (c .sizes)
+  pub work-words : length work ≡ workWords (c .sizes)
+
+unfoldable pub homeOf : Core → ℕ → Home
+homeOf c disk =
+    record {
+      disk = disk;
+      ring = c .sizes .ring;
+      buffer = bufferAt (c .sizes) disk;
+      tail = tailOf (c .logs) disk;
+      fill = fillOf (c .logs) disk;
+    }

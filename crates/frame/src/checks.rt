@@ -1,0 +1,96 @@
+// The checks that every call but format and restart begin makes first: its stage with the test of the state, the anchor's length, the
+// other lengths.
+use layout::bounds::lengths_right;
+use layout::bounds::sizes_in_bounds;
+use model::Core;
+use model::Sizes;
+use model::Stage;
+use table::sound::checkpoint_bounds;
+use table::sound::replay_bounds;
+use table::sound::serving_bounds;
+ghost use mathlib.Core.Path.{_≡_};
+ghost use mathlib.Core.Bool.{true, false};
+ghost use Rattle.model.specs.Sizes.{sizesInBounds};
+ghost use Rattle.model.specs.State.{servingSound, replaySound, sound};
+ghost use Rattle.model.specs.Causes.{whenShut};
+ghost use Rattle.frame.specs.Checks.{lengthRefusal, firstRefusal};
+
+fn serving_sound(core: Core) -> bool
+    ensures { λ r. ⌜ r ≡ servingSound core ⌝ }
+{
+    if !sizes_in_bounds(core.sizes) {
+        return false;
+    }
+    serving_bounds(core)
+}
+
+fn replay_sound(core: Core) -> bool
+    ensures { λ r. ⌜ r ≡ replaySound core ⌝ }
+{
+    if !sizes_in_bounds(core.sizes) {
+        return false;
+    }
+    replay_bounds(core)
+}
+
+// A state that a call made.
+fn is_sound(core: Core) -> bool
+    ensures { λ r. ⌜ r ≡ sound core ⌝ }
+{
+    let stage = core.stage;
+    match stage {
+        Stage::Shut => true,
+        Stage::Replaying => replay_sound(core),
+        Stage::Open => serving_sound(core),
+        Stage::Copying => {
+            if !serving_sound(core) {
+                return false;
+            }
+            checkpoint_bounds(core)
+        }
+    }
+}
+
+// 2 for a wrong anchor, 5 for another wrong slice, else 0.
+pub fn length_refusal(
+    sizes: Sizes,
+    anchor: usize,
+    pages: usize,
+    backups: usize,
+    logs: usize,
+    work: usize,
+) -> u64
+    requires { ⌜ sizesInBounds sizes ≡ true ⌝ }
+    ensures { λ r. ⌜ r ≡ lengthRefusal sizes anchor pages backups logs work ⌝ }
+{
+    if anchor != 148 {
+        return 2;
+    }
+    if lengths_right(sizes, pages, backups, logs, work) {
+        0
+    } else {
+        5
+    }
+}
+
+// The number of the first of rows 1, 2 and 5 that applies, 0 where none does. A shut state is for no call that asks here.
+pub fn first_refusal(
+    allowed: bool,
+    core: Core,
+    anchor: usize,
+    pages: usize,
+    backups: usize,
+    logs: usize,
+    work: usize,
+) -> u64
+    requires { ⌜ (allowed ≡ true → whenShut (core .stage) ≡ false) ⌝ }
+    ensures { λ r. ⌜ r ≡ firstRefusal allowed core anchor pages backups logs work ⌝ }
+{
+    if !allowed {
+        return 1;
+    }
+    if !is_sound(core) {
+        return 1;
+    }
+    length_refusal(core.sizes, anchor, pages, backups, logs, work)
+}
