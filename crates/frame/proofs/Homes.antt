@@ -9,11 +9,15 @@ use Rattle.model.specs.Sizes.{diskAt, logWords}
 use Rattle.model.specs.World.{World}
 use Rattle.model.specs.Memory.{bufferAt, epochAt, workWords}
 use Rattle.model.specs.State.{endOf}
+use Rattle.model.specs.Causes.{whenServing}
 use Rattle.model.proofs.Bounds.{bounded}
-use Rattle.model.proofs.Store.Rows.{sizes-sound, disk-sound}
+use Rattle.model.proofs.Lengths.{lengths-right}
+use Rattle.model.proofs.Store.Rows.{serving-sound, sizes-sound, disk-sound}
 use Rattle.log.specs.Write.{Within, Lent}
 use Rattle.log.proofs.Scanning.{disk-within}
+use Rattle.frame.specs.declared.home.Home.{Home}
 use Rattle.frame.specs.Home.{Serves, homeOf}
+use Rattle.frame.proofs.Verdicts.{Passed}
 
 pub home-lent : (c : Core) (w : World) (disk : ℕ)
     → Lent (c .sizes) (c .logs) w disk (homeOf c disk .ring) (homeOf c disk .buffer) (homeOf c disk .tail) (homeOf c disk .fill) (w .logs) (w .work)
@@ -34,3 +38,25 @@ home-within c logs work disk serves below =
       fill-small = d .fill;
       end-small = omega (arith, d .limit);
     }
+
+-- what the first checks of a serving call leave
+pub serves-passed : (c : Core) (w : World) → Passed whenServing c w → Serves c (w .logs) (w .work)
+serves-passed c w passed =
+    let lengths = lengths-right (c .sizes) w (passed .lengths) in
+    record { state = serving-sound c (passed .stage) (passed .state); log-words = lengths .logs; work-words = lengths .work }
+
+-- The same of a home that a function answered.
+module _ (c : Core) (disk : ℕ) {h : Home} (e : h ≡ homeOf c disk) where
+  pub lent-there : (w : World) {logs work : List ℕ} → w .logs ≡ logs → w .work ≡ work
+      → Lent (c .sizes) (c .logs) w (h .disk) (h .ring) (h .buffer) (h .tail) (h .fill) logs work
+  unfolding homeOf
+  lent-there w same-logs same-work = rw (e, ← same-logs, ← same-work) (home-lent c w disk)
+
+  pub within-there : (logs work : List ℕ) → Serves c logs work → disk < c .sizes .disks
+      → Within (h .disk) (h .ring) (h .buffer) (h .tail) (h .fill) logs work
+  unfolding homeOf
+  within-there logs work serves below = rw e (home-within c logs work disk serves below)
+
+  pub disk-there : h .disk ≡ disk
+  unfolding homeOf
+  disk-there = rw e refl

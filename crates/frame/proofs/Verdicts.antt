@@ -6,8 +6,9 @@ use Prim.Native.Nat.{ℕ, _-_, _*_, _≤_, min}
 use native.Mathlib.Omega.{arith}
 use lib.Dec.{leb, eqb}
 use lib.ListN.{length}
-use borrow.Author.Tests.{eqb-true, not-true}
+use borrow.Author.Tests.{eqb-true, eq-eqb, ne-eqb}
 use Rattle.model.specs.declared.Stage.{Stage}
+use Rattle.model.specs.declared.Sizes.{Sizes}
 use Rattle.model.specs.declared.Core.{Core}
 use Rattle.model.specs.declared.Answer.the-variants.{Finished}
 use Rattle.model.specs.declared.Reply.{Reply}
@@ -22,13 +23,8 @@ use Rattle.model.specs.Call.{Call, rowsOf, taskOf, budgetOf, resultOf, Gives}
 use Rattle.model.proofs.Booleans.{both}
 use Rattle.model.proofs.Run.{made-le}
 use Rattle.device.specs.Ran.{Ran}
-use Rattle.frame.specs.Checks.{Measures, lengthRefusal, firstRefusal}
+use Rattle.frame.specs.Checks.{lengthRefusal, firstRefusal}
 use Rattle.frame.specs.Settle.{refusedWith, settled, Concludes}
-
--- The lengths of the slices, as the code is handed them.
-pub measured : (w : World)
-    → Measures w (length (w .anchor)) (length (w .pages)) (length (w .backups)) (length (w .logs)) (length (w .work))
-measured w = record { anchor-words = refl; page-words = refl; backup-words = refl; log-words = refl; work-words = refl }
 
 -- What the first checks leave when none applies.
 pub record Passed (allowed : Stage → Bool) (c : Core) (w : World) : Type 0 where
@@ -37,42 +33,56 @@ pub record Passed (allowed : Stage → Bool) (c : Core) (w : World) : Type 0 whe
   pub anchor : length (w .anchor) ≡ anchorWords
   pub lengths : lengthsRight (c .sizes) w ≡ true
 
-module _ (allowed : Stage → Bool) (c : Core) (w : World) (r : ℕ)
-    (first : r ≡ firstRefusal (allowed (c .stage)) c (length (w .anchor)) (length (w .pages)) (length (w .backups)) (length (w .logs)) (length (w .work)))
-    where
-  -- rows 1, 2 and 5, and then the others
-  pub first-verdict : (rest : List Row)
-      → verdict (row 1 (stageForbids allowed c) ∷ row 2 (anchorWrong w) ∷ row 5 (lengthsWrong (c .sizes) w) ∷ rest)
-      ≡ cond (eqb r 0) (verdict rest) (refused r 0 0)
-  unfolding verdict stageForbids anchorWrong lengthsWrong lengthsRight firstRefusal lengthRefusal
-  first-verdict rest =
-      rw first
-      (go (allowed (c .stage) && sound c) (eqb (length (w .anchor)) anchorWords)
-      (eqb (length (w .pages)) (total (c .sizes)) && eqb (length (w .backups)) (2 * total (c .sizes)) && eqb (length (w .logs)) (logWords (c .sizes)) && eqb (length (w .work)) (workWords (c .sizes))))
-    where
-      go : (a b d : Bool)
-          → verdict (row 1 (not a) ∷ row 2 (not b) ∷ row 5 (not d) ∷ rest)
-          ≡ cond (eqb (cond a (cond b (cond d 0 5) 2) 1) 0) (verdict rest) (refused (cond a (cond b (cond d 0 5) 2) 1) 0 0)
-      go false b d = refl
-      go true false d = refl
-      go true true false = refl
-      go true true true = refl
+-- rows 1, 2 and 5 by their tests
+first-tests : (a b d : Bool) (rest : List Row)
+    → verdict (row 1 (not a) ∷ row 2 (not b) ∷ row 5 (not d) ∷ rest)
+    ≡ cond (eqb (cond a (cond b (cond d 0 5) 2) 1) 0) (verdict rest) (refused (cond a (cond b (cond d 0 5) 2) 1) 0 0)
+unfolding verdict
+first-tests false b d rest = refl
+first-tests true false d rest = refl
+first-tests true true false rest = refl
+first-tests true true true rest = refl
 
-  pub first-passed : r ≡ 0 → Passed allowed c w
-  unfolding firstRefusal lengthRefusal lengthsRight
-  first-passed e =
-      go (allowed (c .stage)) (sound c) (eqb (length (w .anchor)) anchorWords)
-      (eqb (length (w .pages)) (total (c .sizes)) && eqb (length (w .backups)) (2 * total (c .sizes)) && eqb (length (w .logs)) (logWords (c .sizes)) && eqb (length (w .work)) (workWords (c .sizes)))
-      refl refl refl refl (sym first ∙ e)
-    where
-      go : (a s b d : Bool) → allowed (c .stage) ≡ a → sound c ≡ s → eqb (length (w .anchor)) anchorWords ≡ b
-          → eqb (length (w .pages)) (total (c .sizes)) && eqb (length (w .backups)) (2 * total (c .sizes)) && eqb (length (w .logs)) (logWords (c .sizes)) && eqb (length (w .work)) (workWords (c .sizes)) ≡ d
-          → _≡_ {A = ℕ} (cond (a && s) (cond b (cond d 0 5) 2) 1) 0 → Passed allowed c w
-      go false s b d p q u v z = absurd (omega (arith, z))
-      go true false b d p q u v z = absurd (omega (arith, z))
-      go true true false d p q u v z = absurd (omega (arith, z))
-      go true true true false p q u v z = absurd (omega (arith, z))
-      go true true true true p q u v z = record { stage = p; state = q; anchor = eqb-true _ _ u; lengths = v }
+-- the four lengths beside the anchor's
+abbrev fourRight : Sizes → World → Bool
+fourRight s w =
+    eqb (length (w .pages)) (total s) && eqb (length (w .backups)) (2 * total s) && eqb (length (w .logs)) (logWords s)
+    && eqb (length (w .work)) (workWords s)
+
+module _ (allowed : Stage → Bool) (c : Core) (w : World) {a : Bool} {r : ℕ} (stage : a ≡ allowed (c .stage))
+    (first : r ≡ firstRefusal a c (length (w .anchor)) (length (w .pages)) (length (w .backups)) (length (w .logs)) (length (w .work)))
+  where
+    first-verdict : (rest : List Row)
+        → verdict (row 1 (stageForbids allowed c) ∷ row 2 (anchorWrong w) ∷ row 5 (lengthsWrong (c .sizes) w) ∷ rest)
+        ≡ cond (eqb r 0) (verdict rest) (refused r 0 0)
+    unfolding stageForbids anchorWrong lengthsWrong lengthsRight firstRefusal lengthRefusal
+    first-verdict rest =
+        rw (first, stage)
+        (first-tests (allowed (c .stage) && sound c) (eqb (length (w .anchor)) anchorWords) (fourRight (c .sizes) w) rest)
+
+    -- one of them applies
+    pub first-refused : (r ≡ 0 → ⊥) → (rest : List Row)
+        → verdict (row 1 (stageForbids allowed c) ∷ row 2 (anchorWrong w) ∷ row 5 (lengthsWrong (c .sizes) w) ∷ rest) ≡ refused r 0 0
+    first-refused some rest = first-verdict rest ∙ rw (ne-eqb r 0 some) refl
+
+    -- none does: the other rows decide
+    pub first-accepted : r ≡ 0 → (rest : List Row)
+        → verdict (row 1 (stageForbids allowed c) ∷ row 2 (anchorWrong w) ∷ row 5 (lengthsWrong (c .sizes) w) ∷ rest) ≡ verdict rest
+    first-accepted none rest = first-verdict rest ∙ rw (eq-eqb r 0 none) refl
+
+    pub first-passed : r ≡ 0 → Passed allowed c w
+    unfolding firstRefusal lengthRefusal lengthsRight
+    first-passed none =
+        go (allowed (c .stage)) (sound c) (eqb (length (w .anchor)) anchorWords) (fourRight (c .sizes) w) refl refl refl refl
+        (rw stage at (sym first ∙ none))
+      where
+        go : (p s b d : Bool) → allowed (c .stage) ≡ p → sound c ≡ s → eqb (length (w .anchor)) anchorWords ≡ b → fourRight (c .sizes) w ≡ d
+            → _≡_ {A = ℕ} (cond (p && s) (cond b (cond d 0 5) 2) 1) 0 → Passed allowed c w
+        go false s b d e f g h z = absurd (omega (arith, z))
+        go true false b d e f g h z = absurd (omega (arith, z))
+        go true true false d e f g h z = absurd (omega (arith, z))
+        go true true true false e f g h z = absurd (omega (arith, z))
+        go true true true true e f g h z = record { stage = e; state = f; anchor = eqb-true _ _ g; lengths = h }
 
 -- A refusal gives what its row says.
 pub refusal-given : (k : Call) (c : Core) (w : World) (number first second : ℕ)

@@ -3,7 +3,8 @@ use mathlib.Core.Path.{_≡_}
 use mathlib.Core.List.{List}
 use mathlib.Core.Bool.{true}
 use Prim.Native.Nat.{ℕ}
-use lib.ListN.{length}
+use lib.ListN.{length, set}
+use Rattle.model.specs.declared.Logs.{Logs}
 use Rattle.model.specs.declared.Core.{Core}
 use Rattle.model.specs.Sizes.{logWords}
 use Rattle.model.specs.Memory.{bufferAt, workWords}
@@ -25,3 +26,7 @@ homeOf c disk =
       tail = tailOf (c .logs) disk;
       fill = fillOf (c .logs) disk;
     }
+
+-- the logs with another tail and fill of one disk
+abbrev pub withDisk : Logs → ℕ → ℕ → ℕ → Logs
+withDisk l disk tail fill = record { starts = l .starts; tails = set (l .tails) disk tail; fills = set (l .fills) disk fill }

@@ -30,7 +30,7 @@ element-copy-out-t8 c = search needs
 
 returns : tie.Need-returns
 unfolding homeOf bufferAt tailOf fillOf
-returns c = rw (c .before .before .total .ensures .0) refl
+returns c = (rw (c .before .before .total .ensures .0) refl, (search needs, search needs, search needs))
 
 pub home-of-spec : {M : Type 1} → statement M
 home-of-spec =

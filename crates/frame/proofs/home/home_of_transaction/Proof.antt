@@ -1,0 +1,41 @@
+-- `frame::home::home_of_transaction` meets its contract: an open transaction has a place, and its disk is one of the state's. Assumes nothing.
+use mathlib.Core.Path.{refl}
+use Prim.Native.Nat.{_<_}
+use native.Mathlib.Omega.{arith}
+use Rattle.model.specs.State.{diskAtPlace}
+use Rattle.model.specs.Transaction.{diskOf}
+use Rattle.model.proofs.Bounds.{bounded}
+use Rattle.model.proofs.Store.Rows.{sizes-sound}
+use Rattle.model.proofs.Store.Accepted.{open-entry, open-below}
+use borrow.Author.Needs.{needs}
+use Rattle.frame.proofs.home.home_of_transaction.Statement.{statement}
+use Rattle.frame.proofs.home.home_of_transaction.Tie as tie
+
+place-of-requires : tie.Need-place-of-requires
+place-of-requires c κs = search needs
+
+mul-disk : tie.Need-mul-disk
+mul-disk c =
+    let at : c .place-of .result < 16 = omega (arith, c .place-of .ensures, open-entry (c .before .before .args .core) (c .before .before .args .number) (c .before .before .pre .0) (c .before .before .pre .1) .at) in
+    search (needs, at)
+
+element-copy-out-disk : tie.Need-element-copy-out-disk
+element-copy-out-disk c =
+    let at : c .place-of .result < 16 = omega (arith, c .place-of .ensures, open-entry (c .before .before .args .core) (c .before .before .args .number) (c .before .before .pre .0) (c .before .before .pre .1) .at) in
+    search (needs, at)
+
+home-of-requires : tie.Need-home-of-requires
+unfolding diskOf diskAtPlace
+home-of-requires c κs =
+    let x = c .before .before .before .args in
+    let b = bounded (x .core .sizes) (sizes-sound (x .core) (c .before .before .before .pre .0)) in
+    let below = open-below (x .core) (x .number) (c .before .before .before .pre .0) (c .before .before .before .pre .1) in
+    (b .pages-max, rw (c .before .place-of .ensures) (omega (arith, below, b .disks-max)))
+
+returns : tie.Need-returns
+unfolding diskOf diskAtPlace
+returns c = (rw (c .home-of .ensures .0, c .before .before .place-of .ensures) refl, c .home-of .ensures .1)
+
+pub home-of-transaction-spec : {M : Type 1} → statement M
+home-of-transaction-spec =
+    tie.close (tie.spec place-of-requires mul-disk element-copy-out-disk home-of-requires returns)

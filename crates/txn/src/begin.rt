@@ -1,0 +1,75 @@
+// Begin: the next number, and the idlest disk with log room.
+use frame::checks::first_refusal;
+use frame::settle::refuse;
+use frame::stages::is_serving;
+use model::Answer;
+use model::Core;
+use model::Reply;
+use table::place::place_of;
+use table::place::put_place;
+use table::room::LIMIT;
+use table::room::idlest;
+ghost use mathlib.Core.Path.{_≡_};
+ghost use Prim.Native.Nat.{_≤_, _<_};
+ghost use Rattle.model.specs.World.{worldOf};
+ghost use Rattle.model.specs.State.{placeOf, limit};
+ghost use Rattle.model.specs.Room.{idlest};
+ghost use Rattle.model.specs.Transaction.{begun};
+ghost use Rattle.model.specs.Call.{begin, Gives};
+
+// The state with one more transaction, at a free place and on a disk with room.
+fn enter(core: Core, place: usize, disk: usize) -> Core
+    requires { ⌜ (place ≡ placeOf (core .table) 0) × (disk ≡ idlest core 2) × (place < 16) × (core .next < limit) ⌝ }
+    ensures { λ r. ⌜ r ≡ begun core ⌝ }
+{
+    let table = put_place(core.table, place, core.next, disk as u64, 0, 2);
+    Core {
+        table,
+        next: core.next + 1,
+        ..core
+    }
+}
+
+pub fn begin(
+    core: Core,
+    anchor: &[u64],
+    pages: &[u64],
+    backups: &[u64],
+    logs: &[u64],
+    work: &[u64],
+) -> Reply
+    ensures { λ r. ⌜ Gives begin core (worldOf (now (anchor .entry)) (now (pages .entry)) (now (backups .entry)) (now (logs .entry)) (now (work .entry))) r 0 (worldOf (now (anchor .entry)) (now (pages .entry)) (now (backups .entry)) (now (logs .entry)) (now (work .entry))) ⌝ }
+{
+    let stage = core.stage;
+    let allowed = is_serving(stage);
+    let refusal = first_refusal(
+        allowed,
+        core,
+        anchor.len(),
+        pages.len(),
+        backups.len(),
+        logs.len(),
+        work.len(),
+    );
+    if refusal != 0 {
+        return refuse(core, refusal);
+    }
+    let place = place_of(core.table, 0);
+    if place >= 16 {
+        return refuse(core, 12);
+    }
+    if core.next >= LIMIT {
+        return refuse(core, 13);
+    }
+    let disk = idlest(core, 2);
+    if disk >= 8 {
+        return refuse(core, 14);
+    }
+    Reply {
+        answer: Answer::Finished {
+            stores: 0,
+            value: core.next,
+        },
+        core: enter(core, place, disk),
+    }
+}

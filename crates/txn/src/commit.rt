@@ -1,0 +1,121 @@
+// Commit: the closing record, and a flush of its disk. The slots are released with the transaction's place in the table.
+use frame::checks::first_refusal;
+use frame::home::Home;
+use frame::home::home_of_transaction;
+use frame::home::with_disk;
+use frame::settle::refuse;
+use frame::settle::settle;
+use frame::stages::is_serving;
+use log::write::append_close;
+use log::write::flush_disk;
+use model::Core;
+use model::Reply;
+use table::place::is_open;
+use table::place::without;
+ghost use mathlib.Core.Path.{_≡_};
+ghost use mathlib.Core.Bool.{true};
+ghost use Prim.Native.Nat.{_+_, _≤_, _<_};
+ghost use lib.ListN.{length};
+ghost use Rattle.model.specs.declared.Sizes.{Sizes};
+ghost use Rattle.model.specs.declared.Logs.{Logs};
+ghost use Rattle.model.specs.World.{World, worldOf};
+ghost use Rattle.model.specs.State.{limit, isOpen};
+ghost use Rattle.model.specs.Transaction.{commitTask};
+ghost use Rattle.model.specs.Call.{commit, Gives};
+ghost use Rattle.device.specs.Ran.{Ran, withSlices};
+ghost use Rattle.log.specs.Write.{Within, Lent};
+ghost use Rattle.frame.specs.Home.{Serves};
+ghost use Rattle.frame.specs.Settle.{Concludes};
+ghost use Rattle.txn.specs.Tasks.{closing};
+
+// Appends the closing record to its disk's log and flushes it; true if all is stored.
+fn store_close(
+    home: Home,
+    number: u64,
+    logs: &mut [u64],
+    work: &mut [u64],
+    budget: &mut u64,
+) -> bool
+    requires { ⌜ Within (home .disk) (home .ring) (home .buffer) (home .tail) (home .fill) (now logs) (now work) ⌝ }
+    requires { ⌜ home .tail + home .fill + 2 ≤ limit ⌝ }
+    ensures { λ r. ⌜ ((s : Sizes) (l : Logs) (w : World) → Lent s l w (home .disk) (home .ring) (home .buffer) (home .tail) (home .fill) (now (logs .entry)) (now (work .entry))
+        → home .disk < length (l .tails) → home .disk < length (l .fills)
+        → Ran (now (budget .entry)) (now (budget .exit)) (closing s l w (home .disk) number) w (withSlices w (now (logs .exit)) (now (work .exit))) r) ⌝ }
+{
+    let disk = home.disk;
+    let ring = home.ring;
+    let buffer = home.buffer;
+    let added = append_close(
+        logs,
+        work,
+        disk,
+        ring,
+        buffer,
+        home.tail,
+        home.fill,
+        2,
+        number,
+        budget,
+    );
+    if !added.finished {
+        return false;
+    }
+    flush_disk(
+        logs,
+        work,
+        disk,
+        ring,
+        buffer,
+        added.tail,
+        added.fill,
+        budget,
+    )
+}
+
+fn close(core: Core, number: u64, logs: &mut [u64], work: &mut [u64], budget: &mut u64) -> Reply
+    requires { ⌜ Serves core (now logs) (now work) × (isOpen (core .table) number ≡ true) ⌝ }
+    ensures { λ r. ⌜ ((w : World) → w .logs ≡ now (logs .entry) → w .work ≡ now (work .entry)
+        → Concludes (now (budget .entry)) (now (budget .exit)) (commitTask core w number) w (withSlices w (now (logs .exit)) (now (work .exit))) r) ⌝ }
+{
+    let before = *budget;
+    let home = home_of_transaction(core, number);
+    let whole = store_close(home, number, logs, work, budget);
+    let next = Core {
+        logs: with_disk(core.logs, home.disk, home.tail + home.fill + 2, 0),
+        table: without(core.table, number),
+        ..core
+    };
+    settle(whole, before, *budget, 0, next)
+}
+
+pub fn commit(
+    core: Core,
+    number: u64,
+    anchor: &[u64],
+    pages: &[u64],
+    backups: &[u64],
+    logs: &mut [u64],
+    work: &mut [u64],
+    budget: &mut u64,
+) -> Reply
+    ensures { λ r. ⌜ Gives (commit number (now (budget .entry))) core (worldOf (now (anchor .entry)) (now (pages .entry)) (now (backups .entry)) (now (logs .entry)) (now (work .entry))) r (now (budget .exit)) (worldOf (now (anchor .entry)) (now (pages .entry)) (now (backups .entry)) (now (logs .exit)) (now (work .exit))) ⌝ }
+{
+    let stage = core.stage;
+    let allowed = is_serving(stage);
+    let refusal = first_refusal(
+        allowed,
+        core,
+        anchor.len(),
+        pages.len(),
+        backups.len(),
+        logs.len(),
+        work.len(),
+    );
+    if refusal != 0 {
+        return refuse(core, refusal);
+    }
+    if !is_open(core.table, number) {
+        return refuse(core, 9);
+    }
+    close(core, number, logs, work, budget)
+}

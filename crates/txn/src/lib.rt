@@ -1,0 +1,5 @@
+// The calls of a transaction but abort: begin, update, read and commit.
+pub mod begin;
+pub mod commit;
+pub mod read;
+pub mod slots;

@@ -1,0 +1,57 @@
+// A slot: whether it is there, and who holds it.
+use layout::places::slot_base;
+use layout::places::word_of;
+use model::Sizes;
+use model::Table;
+use table::place::is_open;
+ghost use mathlib.Core.Path.{_≡_};
+ghost use mathlib.Core.Bool.{not, _&&_};
+ghost use Prim.Native.Nat.{_≤_, _<_};
+ghost use lib.Dec.{eqb};
+ghost use lib.ListN.{length};
+ghost use Rattle.model.specs.Sizes.{slotBase};
+ghost use Rattle.model.specs.Memory.{ownerOf};
+ghost use Rattle.model.specs.State.{inTable, isOpen};
+ghost use Rattle.model.specs.Causes.{slotMissing};
+
+pub fn slot_missing(sizes: Sizes, page: u64, slot: u64) -> bool
+    requires { ⌜ sizes .pages ≤ 64 ⌝ }
+    ensures { λ r. ⌜ r ≡ slotMissing sizes page slot ⌝ }
+{
+    if sizes.pages <= page {
+        return true;
+    }
+    let slots = sizes.slots;
+    let i = page as usize;
+    word_of(slots[i]) <= slot
+}
+
+// Held by a transaction other than this one.
+pub fn is_locked(
+    sizes: Sizes,
+    table: Table,
+    work: &[u64],
+    number: u64,
+    page: u64,
+    slot: u64,
+) -> bool
+    requires { ⌜ (page < 64) × (slot < 65536) × (slotBase sizes page slot < length (now work)) ⌝ }
+    ensures { λ r. ⌜ r ≡ (inTable table (ownerOf sizes (now (work .entry)) page slot) && not (eqb (ownerOf sizes (now (work .entry)) page slot) number)) ⌝ }
+{
+    let at = slot_base(sizes, page, slot) as usize;
+    let owner = work[at];
+    if !is_open(table, owner) {
+        return false;
+    }
+    owner != number
+}
+
+// A reader with a number that is not open; reader 0 has no transaction.
+pub fn reader_missing(table: Table, reader: u64) -> bool
+    ensures { λ r. ⌜ r ≡ (not (eqb reader 0) && not (isOpen table reader)) ⌝ }
+{
+    if reader == 0 {
+        return false;
+    }
+    !is_open(table, reader)
+}
