@@ -2,10 +2,9 @@
 use crate::slots::is_locked;
 use crate::slots::reader_missing;
 use crate::slots::slot_missing;
+use crate::slots::slot_part;
 use frame::checks::first_refusal;
 use frame::stages::is_serving;
-use layout::places::slot_base;
-use layout::places::word_of;
 use model::Answer;
 use model::Core;
 ghost use mathlib.Core.Path.{_≡_};
@@ -100,9 +99,5 @@ pub fn read<'a>(
     if number != 0 {
         return &pages[0..0];
     }
-    let at = slot_base(core.sizes, page, slot) as usize;
-    let widths = core.sizes.widths;
-    let i = page as usize;
-    let width = word_of(widths[i]) as usize;
-    &pages[at..at + width]
+    slot_part(core.sizes, page, slot, pages)
 }

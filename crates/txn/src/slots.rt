@@ -6,10 +6,11 @@ use model::Table;
 use table::place::is_open;
 ghost use mathlib.Core.Path.{_≡_};
 ghost use mathlib.Core.Bool.{not, _&&_};
-ghost use Prim.Native.Nat.{_≤_, _<_};
+ghost use Prim.Native.Nat.{_+_, _≤_, _<_};
 ghost use lib.Dec.{eqb};
 ghost use lib.ListN.{length};
-ghost use Rattle.model.specs.Sizes.{slotBase};
+ghost use Rattle.model.specs.Word.{part};
+ghost use Rattle.model.specs.Sizes.{widthIn, slotBase};
 ghost use Rattle.model.specs.Memory.{ownerOf};
 ghost use Rattle.model.specs.State.{inTable, isOpen};
 ghost use Rattle.model.specs.Causes.{slotMissing};
@@ -54,4 +55,23 @@ pub fn reader_missing(table: Table, reader: u64) -> bool
         return false;
     }
     !is_open(table, reader)
+}
+
+pub fn slot_width(sizes: Sizes, page: u64) -> usize
+    requires { ⌜ page < 64 ⌝ }
+    ensures { λ r. ⌜ (r ≡ widthIn sizes page) × (r < 256) ⌝ }
+{
+    let widths = sizes.widths;
+    let i = page as usize;
+    word_of(widths[i]) as usize
+}
+
+// The slot's words in the page memory.
+pub fn slot_part<'a>(sizes: Sizes, page: u64, slot: u64, pages: &'a [u64]) -> &'a [u64]
+    requires { ⌜ (page < 64) × (slot < 65536) × (slotBase sizes page slot + widthIn sizes page ≤ length (now pages)) ⌝ }
+    ensures { λ r. ⌜ now r ≡ part (slotBase sizes page slot) (widthIn sizes page) (now (pages .entry)) ⌝ }
+{
+    let at = slot_base(sizes, page, slot) as usize;
+    let width = slot_width(sizes, page);
+    &pages[at..at + width]
 }
