@@ -27,7 +27,7 @@ sets-more l at words i h =
     sym (rw (add-one, take-suc words i 0, sets-last, e))
 
 -- words that were set are the part that they make up
-part-set : (l : List ℕ) (at : ℕ) (words : List ℕ) → at + length words ≤ length l → part at (length words) (sets l at words) ≡ words
+pub part-set : (l : List ℕ) (at : ℕ) (words : List ℕ) → at + length words ≤ length l → part at (length words) (sets l at words) ≡ words
 unfolding part
 part-set l at words fits =
     rw (sets-eq words l at fits, append-assoc (take at l) words, drop-at (take at l) (words ++ drop (at + length words) l) at (length-take-le at l (omega arith)))

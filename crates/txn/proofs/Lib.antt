@@ -3,3 +3,5 @@ pub mod Beginning
 pub mod Committing
 pub mod SlotBounds
 pub mod Reading
+pub mod Differences
+pub mod Updating

@@ -23,9 +23,12 @@ use Rattle.frame.specs.Checks.{firstRefusal, verdictOf}
 use Rattle.frame.proofs.Verdicts.{first-refused, first-accepted}
 use Rattle.txn.proofs.SlotBounds.{There, slot-there}
 
--- a verdict by the number 0
+-- a verdict by its number
 pub taken-number : {v : Verdict} {r : ℕ} → v ≡ verdictOf r → r ≡ 0 → v ≡ accepted
 taken-number {r} e none = e ∙ rw (eq-eqb r 0 none) refl
+
+pub refused-number : {v : Verdict} {r : ℕ} → v ≡ verdictOf r → (r ≡ 0 → ⊥) → v ≡ refused r 0 0
+refused-number {r} e some = e ∙ rw (ne-eqb r 0 some) refl
 
 module _ (c : Core) (w : World) (reader page slot : ℕ) where
   -- the rows after the first three

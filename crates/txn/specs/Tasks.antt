@@ -1,14 +1,52 @@
 -- The part of a task that a function does, where it is lent a part of the state.
-use mathlib.Core.List.{List, _++_}
-use Prim.Native.Nat.{ℕ}
+use mathlib.Core.Path.{_≡_}
+use mathlib.Core.List.{List, [], _∷_, _++_}
+use mathlib.Core.Bool.{true, false}
+use Prim.Native.Nat.{ℕ, _*_}
+use lib.ListN.{length}
 use Rattle.model.specs.declared.Sizes.{Sizes}
 use Rattle.model.specs.declared.Logs.{Logs}
-use Rattle.model.specs.Record.{encode, close, commitKind}
-use Rattle.model.specs.World.{World, Action, perform}
+use Rattle.model.specs.declared.Core.{Core}
+use Rattle.model.specs.Word.{xors, part}
+use Rattle.model.specs.Sizes.{widthIn, total}
+use Rattle.model.specs.Record.{encode, close, wordsOf, updateKind, commitKind}
+use Rattle.model.specs.World.{World, Action, write, pages, work, each, perform}
+use Rattle.model.specs.State.{isOpen}
+use Rattle.model.specs.Room.{hasRoom}
+use Rattle.model.specs.Causes.{slotMissing}
 use Rattle.model.specs.Append.{Appended, append, flush}
+use Rattle.model.specs.Transaction.{diskOf}
+use Rattle.device.specs.Ran.{Ran}
+use Rattle.log.specs.declared.write.Head.{Head}
+use Rattle.log.specs.declared.write.Logged.{Logged}
+use Rattle.log.specs.Write.{changeOf}
+use Rattle.frame.specs.Home.{Serves, withDisk}
 
 -- "closing record, flush": a commit's actions, of any sizes and logs
 unfoldable pub closing : Sizes → Logs → World → ℕ → ℕ → List Action
 closing s l w disk number =
     let added : Appended = append s l (w .work) disk (encode (close commitKind number)) in
     added .actions ++ flush s (added .logs) (perform (added .actions) w .work) disk
+
+-- the world with other pages, logs and work memory
+abbrev pub withMemory : World → List ℕ → List ℕ → List ℕ → World
+withMemory w p l k = record { anchor = w .anchor; pages = p; backups = w .backups; logs = l; work = k }
+
+-- What the checks of an update leave to its work.
+pub record Changes (c : Core) (number page slot : ℕ) (value p l k : List ℕ) : Type 0 where
+  pub serves : Serves c l k
+  pub opened : isOpen (c .table) number ≡ true
+  pub there : slotMissing (c .sizes) page slot ≡ false
+  pub width : length value ≡ widthIn (c .sizes) page
+  pub page-words : length p ≡ total (c .sizes)
+  pub room : hasRoom c (2 * wordsOf updateKind (widthIn (c .sizes) page)) (diskOf c number) ≡ true
+
+-- An update's actions on the logs and the memories: the record appended, the slot set, its owner set; and the logs' part of the state.
+unfoldable pub replacing : Sizes → Logs → World → ℕ → Head → ℕ → List ℕ → Appended
+replacing s l w disk head at value =
+    let added : Appended = append s l (w .work) disk (encode (changeOf head (xors (part at (length value) (w .pages)) value))) in
+    record { actions = added .actions ++ each (write pages) at value ++ write work at (head .number) ∷ []; logs = added .logs }
+
+pub record Replaced (budget rest : ℕ) (s : Sizes) (l : Logs) (disk : ℕ) (head : Head) (at : ℕ) (value : List ℕ) (before after : World) (r : Logged) : Type 0 where
+  pub ran : Ran budget rest (replacing s l before disk head at value .actions) before after (r .finished)
+  pub state : r .finished ≡ true → replacing s l before disk head at value .logs ≡ withDisk l disk (r .tail) (r .fill)

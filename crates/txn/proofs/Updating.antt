@@ -1,0 +1,147 @@
+-- Update: its rows by the tests of the code, and its task.
+use mathlib.Core.Path.{_≡_, refl, sym, ap, _∙_}
+use mathlib.Core.List.{List, [], _∷_}
+use mathlib.Core.Bool.{Bool, true, false, not, _&&_}
+use Prim.Native.Nat.{ℕ, _+_, _*_, _≤_, _<_}
+use native.Mathlib.Omega.{arith}
+use lib.Dec.{eqb}
+use lib.ListN.{length}
+use borrow.Author.Tests.{eq-eqb, ne-eqb, eqb-true, not-false}
+use Rattle.model.specs.declared.Logs.{Logs}
+use Rattle.model.specs.declared.Table.{Table}
+use Rattle.model.specs.declared.Core.{Core}
+use Rattle.model.specs.declared.Reply.{Reply}
+use Rattle.model.specs.Word.{xors, part}
+use Rattle.model.specs.Sizes.{widthIn, slotBase, total}
+use Rattle.model.specs.Record.{encode, wordsOf, updateKind}
+use Rattle.model.specs.World.{World}
+use Rattle.model.specs.Memory.{ownerAt, ownerOf, bufferAt, epochAt, workWords, epochOf}
+use Rattle.model.specs.State.{limit, endOf, inTable, isOpen, placeOf, reservedAt, servingSound, withLog}
+use Rattle.model.specs.Room.{hasRoom}
+use Rattle.model.specs.Refusal.{Row, row, verdict, accepted, refused}
+use Rattle.model.specs.Causes.{whenServing, lengthsWrong, slotMissing, notOpen, valueWrong, locked}
+use Rattle.model.specs.Append.{append}
+use Rattle.model.specs.Transaction.{diskOf, slotWords, updateRecord, updated, updateRows, updateTask}
+use Rattle.model.proofs.Lengths.{lengths-right}
+use Rattle.model.proofs.Verdict.{row-passed}
+use Rattle.model.proofs.Store.Rows.{serving-row, serving-sound, sizes-sound, disk-sound}
+use Rattle.model.proofs.Store.Accepted.{open-entry, open-below}
+use Rattle.log.specs.declared.write.Head.{Head}
+use Rattle.log.specs.declared.write.Logged.{Logged}
+use Rattle.log.specs.Write.{Encodable}
+use Rattle.log.proofs.Words.{change-length}
+use Rattle.frame.specs.Checks.{firstRefusal, verdictOf}
+use Rattle.frame.specs.declared.home.Home.{Home}
+use Rattle.frame.specs.Home.{homeOf, withDisk}
+use Rattle.frame.specs.Settle.{settled, Concludes}
+use Rattle.frame.proofs.Verdicts.{first-refused, first-accepted, task-settled}
+use Rattle.txn.specs.Tasks.{Changes, replacing, Replaced}
+use Rattle.txn.proofs.SlotBounds.{There, slot-there}
+use Rattle.txn.proofs.Differences.{difference-length}
+
+-- The value is as wide as the slot, or not.
+pub width-right : {n m k : ℕ} → n ≡ m → k ≡ n → eqb k m ≡ true
+width-right {n} {m} {k} e same = eq-eqb k m (same ∙ e)
+
+pub width-wrong : {n m k : ℕ} → n ≡ m → (k ≡ n → ⊥) → eqb k m ≡ false
+width-wrong {n} {m} {k} e other = ne-eqb k m (λ z. other (z ∙ sym e))
+
+module _ (c : Core) (w : World) (number page slot : ℕ) (value : List ℕ) where
+  -- the rows after the first three, by their tests
+  abbrev laterRows : Bool → Bool → Bool → Bool → Bool → List Row
+  laterRows missing opened wide locks room =
+      row 8 missing ∷ row 9 (not opened) ∷ row 10 (not wide) ∷ row 11 locks ∷ row 14 (not room) ∷ []
+
+  abbrev isLocked : Bool
+  isLocked = inTable (c .table) (ownerOf (c .sizes) (w .work) page slot) && not (eqb (ownerOf (c .sizes) (w .work) page slot) number)
+
+  abbrev roomThere : Bool
+  roomThere = hasRoom c (2 * wordsOf updateKind (widthIn (c .sizes) page)) (diskOf c number)
+
+  module _ {a : Bool} {r : ℕ} (stage : a ≡ whenServing (c .stage))
+      (first : r ≡ firstRefusal a c (length (w .anchor)) (length (w .pages)) (length (w .backups)) (length (w .logs)) (length (w .work)))
+    where
+      pub update-refused : (r ≡ 0 → ⊥) → verdict (updateRows c w number page slot value) ≡ verdictOf r
+      unfolding updateRows notOpen valueWrong locked
+      update-refused some =
+          first-refused whenServing c w stage first some
+          (laterRows (slotMissing (c .sizes) page slot) (isOpen (c .table) number) (eqb (length value) (widthIn (c .sizes) page)) isLocked roomThere)
+          ∙ rw (ne-eqb r 0 some) refl
+
+      pub update-verdict : r ≡ 0 → {missing opened wide locks room : Bool} → slotMissing (c .sizes) page slot ≡ missing
+          → isOpen (c .table) number ≡ opened → eqb (length value) (widthIn (c .sizes) page) ≡ wide → isLocked ≡ locks → roomThere ≡ room
+          → verdict (updateRows c w number page slot value) ≡ verdict (laterRows missing opened wide locks room)
+      unfolding updateRows notOpen valueWrong locked
+      update-verdict none e8 e9 e10 e11 e14 =
+          first-accepted whenServing c w stage first none
+          (laterRows (slotMissing (c .sizes) page slot) (isOpen (c .table) number) (eqb (length value) (widthIn (c .sizes) page)) isLocked roomThere)
+          ∙ rw (e8, e9, e10, e11, e14) refl
+
+  -- what the rows leave to the work when none applies
+  pub update-taken : verdict (updateRows c w number page slot value) ≡ accepted → Changes c number page slot value (w .pages) (w .logs) (w .work)
+  unfolding updateRows lengthsWrong notOpen valueWrong
+  update-taken ok =
+      let r1 = row-passed _ _ ok in
+      let r2 = row-passed _ _ (r1 .1) in
+      let r5 = row-passed _ _ (r2 .1) in
+      let r8 = row-passed _ _ (r5 .1) in
+      let r9 = row-passed _ _ (r8 .1) in
+      let r10 = row-passed _ _ (r9 .1) in
+      let r11 = row-passed _ _ (r10 .1) in
+      let r14 = row-passed _ _ (r11 .1) in
+      let serving = serving-row c (r1 .0) in
+      let lengths = lengths-right (c .sizes) w (not-false _ (r5 .0)) in
+      record {
+        serves = record { state = serving-sound c (serving .0) (serving .1); log-words = lengths .logs; work-words = lengths .work };
+        opened = not-false _ (r9 .0);
+        there = r8 .0;
+        width = eqb-true _ _ (not-false _ (r10 .0));
+        page-words = lengths .pages;
+        room = not-false _ (r14 .0);
+      }
+
+-- The slot is there; its record can be encoded; its words and its owner lie in their memories.
+module _ {c : Core} {number page slot : ℕ} {value p l k : List ℕ} (ok : Changes c number page slot value p l k) where
+  pub changes-slot : There (c .sizes) page slot
+  changes-slot = slot-there (c .sizes) page slot (sizes-sound c (ok .serves .state)) (ok .there)
+
+  pub changes-encodable : {epoch : ℕ}
+      → Encodable (record { kind = updateKind; page = page; slot = slot; number = number; epoch = epoch }) (length value)
+  changes-encodable =
+      record {
+        kind-small = omega arith;
+        page-small = changes-slot .page-small;
+        slot-small = changes-slot .slot-small;
+        width-small = omega (arith, changes-slot .width-max, ok .width);
+      }
+
+  pub changes-pages : slotBase (c .sizes) page slot + length value ≤ length p
+  changes-pages = omega (arith, changes-slot .end, ok .width, ok .page-words)
+
+  pub changes-owner : slotBase (c .sizes) page slot < length k
+  unfolding workWords epochAt bufferAt
+  changes-owner = omega (arith, changes-slot .end, changes-slot .width-min, ok .serves .work-words)
+
+-- An open transaction's log ends, and its reserved words are, below the bound of positions.
+module _ (c : Core) (number : ℕ) (ok : servingSound c ≡ true) (opened : isOpen (c .table) number ≡ true) where
+  pub home-low : {h : Home} → h ≡ homeOf c (diskOf c number) → h .tail + h .fill ≤ limit
+  unfolding homeOf endOf
+  home-low e = rw e (omega (arith, disk-sound c (diskOf c number) ok (open-below c number ok opened) .limit))
+
+  pub reserved-low : reservedAt (c .table) (placeOf (c .table) number) ≤ limit
+  reserved-low = omega (arith, open-entry c number ok opened .on, disk-sound c (diskOf c number) ok (open-below c number ok opened) .limit)
+
+-- The task of an update, settled.
+pub update-settled : (c : Core) (w v : World) (number page slot : ℕ) (value : List ℕ) {h : Home} {head : Head} {at budget rest : ℕ} {r : Logged}
+    {reply : Reply} {l : Logs} {t : Table} → length value ≡ widthIn (c .sizes) page → slotBase (c .sizes) page slot + length value ≤ length (w .pages)
+    → h ≡ homeOf c (diskOf c number)
+    → head ≡ record { kind = updateKind; page = page; slot = slot; number = number; epoch = epochOf (c .sizes) (w .work) page }
+    → at ≡ slotBase (c .sizes) page slot → Replaced budget rest (c .sizes) (c .logs) (h .disk) head at value w v r
+    → l ≡ withDisk (c .logs) (h .disk) (r .tail) (r .fill) → t ≡ updated c number (3 + length value)
+    → reply ≡ settled (r .finished) budget rest 0 (withLog c l t) → Concludes budget rest (updateTask c w number page slot value) w v reply
+unfolding updateTask replacing homeOf ownerAt updateRecord slotWords
+update-settled c w v number page slot value {r} {l} {t} wide fits home head at did logs table reply =
+    let words = change-length updateKind page slot number (epochOf (c .sizes) (w .work) page) (xors (part (slotBase (c .sizes) page slot) (length value) (w .pages)) value) ∙ ap (3 +_) (difference-length (slotBase (c .sizes) page slot) value (w .pages) fits) in
+    task-settled {whole = r .finished} {core = withLog c l t} (updateTask c w number page slot value) (rw (home, head, at, wide) at (did .ran)) reply
+    (λ finished. rw (logs, table, ← did .state finished, home, head, at, wide)
+    (ap (λ (n : ℕ). withLog c (append (c .sizes) (c .logs) (w .work) (diskOf c number) (encode (updateRecord c w number page slot value)) .logs) (updated c number n)) (sym (rw wide at words))))

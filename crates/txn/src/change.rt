@@ -1,0 +1,166 @@
+// The work of an update: its record appended, the slot changed, its owner set.
+use crate::slots::page_epoch;
+use frame::home::Home;
+use frame::home::home_of_transaction;
+use frame::home::with_disk;
+use frame::settle::settle;
+use layout::places::slot_base;
+use log::write::Head;
+use log::write::Logged;
+use log::write::append_change;
+use model::Core;
+use model::Reply;
+use model::Table;
+use table::place::place_of;
+use table::place::put_place;
+use words::copy_words;
+use words::difference;
+ghost use mathlib.Core.Path.{_≡_};
+ghost use mathlib.Core.Bool.{true, cond};
+ghost use Prim.Native.Nat.{_+_, _≤_, _<_};
+ghost use lib.Dec.{ltb};
+ghost use lib.ListN.{length, set};
+ghost use lib.Seq.{sets};
+ghost use Rattle.model.specs.declared.Sizes.{Sizes};
+ghost use Rattle.model.specs.declared.Logs.{Logs};
+ghost use Rattle.model.specs.Word.{xors, part};
+ghost use Rattle.model.specs.Record.{encode};
+ghost use Rattle.model.specs.World.{World};
+ghost use Rattle.model.specs.Memory.{epochOf, workWords};
+ghost use Rattle.model.specs.State.{isOpen, servingSound};
+ghost use Rattle.model.specs.Transaction.{diskOf, updated, updateTask};
+ghost use Rattle.device.specs.Ran.{withSlices};
+ghost use Rattle.log.specs.Write.{Within, Encodable, changeOf, Lent, Appends, Ends};
+ghost use Rattle.frame.specs.Home.{homeOf};
+ghost use Rattle.frame.specs.Settle.{Concludes};
+ghost use Rattle.txn.specs.Tasks.{withMemory, Changes, Replaced};
+
+// Appends a change whose difference is that of the slot at `at` in the page memory to its new value.
+fn log_change(
+    home: Home,
+    head: Head,
+    pages: &[u64],
+    at: usize,
+    value: &[u64],
+    logs: &mut [u64],
+    work: &mut [u64],
+    budget: &mut u64,
+) -> Logged
+    requires { ⌜ Within (home .disk) (home .ring) (home .buffer) (home .tail) (home .fill) (now logs) (now work) × Encodable head (length (now value)) × (at + length (now value) ≤ length (now pages)) ⌝ }
+    ensures { λ r. ⌜ ((s : Sizes) (l : Logs) (w : World) → Lent s l w (home .disk) (home .ring) (home .buffer) (home .tail) (home .fill) (now (logs .entry)) (now (work .entry))
+        → Appends (now (budget .entry)) (now (budget .exit)) s l (home .disk)
+        (encode (changeOf head (xors (part at (length (now (value .entry))) (now (pages .entry))) (now (value .entry))))) w
+        (withSlices w (now (logs .exit)) (now (work .exit))) r) ⌝ }
+    ensures { λ r. ⌜ Ends (home .tail) (home .fill) (3 + length (now (value .entry))) r ⌝ }
+{
+    let n = value.len();
+    let mut diff = [0u64; 32];
+    difference(&mut diff, 0, pages, at, value);
+    append_change(
+        logs,
+        work,
+        home.disk,
+        home.ring,
+        home.buffer,
+        home.tail,
+        home.fill,
+        head,
+        &diff[..n],
+        budget,
+    )
+}
+
+// Sets a slot's words, and its owner.
+fn set_slot(pages: &mut [u64], work: &mut [u64], at: usize, value: &[u64], number: u64)
+    requires { ⌜ (at + length (now value) ≤ length (now pages)) × (at < length (now work)) ⌝ }
+    ensures { λ _. ⌜ (now (pages .exit) ≡ sets (now (pages .entry)) at (now (value .entry))) × (now (work .exit) ≡ set (now (work .entry)) at number) ⌝ }
+{
+    let n = value.len();
+    copy_words(pages, at, value, 0, n);
+    work[at] = number;
+}
+
+// Both, the second only if the first is not cut.
+fn log_and_set(
+    home: Home,
+    head: Head,
+    at: usize,
+    value: &[u64],
+    pages: &mut [u64],
+    logs: &mut [u64],
+    work: &mut [u64],
+    budget: &mut u64,
+) -> Logged
+    requires { ⌜ Within (home .disk) (home .ring) (home .buffer) (home .tail) (home .fill) (now logs) (now work) × Encodable head (length (now value)) × (at + length (now value) ≤ length (now pages)) × (at < length (now work)) ⌝ }
+    ensures { λ r. ⌜ ((s : Sizes) (l : Logs) (w : World) → Lent s l w (home .disk) (home .ring) (home .buffer) (home .tail) (home .fill) (now (logs .entry)) (now (work .entry)) → w .pages ≡ now (pages .entry)
+        → Replaced (now (budget .entry)) (now (budget .exit)) s l (home .disk) head at (now (value .entry)) w (withMemory w (now (pages .exit)) (now (logs .exit)) (now (work .exit))) r) ⌝ }
+{
+    let added = log_change(home, head, pages, at, value, logs, work, budget);
+    if !added.finished {
+        return added;
+    }
+    set_slot(pages, work, at, value, head.number);
+    added
+}
+
+// Where a transaction's first update record is: the one that it has, else the log's end.
+fn first_position(reserved: u64, first: u64, end: u64) -> u64
+    ensures { λ r. ⌜ r ≡ cond (ltb 2 reserved) first end ⌝ }
+{
+    if 2 < reserved { first } else { end }
+}
+
+// The table with the words of one more update of a transaction.
+fn updated_table(core: Core, number: u64, home: Home, words: u64) -> Table
+    requires { ⌜ (servingSound core ≡ true) × (isOpen (core .table) number ≡ true) × (words ≤ 64) × (home ≡ homeOf core (diskOf core number)) ⌝ }
+    ensures { λ r. ⌜ r ≡ updated core number words ⌝ }
+{
+    let table = core.table;
+    let place = place_of(table, number);
+    let reserved = table.reserved[place];
+    let first = first_position(reserved, table.firsts[place], home.tail + home.fill);
+    put_place(table, place, number, home.disk, first, reserved + words)
+}
+
+// What a record of the transaction says beside its difference.
+fn head_of(core: Core, number: u64, page: u64, slot: u64, work: &[u64]) -> Head
+    requires { ⌜ (core .sizes .pages ≤ 64) × (core .sizes .disks ≤ 8) × (page < 64) × (length (now work) ≡ workWords (core .sizes)) ⌝ }
+    ensures { λ r. ⌜ r ≡ record { kind = 0; page = page; slot = slot; number = number; epoch = epochOf (core .sizes) (now (work .entry)) page } ⌝ }
+{
+    Head {
+        kind: 0,
+        page,
+        slot,
+        number,
+        epoch: page_epoch(core.sizes, work, page),
+    }
+}
+
+pub fn change_slot(
+    core: Core,
+    number: u64,
+    page: u64,
+    slot: u64,
+    value: &[u64],
+    pages: &mut [u64],
+    logs: &mut [u64],
+    work: &mut [u64],
+    budget: &mut u64,
+) -> Reply
+    requires { ⌜ Changes core number page slot (now value) (now pages) (now logs) (now work) ⌝ }
+    ensures { λ r. ⌜ ((w : World) → w .pages ≡ now (pages .entry) → w .logs ≡ now (logs .entry) → w .work ≡ now (work .entry)
+        → Concludes (now (budget .entry)) (now (budget .exit)) (updateTask core w number page slot (now (value .entry))) w
+        (withMemory w (now (pages .exit)) (now (logs .exit)) (now (work .exit))) r) ⌝ }
+{
+    let before = *budget;
+    let home = home_of_transaction(core, number);
+    let head = head_of(core, number, page, slot, work);
+    let at = slot_base(core.sizes, page, slot) as usize;
+    let added = log_and_set(home, head, at, value, pages, logs, work, budget);
+    let next = Core {
+        logs: with_disk(core.logs, home.disk, added.tail, added.fill),
+        table: updated_table(core, number, home, 3 + value.len() as u64),
+        ..core
+    };
+    settle(added.finished, before, *budget, 0, next)
+}

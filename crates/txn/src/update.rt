@@ -1,0 +1,121 @@
+// Update: its checks, then the change.
+use crate::change::change_slot;
+use crate::slots::is_locked;
+use crate::slots::slot_missing;
+use crate::slots::slot_width;
+use frame::checks::first_refusal;
+use frame::home::home_of_transaction;
+use frame::settle::refuse;
+use frame::stages::is_serving;
+use model::Core;
+use model::Reply;
+use table::place::is_open;
+use table::room::has_room;
+ghost use mathlib.Core.Path.{_≡_};
+ghost use mathlib.Core.Bool.{true};
+ghost use Prim.Native.Nat.{_*_, _<_};
+ghost use Rattle.model.specs.Sizes.{widthIn};
+ghost use Rattle.model.specs.Record.{wordsOf, updateKind};
+ghost use Rattle.model.specs.World.{worldOf};
+ghost use Rattle.model.specs.State.{isOpen, servingSound};
+ghost use Rattle.model.specs.Room.{hasRoom};
+ghost use Rattle.model.specs.Refusal.{verdict};
+ghost use Rattle.model.specs.Transaction.{diskOf, updateRows};
+ghost use Rattle.model.specs.Call.{update, Gives};
+ghost use Rattle.frame.specs.Checks.{verdictOf};
+
+// The disk of an open transaction has log room for an update and for its compensation.
+fn has_update_room(core: Core, number: u64, page: u64) -> bool
+    requires { ⌜ (servingSound core ≡ true) × (isOpen (core .table) number ≡ true) × (page < 64) ⌝ }
+    ensures { λ r. ⌜ r ≡ hasRoom core (2 * wordsOf updateKind (widthIn (core .sizes) page)) (diskOf core number) ⌝ }
+{
+    let home = home_of_transaction(core, number);
+    let width = slot_width(core.sizes, page) as u64;
+    has_room(
+        home.ring,
+        core.logs,
+        core.table,
+        2 * (3 + width),
+        home.disk as usize,
+    )
+}
+
+// The number that an update is refused with, 0 if it is taken.
+fn update_refusal(
+    core: Core,
+    number: u64,
+    page: u64,
+    slot: u64,
+    value: &[u64],
+    anchor: &[u64],
+    pages: &[u64],
+    backups: &[u64],
+    logs: &[u64],
+    work: &[u64],
+) -> u64
+    ensures { λ r. ⌜ verdict (updateRows core (worldOf (now (anchor .entry)) (now (pages .entry)) (now (backups .entry)) (now (logs .entry)) (now (work .entry))) number page slot (now (value .entry))) ≡ verdictOf r ⌝ }
+{
+    let stage = core.stage;
+    let allowed = is_serving(stage);
+    let refusal = first_refusal(
+        allowed,
+        core,
+        anchor.len(),
+        pages.len(),
+        backups.len(),
+        logs.len(),
+        work.len(),
+    );
+    if refusal != 0 {
+        return refusal;
+    }
+    if slot_missing(core.sizes, page, slot) {
+        return 8;
+    }
+    if !is_open(core.table, number) {
+        return 9;
+    }
+    if value.len() != slot_width(core.sizes, page) {
+        return 10;
+    }
+    if is_locked(core.sizes, core.table, work, number, page, slot) {
+        return 11;
+    }
+    if !has_update_room(core, number, page) {
+        return 14;
+    }
+    0
+}
+
+pub fn update(
+    core: Core,
+    number: u64,
+    page: u64,
+    slot: u64,
+    value: &[u64],
+    anchor: &[u64],
+    pages: &mut [u64],
+    backups: &[u64],
+    logs: &mut [u64],
+    work: &mut [u64],
+    budget: &mut u64,
+) -> Reply
+    ensures { λ r. ⌜ Gives (update number page slot (now (value .entry)) (now (budget .entry))) core (worldOf (now (anchor .entry)) (now (pages .entry)) (now (backups .entry)) (now (logs .entry)) (now (work .entry))) r (now (budget .exit)) (worldOf (now (anchor .entry)) (now (pages .exit)) (now (backups .entry)) (now (logs .exit)) (now (work .exit))) ⌝ }
+{
+    let refusal = update_refusal(
+        core,
+        number,
+        page,
+        slot,
+        value,
+        anchor,
+        pages,
+        backups,
+        logs,
+        work,
+    );
+    if refusal != 0 {
+        return refuse(core, refusal);
+    }
+    change_slot(core, number, page, slot, value, pages, logs, work, budget)
+}
