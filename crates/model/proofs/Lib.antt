@@ -51,3 +51,5 @@ pub mod Positions
 pub mod Blunders
 pub mod Idle
 pub mod Example
+-- The promises for traces of the code's own calls.
+pub mod Trace

@@ -29,3 +29,5 @@ pub mod Reference
 pub mod Machine
 pub mod History
 pub mod Promise
+-- The promises for traces of the code's own calls.
+pub mod Trace

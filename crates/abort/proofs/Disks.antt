@@ -1,0 +1,147 @@
+-- A disk of a serving state as the functions of `log` are lent it, and what an append on it does.
+use mathlib.Core.Path.{_≡_, refl, sym, _∙_}
+use mathlib.Core.List.{List}
+use Prim.Native.Nat.{ℕ, _+_, _-_, _*_, _≤_, _<_}
+use native.Mathlib.Omega.{arith}
+use lib.ListN.{length, take, drop}
+use Rattle.model.specs.declared.Sizes.{Sizes}
+use Rattle.model.specs.declared.Logs.{Logs}
+use Rattle.model.specs.Sizes.{diskAt, ringOf, total}
+use Rattle.model.specs.Word.{part}
+use Rattle.model.specs.Decode.{readLog}
+use Rattle.model.specs.World.{World, worldOf}
+use Rattle.model.specs.Memory.{bufferAt, bufferOf, epochAt, workWords}
+use Rattle.model.specs.State.{limit, tailOf, fillOf, endOf}
+use Rattle.model.specs.Append.{append}
+use Rattle.model.proofs.Bounds.{Bounded, bounded, total-max}
+use Rattle.model.proofs.Lengths.{length-buffer}
+use Rattle.model.proofs.Ring.{disk-within}
+use Rattle.log.specs.declared.write.Logged.{Logged}
+use Rattle.log.specs.Reading.{Readable}
+use Rattle.log.specs.Write.{Within, Encodable, Lent, Appends}
+use Rattle.log.proofs.Ready.{readable}
+use Rattle.frame.specs.Home.{withDisk}
+use Rattle.abort.specs.declared.window.Window.{Window}
+use Rattle.abort.specs.declared.record.Progress.{Progress}
+use Rattle.abort.specs.Undo.{windowOf, Serving, InSlot, reader, Did}
+
+-- the bounds that the code's sums and indexes rely on
+pub record Small (s : Sizes) (disk : ℕ) (work : List ℕ) : Type 0 where
+  pub pages : s .pages ≤ 64
+  pub disks : s .disks ≤ 8
+  pub below : disk < 8
+  pub words : total s ≤ 8192
+  pub buffer : total s + 64 * disk + 64 ≤ length work
+  pub epochs : total s + 64 * s .disks + 64 ≡ length work
+
+-- the buffered words of a log lie within the work memory
+pub record Lies (r : Window) (work : List ℕ) : Type 0 where
+  pub ordered : r .start ≤ r .stop
+  pub inside : r .stop ≤ length work
+  pub low : r .stop ≤ 10000
+
+module _ {s : Sizes} {l : Logs} {disk : ℕ} {logs work : List ℕ} (at : Serving s l disk logs work) where
+  pub bounds : Bounded s
+  bounds = bounded s (at .sizes)
+
+  pub fill-small : fillOf l disk ≤ 64
+  fill-small = at .fills-small disk (at .disk-below)
+
+  pub small : Small s disk work
+  unfolding workWords epochAt bufferAt
+  small =
+      record {
+        pages = bounds .pages-max;
+        disks = bounds .disks-max;
+        below = omega (arith, at .disk-below, bounds .disks-max);
+        words = total-max s bounds;
+        buffer = omega (arith, at .work-words, at .disk-below);
+        epochs = omega (arith, at .work-words);
+      }
+
+  -- where its log ends and its buffered words lie
+  pub asked : (s .pages ≤ 64) × (disk < 8) × (endOf l disk ≤ limit)
+  asked = (bounds .pages-max, small .below, at .end-small)
+
+  module _ {r : Window} (e : r ≡ windowOf s l disk) where
+    pub lies : Lies r work
+    unfolding windowOf bufferAt
+    lies =
+        rw e
+        (record {
+          ordered = omega arith;
+          inside = omega (arith, small .buffer, fill-small);
+          low = omega (arith, small .words, small .below, fill-small);
+        })
+
+    pub lent-within : Within disk (s .ring) (r .start) (r .tail) (r .fill) logs work
+    unfolding windowOf diskAt ringOf bufferAt endOf
+    lent-within =
+        rw e
+        (record {
+          some-ring = omega (arith, bounds .ring-min);
+          disk-within = omega (arith, at .log-words, disk-within s disk (at .disk-below));
+          buffer-within = omega (arith, small .buffer);
+          fill-small = fill-small;
+          end-small = at .end-small;
+        })
+
+    -- the log that is read through them
+    buffered : take (r .stop - r .start) (drop (r .start) work) ≡ bufferOf s work disk (fillOf l disk)
+    unfolding windowOf bufferOf part
+    buffered =
+        let f : bufferAt s disk + fillOf l disk - bufferAt s disk ≡ fillOf l disk = omega arith in
+        rw (e, f) refl
+
+    pub lent-end : r .end ≡ endOf l disk
+    unfolding windowOf
+    lent-end = rw e refl
+
+    pub lent-reader : readLog s logs disk (r .tail) (take (r .stop - r .start) (drop (r .start) work)) ≡ reader s l disk logs work
+    unfolding windowOf
+    lent-reader = rw (buffered, e) refl
+
+    pub lent-readable : Readable s logs disk (r .tail) (take (r .stop - r .start) (drop (r .start) work)) (r .end)
+    unfolding windowOf endOf bufferAt
+    lent-readable =
+        rw (buffered, e)
+        (readable s bounds logs disk (tailOf l disk) (bufferOf s work disk (fillOf l disk)) (tailOf l disk + fillOf l disk) (at .log-words)
+        (at .disk-below)
+        (omega (arith, length-buffer s work disk (fillOf l disk) (omega (arith, small .buffer, fill-small)))) (omega (arith, at .end-small)))
+
+    pub lent : (anchor pages backups : List ℕ)
+        → Lent s l (worldOf anchor pages backups logs work) disk (s .ring) (r .start) (r .tail) (r .fill) logs work
+    unfolding windowOf
+    lent anchor pages backups =
+        rw e
+        (record { same-ring = refl; same-buffer = refl; same-tail = refl; same-fill = refl; same-logs = refl; same-work = refl })
+
+  -- a slot has at most 32 words
+  pub slim : {page slot width : ℕ} → InSlot s page slot width → width ≤ 32
+  slim {page} there = omega (arith, there .width-is, bounds .used page (there .page-in) .width-max)
+
+  -- its page and its number are low
+  pub low-slot : {page slot width : ℕ} → InSlot s page slot width → (page < 64) × (slot < 65536)
+  low-slot {page} there =
+      (omega (arith, there .page-in, bounds .pages-max), omega (arith, there .slot-in, bounds .used page (there .page-in) .slots-max))
+
+  -- a compensation's fields fit its first word
+  pub encodable : {page slot width : ℕ} → InSlot s page slot width → (number epoch : ℕ)
+      → Encodable (record { kind = 1; page = page; slot = slot; number = number; epoch = epoch }) width
+  encodable {page} there number epoch =
+      let used = bounds .used page (there .page-in) in
+      record {
+        kind-small = omega arith;
+        page-small = low-slot there .0;
+        slot-small = omega (arith, there .slot-in, used .slots-max);
+        width-small = omega (arith, there .width-is, used .width-max);
+      }
+
+-- what the answer of an append says of the state after it
+pub appended : {budget rest : ℕ} {s : Sizes} {l : Logs} {disk : ℕ} {words : List ℕ} {w v : World} {added : Logged}
+    → Appends budget rest s l disk words w v added → (p : Progress)
+    → (p .finished ≡ added .finished)
+    × (p .logs ≡ withDisk l disk (added .tail) (added .fill))
+    → Did budget rest (append s l (w .work) disk words) w v p
+appended did p e =
+    record { ran = rw (e .0) (did .ran); state = λ f. e .1 ∙ sym (did .state (sym (e .0) ∙ f)) }

@@ -1,0 +1,15 @@
+-- A disk of a serving state, as the functions of `log` are lent it; words taken out of its log.
+pub mod Disks
+pub mod Spans
+-- One update taken back.
+pub mod Compensated
+-- All of them.
+pub mod Search
+pub mod Found
+pub mod Unchanged
+pub mod Undone
+pub mod Pending
+-- The call.
+pub mod Aborts
+pub mod Rolled
+pub mod Given

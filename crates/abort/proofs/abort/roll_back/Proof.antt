@@ -1,0 +1,87 @@
+-- `abort::abort::roll_back` meets its contract: the updates taken back, then the closing record. Assumes nothing.
+use mathlib.Core.List.{[]}
+use borrow.Author.Tests.{not-true, not-false}
+use Rattle.model.specs.World.{worldOf}
+use Rattle.model.proofs.Growth.{SizedLogs}
+use Rattle.abort.proofs.Aborts.{scoped, scoped-disk, scope-undoable}
+use Rattle.abort.proofs.Rolled.{undone-serves, rolled-cut, rolled-whole}
+use borrow.Author.Needs.{needs}
+use Rattle.abort.proofs.abort.roll_back.Statement.{statement}
+use Rattle.abort.proofs.abort.roll_back.Tie as tie
+
+-- a number for each disk, by the type
+sized : (c : tie.Start) → SizedLogs (c .args .core .logs)
+sized c = record { starts = search needs; tails = search needs; fills = search needs }
+
+scope-of-requires : tie.Need-scope-of-requires
+scope-of-requires c κs =
+    let pre = c .before .before .before .pre in
+    (scoped _ _ (pre .0 .0) (pre .0 .1), scoped-disk _ _ (pre .0 .0) (pre .0 .1))
+
+undo-all-requires : tie.Need-undo-all-requires
+undo-all-requires c κs =
+    let args = c .before .before .before .before .before .before .before .before .before .before .args in
+    let pre = c .before .before .before .before .before .before .before .before .before .before .pre in
+    let scope-of = c .before .before .before .before .before .before .scope-of in
+    scope-undoable _ _ (pre .0 .1) (scope-of .ensures) (worldOf [] (args .pages .now) [] (args .logs .now) (args .work .now)) (pre .0 .0) (pre .0 .2) (pre .1)
+
+same-length : tie.Need-same-length
+same-length c = search needs
+
+same-length-2 : tie.Need-same-length-2
+same-length-2 c = search needs
+
+same-length-3 : tie.Need-same-length-3
+same-length-3 c = search needs
+
+returns : tie.Need-returns
+returns c =
+    let pre = c .before .before .before .before .before .before .before .before .before .before .before .before .before .before .before .before .before .before .before .pre in
+    let scope-of = c .before .before .before .before .before .before .before .before .before .before .before .before .before .before .before .scope-of in
+    let undo-all = c .before .before .before .before .before .before .before .before .undo-all in
+    λ anchor backups. rolled-cut _ _ (pre .0 .1) (scope-of .ensures) _ (undo-all .ensures anchor backups) (not-true _ (c .if1 .taken))
+
+log-close-requires : tie.Need-log-close-requires
+log-close-requires c κs =
+    let start = c .before .before .before .before .before .before .before .before .before .before .before .before .before .before .before .before .before .before .before .before .before .before .before in
+    let scope-of = c .before .before .before .before .before .before .before .before .before .before .before .before .before .before .before .before .before .before .before .scope-of in
+    let undo-all = c .before .before .before .before .before .before .before .before .before .before .before .before .undo-all in
+    let w = worldOf [] (start .args .pages .now) [] (start .args .logs .now) (start .args .work .now) in
+    let ok = scope-undoable _ _ (start .pre .0 .1) (scope-of .ensures) w (start .pre .0 .0) (start .pre .0 .2) (start .pre .1) in
+    undone-serves _ _ w _ _ _ ok (sized start) (undo-all .ensures [] []) (not-false _ (c .before .before .before .before .if1 .left))
+
+same-length-4 : tie.Need-same-length-4
+same-length-4 c = search needs
+
+same-length-5 : tie.Need-same-length-5
+same-length-5 c = search needs
+
+same-length-6 : tie.Need-same-length-6
+same-length-6 c = search needs
+
+returns-2 : tie.Need-returns-2
+returns-2 c =
+    let pre = c .before .before .before .before .before .before .before .before .before .before .before .before .before .before .before .before .before .before .before .before .before .before .before .before .before .before .before .before .pre in
+    let scope-of = c .before .before .before .before .before .before .before .before .before .before .before .before .before .before .before .before .before .before .before .before .before .before .before .before .scope-of in
+    let undo-all = c .before .before .before .before .before .before .before .before .before .before .before .before .before .before .before .before .before .undo-all in
+    let test1 = c .before .before .before .before .before .before .before .before .before .if1 in
+    let log-close = c .before .before .before .before .log-close in
+    λ anchor backups.
+    rolled-whole _ _ (pre .0 .1) (scope-of .ensures) _ (undo-all .ensures anchor backups) (not-false _ (test1 .left))
+    (log-close .ensures anchor _ backups)
+
+pub roll-back-spec : {M : Type 1} → statement M
+roll-back-spec =
+    tie.close
+    (tie.spec
+    scope-of-requires
+    undo-all-requires
+    same-length
+    same-length-2
+    same-length-3
+    returns
+    log-close-requires
+    same-length-4
+    same-length-5
+    same-length-6
+    returns-2)

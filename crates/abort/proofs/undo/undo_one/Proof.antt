@@ -1,0 +1,98 @@
+-- `abort::undo::undo_one` meets its contract: the record's append, then the XOR into the slot. Assumes nothing.
+use mathlib.Core.Path.{refl, sym}
+use native.Mathlib.Omega.{arith}
+use borrow.Author.Tests.{not-true, not-false}
+use Rattle.model.specs.Word.{part}
+use Rattle.model.proofs.Geometry.{slot-end-total}
+use Rattle.abort.specs.Undo.{updateAt}
+use Rattle.abort.proofs.Disks.{slim, low-slot}
+use Rattle.abort.proofs.Spans.{lent-difference}
+use Rattle.abort.proofs.Compensated.{compensated-cut, compensated-whole}
+use borrow.Author.Needs.{needs}
+use Rattle.abort.proofs.undo.undo_one.Statement.{statement}
+use Rattle.abort.proofs.undo.undo_one.Tie as tie
+
+difference-at-requires : tie.Need-difference-at-requires
+difference-at-requires c κs =
+    let pre = c .before .before .before .before .before .pre in
+    (pre .serving, (pre .inside, slim (pre .serving) (pre .slotted)))
+
+array-share-prefix-words : tie.Need-array-share-prefix-words
+array-share-prefix-words c =
+    let pre = c .before .before .before .before .before .before .pre in
+    let n = slim (pre .serving) (pre .slotted) in omega arith
+
+slice-aggregate-log-compensation : tie.Need-slice-aggregate-log-compensation
+slice-aggregate-log-compensation c = sym (lent-difference _ _ _ _ (c .before .difference-at .ensures))
+
+log-compensation-requires : tie.Need-log-compensation-requires
+log-compensation-requires c κs =
+    let pre = c .before .before .before .before .before .before .before .before .before .before .pre in
+    let difference-at = c .before .before .before .before .difference-at in
+    (pre .serving, rw (lent-difference _ _ _ _ (difference-at .ensures)) (pre .slotted))
+
+same-length : tie.Need-same-length
+same-length c = search needs
+
+same-length-2 : tie.Need-same-length-2
+same-length-2 c = search needs
+
+returns : tie.Need-returns
+unfolding updateAt
+returns c =
+    let difference-at = c .before .before .before .before .before .before .before .before .before .before .before .difference-at in
+    let log-compensation = c .before .before .before .before .before .before .log-compensation in
+    λ anchor backups. compensated-cut _ _ _ _ _ _ (difference-at .ensures) (log-compensation .ensures anchor _ backups) (not-true _ (c .if1 .taken))
+
+slot-base-requires : tie.Need-slot-base-requires
+slot-base-requires c κs =
+    let pre = c .before .before .before .before .before .before .before .before .before .before .before .before .before .before .before .before .before .pre in
+    low-slot (pre .serving) (pre .slotted)
+
+slice-aggregate-xor-in : tie.Need-slice-aggregate-xor-in
+slice-aggregate-xor-in c = search needs
+
+xor-in-requires : tie.Need-xor-in-requires
+xor-in-requires c κs =
+    let pre = c .before .before .before .before .before .before .before .before .before .before .before .before .before .before .before .before .before .before .before .before .pre in
+    let s = pre .slotted in
+    let n = slim (pre .serving) s in
+    let fits = slot-end-total _ _ _ (s .page-in) (s .slot-in) in
+    (omega (arith, fits, s .width-is, c .before .before .slot-base .ensures .0, pre .page-words), omega arith)
+
+same-length-3 : tie.Need-same-length-3
+same-length-3 c = search needs
+
+same-length-4 : tie.Need-same-length-4
+same-length-4 c = search needs
+
+same-length-5 : tie.Need-same-length-5
+same-length-5 c = search needs
+
+returns-2 : tie.Need-returns-2
+unfolding updateAt part
+returns-2 c =
+    let difference-at = c .before .before .before .before .before .before .before .before .before .before .before .before .before .before .before .before .before .difference-at in
+    let log-compensation = c .before .before .before .before .before .before .before .before .before .before .before .before .log-compensation in
+    let test1 = c .before .before .before .before .before .before .if1 in
+    let slot-base = c .before .before .before .before .before .slot-base in
+    λ anchor backups. compensated-whole _ _ _ _ _ _ (difference-at .ensures) (log-compensation .ensures anchor _ backups) (not-false _ (test1 .left)) refl (slot-base .ensures .0) _ (c .before .before .xor-in .ensures)
+
+pub undo-one-spec : {M : Type 1} → statement M
+undo-one-spec =
+    tie.close
+    (tie.spec
+    difference-at-requires
+    array-share-prefix-words
+    slice-aggregate-log-compensation
+    log-compensation-requires
+    same-length
+    same-length-2
+    returns
+    slot-base-requires
+    slice-aggregate-xor-in
+    xor-in-requires
+    same-length-3
+    same-length-4
+    same-length-5
+    returns-2)

@@ -1,0 +1,78 @@
+-- What the functions that take updates back are lent, and what they do with it.
+use mathlib.Core.Path.{_≡_}
+use mathlib.Core.List.{List}
+use mathlib.Core.Bool.{true}
+use Prim.Native.Nat.{ℕ, _+_, _≤_, _<_}
+use lib.ListN.{length}
+use Rattle.model.specs.declared.Sizes.{Sizes}
+use Rattle.model.specs.declared.Logs.{Logs}
+use Rattle.model.specs.declared.Fault.the-variants.{Sound}
+use Rattle.model.specs.Sizes.{slotsIn, widthIn, ringOf, total, logWords, sizesInBounds}
+use Rattle.model.specs.Decode.{readLog, span}
+use Rattle.model.specs.Scan.{Scan, scan, faultIn, Update, updatesIn, updateWords}
+use Rattle.model.specs.World.{World}
+use Rattle.model.specs.Memory.{bufferAt, workWords, bufferOf}
+use Rattle.model.specs.State.{limit, tailOf, fillOf, endOf}
+use Rattle.model.specs.Append.{Appended}
+use Rattle.device.specs.Ran.{Ran}
+use Rattle.abort.specs.declared.window.Window.{Window}
+use Rattle.abort.specs.declared.record.Progress.{Progress}
+
+-- a disk's log: its tail, its buffered words, its end, and where the buffered words lie in the work memory
+unfoldable pub windowOf : Sizes → Logs → ℕ → Window
+windowOf s l disk =
+    record {
+      tail = tailOf l disk;
+      fill = fillOf l disk;
+      end = endOf l disk;
+      start = bufferAt s disk;
+      stop = bufferAt s disk + fillOf l disk;
+    }
+
+-- A disk of a state, and slices of the lengths that its sizes give.
+pub record Serving (s : Sizes) (l : Logs) (disk : ℕ) (logs work : List ℕ) : Type 0 where
+  pub sizes : sizesInBounds s ≡ true
+  pub disk-below : disk < s .disks
+  pub log-words : length logs ≡ logWords s
+  pub work-words : length work ≡ workWords s
+  pub fills-small : (e : ℕ) → e < s .disks → fillOf l e ≤ 64
+  pub end-small : endOf l disk ≤ limit
+
+-- A slot of the sizes, and its width.
+pub record InSlot (s : Sizes) (page slot width : ℕ) : Type 0 where
+  pub page-in : page < s .pages
+  pub slot-in : slot < slotsIn s page
+  pub width-is : width ≡ widthIn s page
+
+-- Actions run as far as a budget goes, and the logs' part of the state after them.
+pub record Did (budget rest : ℕ) (added : Appended) (before after : World) (r : Progress) : Type 0 where
+  pub ran : Ran budget rest (added .actions) before after (r .finished)
+  pub state : r .finished ≡ true → r .logs ≡ added .logs
+
+-- a disk's log as it is read, ring then buffer
+abbrev pub reader : Sizes → Logs → ℕ → List ℕ → List ℕ → ℕ → ℕ
+reader s l disk logs work = readLog s logs disk (tailOf l disk) (bufferOf s work disk (fillOf l disk))
+
+-- its records from a position on
+unfoldable pub logFrom : Sizes → Logs → ℕ → List ℕ → List ℕ → ℕ → Scan
+logFrom s l disk logs work from = scan s (reader s l disk logs work) (endOf l disk) from
+
+-- the update of a slot whose record stands at a position
+unfoldable pub updateAt : Sizes → Logs → ℕ → List ℕ → List ℕ → (position page slot width : ℕ) → Update
+updateAt s l disk logs work position page slot width =
+    record { position = position; page = page; slot = slot; diff = span (reader s l disk logs work) (position + 3) width }
+
+-- A record of an update of a slot stands at the position.
+pub record Compensable (s : Sizes) (l : Logs) (disk position page slot width : ℕ) (pages logs work : List ℕ) : Type 0 where
+  pub serving : Serving s l disk logs work
+  pub page-words : length pages ≡ total s
+  pub slotted : InSlot s page slot width
+  pub inside : position + 3 + width ≤ endOf l disk
+
+-- The log from a position on has no malformed record, and there is room for what takes back the updates found there.
+pub record Undoable (s : Sizes) (l : Logs) (disk number from : ℕ) (pages logs work : List ℕ) : Type 0 where
+  pub serving : Serving s l disk logs work
+  pub page-words : length pages ≡ total s
+  pub readable : faultIn disk (logFrom s l disk logs work from) Sound ≡ Sound
+  pub ring : endOf l disk + updateWords (updatesIn number (logFrom s l disk logs work from)) ≤ from + ringOf s disk
+  pub in-limit : endOf l disk + updateWords (updatesIn number (logFrom s l disk logs work from)) ≤ limit

@@ -1,0 +1,112 @@
+// Abort: its checks, then its work. Of a transaction that is not open nothing is read, so No. 9 can be asked before No. 7.
+use crate::fault::fault_of;
+use crate::record::Progress;
+use crate::record::log_close;
+use crate::scope::scope_of;
+use crate::undo::undo_all;
+use frame::checks::first_refusal;
+use frame::settle::refuse;
+use frame::settle::refuse_at;
+use frame::settle::settle;
+use frame::stages::is_serving;
+use model::Core;
+use model::Fault;
+use model::Reply;
+use table::place::is_open;
+use table::place::without;
+ghost use mathlib.Core.Path.{_≡_};
+ghost use mathlib.Core.List.{List, []};
+ghost use mathlib.Core.Bool.{true};
+ghost use Prim.Native.Nat.{ℕ};
+ghost use lib.ListN.{length};
+ghost use Rattle.model.specs.declared.Fault.the-variants.{Sound};
+ghost use Rattle.model.specs.Sizes.{total};
+ghost use Rattle.model.specs.World.{worldOf};
+ghost use Rattle.model.specs.State.{isOpen};
+ghost use Rattle.model.specs.Abort.{abortFault};
+ghost use Rattle.model.specs.Call.{abort, Gives};
+ghost use Rattle.frame.specs.Home.{Serves};
+ghost use Rattle.abort.specs.Undo.{Did};
+ghost use Rattle.abort.specs.Scope.{rolledBack};
+
+// The work: every update taken back, then the closing record, as far as the budget goes.
+fn roll_back(
+    core: Core,
+    number: u64,
+    pages: &mut [u64],
+    logs: &mut [u64],
+    work: &mut [u64],
+    budget: &mut u64,
+) -> Progress
+    requires { ⌜ Serves core (now logs) (now work) × (isOpen (core .table) number ≡ true) × (length (now pages) ≡ total (core .sizes)) ⌝ }
+    requires { ⌜ abortFault core (worldOf [] (now pages) [] (now logs) (now work)) number ≡ Sound ⌝ }
+    ensures { λ r. ⌜ ((anchor backups : List ℕ) → Did (now (budget .entry)) (now (budget .exit))
+        (rolledBack core (worldOf anchor (now (pages .entry)) backups (now (logs .entry)) (now (work .entry))) number)
+        (worldOf anchor (now (pages .entry)) backups (now (logs .entry)) (now (work .entry)))
+        (worldOf anchor (now (pages .exit)) backups (now (logs .exit)) (now (work .exit))) r) ⌝ }
+{
+    let at = scope_of(core, number);
+    let sizes = core.sizes;
+    let state = core.logs;
+    let undone = undo_all(
+        sizes,
+        state,
+        at.disk,
+        number,
+        at.from,
+        pages,
+        logs,
+        work,
+        budget,
+    );
+    if !undone.finished {
+        return undone;
+    }
+    let reached = undone.logs;
+    log_close(sizes, reached, at.disk, number, logs, work, budget)
+}
+
+pub fn abort(
+    core: Core,
+    number: u64,
+    anchor: &[u64],
+    pages: &mut [u64],
+    backups: &[u64],
+    logs: &mut [u64],
+    work: &mut [u64],
+    budget: &mut u64,
+) -> Reply
+    ensures { λ r. ⌜ Gives (abort number (now (budget .entry))) core (worldOf (now (anchor .entry)) (now (pages .entry)) (now (backups .entry)) (now (logs .entry)) (now (work .entry))) r (now (budget .exit)) (worldOf (now (anchor .entry)) (now (pages .exit)) (now (backups .entry)) (now (logs .exit)) (now (work .exit))) ⌝ }
+{
+    let stage = core.stage;
+    let allowed = is_serving(stage);
+    let refusal = first_refusal(
+        allowed,
+        core,
+        anchor.len(),
+        pages.len(),
+        backups.len(),
+        logs.len(),
+        work.len(),
+    );
+    if refusal != 0 {
+        return refuse(core, refusal);
+    }
+    if !is_open(core.table, number) {
+        return refuse(core, 9);
+    }
+    let fault = fault_of(core, number, logs, work);
+    if let Fault::BadRecord { disk, position } = fault {
+        return refuse_at(core, 7, disk, position);
+    }
+    let allowance = *budget;
+    let done = roll_back(core, number, pages, logs, work, budget);
+    let after = done.logs;
+    let table = without(core.table, number);
+    let next = Core {
+        logs: after,
+        table,
+        ..core
+    };
+    settle(done.finished, allowance, *budget, 0, next)
+}

@@ -1,0 +1,118 @@
+// The updates of a transaction taken back, newest first.
+use crate::difference::difference_at;
+use crate::reading::newest_before;
+use crate::record::Progress;
+use crate::record::log_compensation;
+use layout::places::slot_base;
+use log::newest::Newest;
+use model::Logs;
+use model::Sizes;
+use words::xor_in;
+ghost use mathlib.Core.List.{List};
+ghost use Prim.Native.Nat.{ℕ, _+_};
+ghost use Rattle.model.specs.Scan.{updatesIn};
+ghost use Rattle.model.specs.World.{worldOf};
+ghost use Rattle.model.specs.Abort.{compensate, undoAll};
+ghost use Rattle.abort.specs.Undo.{Did, logFrom, updateAt, Compensable, Undoable};
+
+// Takes back the update at a position: its compensation is appended, and the slot changed back.
+fn undo_one(
+    sizes: Sizes,
+    state: Logs,
+    disk: u64,
+    number: u64,
+    position: u64,
+    page: u64,
+    slot: u64,
+    width: u64,
+    pages: &mut [u64],
+    logs: &mut [u64],
+    work: &mut [u64],
+    budget: &mut u64,
+) -> Progress
+    requires { ⌜ Compensable sizes state disk position page slot width (now pages) (now logs) (now work) ⌝ }
+    ensures { λ r. ⌜ ((anchor backups : List ℕ) → Did (now (budget .entry)) (now (budget .exit))
+        (compensate sizes state (worldOf anchor (now (pages .entry)) backups (now (logs .entry)) (now (work .entry))) number disk
+        (updateAt sizes state disk (now (logs .entry)) (now (work .entry)) position page slot width))
+        (worldOf anchor (now (pages .entry)) backups (now (logs .entry)) (now (work .entry)))
+        (worldOf anchor (now (pages .exit)) backups (now (logs .exit)) (now (work .exit))) r) ⌝ }
+{
+    let words = difference_at(sizes, state, disk, position, width, logs, work);
+    let n = width as usize;
+    let one = log_compensation(
+        sizes,
+        state,
+        disk,
+        number,
+        page,
+        slot,
+        &words[..n],
+        logs,
+        work,
+        budget,
+    );
+    if !one.finished {
+        return one;
+    }
+    let at = slot_base(sizes, page, slot) as usize;
+    xor_in(pages, at, &words, 0, n);
+    one
+}
+
+// Takes back all updates of a transaction in the log of its disk from a position on, as far as the budget goes.
+pub fn undo_all(
+    sizes: Sizes,
+    state: Logs,
+    disk: u64,
+    number: u64,
+    from: u64,
+    pages: &mut [u64],
+    logs: &mut [u64],
+    work: &mut [u64],
+    budget: &mut u64,
+) -> Progress
+    requires { ⌜ Undoable sizes state disk number from (now pages) (now logs) (now work) ⌝ }
+    ensures { λ r. ⌜ ((anchor backups : List ℕ) → Did (now (budget .entry)) (now (budget .exit))
+        (undoAll sizes state (worldOf anchor (now (pages .entry)) backups (now (logs .entry)) (now (work .entry))) number disk
+        (updatesIn number (logFrom sizes state disk (now (logs .entry)) (now (work .entry)) from)))
+        (worldOf anchor (now (pages .entry)) backups (now (logs .entry)) (now (work .entry)))
+        (worldOf anchor (now (pages .exit)) backups (now (logs .exit)) (now (work .exit))) r) ⌝ }
+{
+    let d = disk as usize;
+    let mut reached = state;
+    let mut bound = state.tails[d] + state.fills[d];
+    loop {
+        let newest = newest_before(sizes, reached, disk, number, from, bound, logs, work);
+        let Newest::At {
+            position,
+            page,
+            slot,
+            width,
+        } = newest
+        else {
+            return Progress {
+                finished: true,
+                logs: reached,
+            };
+        };
+        let one = undo_one(
+            sizes,
+            reached,
+            disk,
+            number,
+            position,
+            page,
+            slot,
+            width,
+            pages,
+            logs,
+            work,
+            budget,
+        );
+        if !one.finished {
+            return one;
+        }
+        reached = one.logs;
+        bound = position;
+    }
+}

@@ -1,0 +1,46 @@
+-- `checkpoint::end::finish` meets its contract: the task is settled as its stores ran. Assumes nothing.
+use Rattle.model.specs.World.{worldOf}
+use Rattle.model.specs.Checkpoint.{checkpointEndTask}
+use Rattle.model.proofs.Store.Accepted.{disks-max}
+use Rattle.frame.proofs.Verdicts.{task-settled}
+use borrow.Author.Needs.{needs}
+use Rattle.checkpoint.proofs.end.finish.Statement.{statement}
+use Rattle.checkpoint.proofs.end.finish.Tie as tie
+
+new-starts-requires : tie.Need-new-starts-requires
+new-starts-requires c κs = disks-max _ (c .before .before .before .before .pre .serves .state)
+
+store-end-requires : tie.Need-store-end-requires
+store-end-requires c κs = search needs
+
+closed-requires : tie.Need-closed-requires
+closed-requires c κs = search needs
+
+settle-requires : tie.Need-settle-requires
+settle-requires c κs = search needs
+
+same-length : tie.Need-same-length
+same-length c = search needs
+
+same-length-2 : tie.Need-same-length-2
+same-length-2 c = search needs
+
+returns : tie.Need-returns
+unfolding checkpointEndTask
+returns c =
+    let x = c .before .before .before .before .before .before .before .before .before .before .before .before .before .before .before .args in
+    λ pages backups.
+    let w = worldOf (x .anchor .now) pages backups (x .logs .now) (x .work .now) in
+    task-settled (checkpointEndTask (x .core) w) (c .before .before .before .before .before .before .store-end .ensures pages backups) (c .settle .ensures) (λ _. c .before .closed .ensures w)
+
+pub finish-spec : {M : Type 1} → statement M
+finish-spec =
+    tie.close
+    (tie.spec
+    new-starts-requires
+    store-end-requires
+    closed-requires
+    settle-requires
+    same-length
+    same-length-2
+    returns)

@@ -1,0 +1,75 @@
+-- `checkpoint::ends::ends_of` meets its contract: the disks passed have their ends, the others 0. Assumes nothing.
+use native.Mathlib.Omega.{arith}
+use Prim.Native.Nat.{_-_, _≤_}
+use mathlib.Core.Path.{_≡_}
+use Rattle.model.specs.State.{tailOf, fillOf, endOf}
+use Rattle.model.proofs.Store.Rows.{disk-sound}
+use Rattle.model.proofs.Store.Accepted.{disks-max}
+use Rattle.checkpoint.proofs.PerDisk.{filled, filled-none, filled-more, per-disk}
+use mathlib.Core.Path.{_∙_}
+use borrow.Author.Needs.{needs}
+use Rattle.checkpoint.proofs.ends.ends_of.Statement.{statement}
+use Rattle.checkpoint.proofs.ends.ends_of.Tie as tie
+
+abbrev Inv-loop : tie.InvT-loop
+Inv-loop disks logs ends₀ d₀ ends d = (d ≤ disks) × (disks ≤ 8) × (ends ≡ filled (endOf logs) d)
+
+abbrev μ-loop : tie.MeasureT-loop
+μ-loop disks logs ends₀ d₀ ends d = disks - d
+
+loop-holds : tie.Need-loop-holds Inv-loop μ-loop
+loop-holds c = (omega arith, disks-max _ (c .before .pre), filled-none _)
+
+mul-ends : tie.Need-mul-ends Inv-loop μ-loop
+mul-ends c = search needs
+
+element-copy-out-ends : tie.Need-element-copy-out-ends Inv-loop μ-loop
+element-copy-out-ends c = search needs
+
+mul-ends-2 : tie.Need-mul-ends-2 Inv-loop μ-loop
+mul-ends-2 c = search needs
+
+element-copy-out-ends-2 : tie.Need-element-copy-out-ends-2 Inv-loop μ-loop
+element-copy-out-ends-2 c = search needs
+
+add-ends : tie.Need-add-ends Inv-loop μ-loop
+unfolding endOf tailOf fillOf
+add-ends c = omega (arith, disk-sound (c .before .before .before .before .before .args .core) (c .before .before .before .loop .d) (c .before .before .before .before .before .pre) (search needs) .limit)
+
+mul-ends-3 : tie.Need-mul-ends-3 Inv-loop μ-loop
+mul-ends-3 c = search needs
+
+array-write-ends : tie.Need-array-write-ends Inv-loop μ-loop
+array-write-ends c = search needs
+
+add-d : tie.Need-add-d Inv-loop μ-loop
+add-d c = search needs
+
+loop-less : tie.Need-loop-less Inv-loop μ-loop
+loop-less c = search needs
+
+loop-again : tie.Need-loop-again Inv-loop μ-loop
+unfolding endOf tailOf fillOf
+loop-again c = (omega arith, omega arith, rw (c .before .before .before .loop .inv .2) (filled-more (endOf (c .before .before .before .before .before .args .core .logs)) (c .before .before .before .loop .d) (omega arith)))
+
+returns : tie.Need-returns Inv-loop μ-loop
+returns c = c .before .loop .inv .2 ∙ per-disk _ _ _ (omega arith)
+
+pub ends-of-spec : {M : Type 1} → statement M
+ends-of-spec =
+    tie.close
+    (tie.spec
+    Inv-loop
+    μ-loop
+    loop-holds
+    mul-ends
+    element-copy-out-ends
+    mul-ends-2
+    element-copy-out-ends-2
+    add-ends
+    mul-ends-3
+    array-write-ends
+    add-d
+    loop-less
+    loop-again
+    returns)

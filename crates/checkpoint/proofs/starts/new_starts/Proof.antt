@@ -1,0 +1,65 @@
+-- `checkpoint::starts::new_starts` meets its contract: the disks passed have their new starts, the others 0. Assumes nothing.
+use native.Mathlib.Omega.{arith}
+use Prim.Native.Nat.{_-_, _≤_}
+use mathlib.Core.Path.{_≡_, _∙_}
+use lib.ListN.{getD}
+use Rattle.model.specs.State.{places}
+use Rattle.model.specs.Checkpoint.{leastFirst, newStart}
+use Rattle.checkpoint.proofs.PerDisk.{filled, filled-none, filled-more, per-disk}
+use borrow.Author.Needs.{needs}
+use Rattle.checkpoint.proofs.starts.new_starts.Statement.{statement}
+use Rattle.checkpoint.proofs.starts.new_starts.Tie as tie
+
+abbrev Inv-loop : tie.InvT-loop
+Inv-loop disks table checkpoint starts₀ d₀ starts d = (d ≤ disks) × (disks ≤ 8) × (starts ≡ filled (λ i. leastFirst table i (getD (checkpoint .ends) i 0) places) d)
+
+abbrev μ-loop : tie.MeasureT-loop
+μ-loop disks table checkpoint starts₀ d₀ starts d = disks - d
+
+loop-holds : tie.Need-loop-holds Inv-loop μ-loop
+loop-holds c = (omega arith, c .before .before .pre, filled-none _)
+
+mul-least-first : tie.Need-mul-least-first Inv-loop μ-loop
+mul-least-first c = search needs
+
+element-copy-out-least-first : tie.Need-element-copy-out-least-first Inv-loop μ-loop
+element-copy-out-least-first c = search needs
+
+least-first-requires : tie.Need-least-first-requires Inv-loop μ-loop
+least-first-requires c κs = search needs
+
+mul-starts : tie.Need-mul-starts Inv-loop μ-loop
+mul-starts c = search needs
+
+array-write-starts : tie.Need-array-write-starts Inv-loop μ-loop
+array-write-starts c = search needs
+
+add-d : tie.Need-add-d Inv-loop μ-loop
+add-d c = search needs
+
+loop-less : tie.Need-loop-less Inv-loop μ-loop
+loop-less c = search needs
+
+loop-again : tie.Need-loop-again Inv-loop μ-loop
+loop-again c = (omega arith, omega arith, rw (c .before .before .before .loop .inv .2, c .least-first .ensures) (filled-more _ (c .before .before .before .loop .d) (omega arith)))
+
+returns : tie.Need-returns Inv-loop μ-loop
+unfolding newStart
+returns c = c .before .loop .inv .2 ∙ per-disk _ _ _ (omega arith)
+
+pub new-starts-spec : {M : Type 1} → statement M
+new-starts-spec =
+    tie.close
+    (tie.spec
+    Inv-loop
+    μ-loop
+    loop-holds
+    mul-least-first
+    element-copy-out-least-first
+    least-first-requires
+    mul-starts
+    array-write-starts
+    add-d
+    loop-less
+    loop-again
+    returns)

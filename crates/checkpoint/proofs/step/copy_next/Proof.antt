@@ -1,0 +1,47 @@
+-- `checkpoint::step::copy_next` meets its contract: the task is settled as its copy ran. Assumes nothing.
+use native.Mathlib.Omega.{arith}
+use Rattle.model.specs.World.{worldOf}
+use Rattle.model.specs.Checkpoint.{checkpointStepTask}
+use Rattle.checkpoint.proofs.Waiting.{step-settled}
+use borrow.Author.Needs.{needs}
+use Rattle.checkpoint.proofs.step.copy_next.Statement.{statement}
+use Rattle.checkpoint.proofs.step.copy_next.Tie as tie
+
+add-copy-page : tie.Need-add-copy-page
+add-copy-page c = search needs
+
+copy-page-requires : tie.Need-copy-page-requires
+copy-page-requires c κs = search needs
+
+add-settle : tie.Need-add-settle
+add-settle c = search needs
+
+settle-requires : tie.Need-settle-requires
+settle-requires c κs = search needs
+
+same-length : tie.Need-same-length
+same-length c = search needs
+
+same-length-2 : tie.Need-same-length-2
+same-length-2 c = search needs
+
+returns : tie.Need-returns
+unfolding checkpointStepTask
+returns c =
+    let start = c .before .before .before .before .before .before .before .before .before .before .before .before .before .before .before .before .before .before .before .before in
+    let x = start .args in
+    λ anchor logs.
+    step-settled (x .core) (worldOf anchor (x .pages .now) (x .backups .now) logs (x .work .now)) (omega (arith, start .pre .next .page-below))
+    (c .before .before .before .before .before .before .before .before .before .before .copy-page .ensures anchor logs) (c .settle .ensures)
+
+pub copy-next-spec : {M : Type 1} → statement M
+copy-next-spec =
+    tie.close
+    (tie.spec
+    add-copy-page
+    copy-page-requires
+    add-settle
+    settle-requires
+    same-length
+    same-length-2
+    returns)

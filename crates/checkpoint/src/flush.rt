@@ -1,0 +1,35 @@
+// All buffers go to their disks.
+use layout::places::total;
+use log::write::flush_disk;
+use model::Core;
+ghost use mathlib.Core.List.{List};
+ghost use Prim.Native.Nat.{ℕ};
+ghost use Rattle.model.specs.Below.{joinBelow};
+ghost use Rattle.model.specs.World.{worldOf};
+ghost use Rattle.model.specs.Append.{flush};
+ghost use Rattle.device.specs.Ran.{Ran};
+ghost use Rattle.frame.specs.Home.{Serves};
+
+// Flushes the disks in order; true if all are flushed.
+pub fn flush_all(core: Core, logs: &mut [u64], work: &[u64], budget: &mut u64) -> bool
+    requires { ⌜ Serves core (now logs) (now work) ⌝ }
+    ensures { λ r. ⌜ ((anchor pages backups : List ℕ) → Ran (now (budget .entry)) (now (budget .exit))
+        (joinBelow (flush (core .sizes) (core .logs) (now (work .entry))) (core .sizes .disks))
+        (worldOf anchor pages backups (now (logs .entry)) (now (work .entry)))
+        (worldOf anchor pages backups (now (logs .exit)) (now (work .entry))) r) ⌝ }
+{
+    let disks = core.sizes.disks;
+    let ring = core.sizes.ring;
+    let all = total(core.sizes);
+    let parts = core.logs;
+    let mut d: u64 = 0;
+    while d < disks {
+        let tail = parts.tails[d as usize];
+        let fill = parts.fills[d as usize];
+        if !flush_disk(logs, work, d, ring, all + 64 * d, tail, fill, budget) {
+            return false;
+        }
+        d += 1;
+    }
+    true
+}

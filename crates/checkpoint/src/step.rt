@@ -1,0 +1,84 @@
+// Checkpoint step: the lowest page not yet copied goes whole to the other backup and takes the checkpoint's number.
+use crate::copy::copy_page;
+use frame::checks::first_refusal;
+use frame::settle::refuse;
+use frame::settle::settle;
+use frame::stages::is_copying;
+use model::Checkpoint;
+use model::Core;
+use model::Reply;
+ghost use mathlib.Core.List.{List};
+ghost use Prim.Native.Nat.{ℕ};
+ghost use Rattle.model.specs.World.{worldOf};
+ghost use Rattle.model.specs.Checkpoint.{checkpointStepTask};
+ghost use Rattle.model.specs.Call.{checkpointStep, Gives};
+ghost use Rattle.frame.specs.Settle.{Concludes};
+ghost use Rattle.checkpoint.specs.Lent.{Steppable};
+
+// Copies the first page that waits.
+fn copy_next(
+    core: Core,
+    pages: &[u64],
+    backups: &mut [u64],
+    work: &mut [u64],
+    budget: &mut u64,
+) -> Reply
+    requires { ⌜ Steppable core (now pages) (now backups) (now work) ⌝ }
+    ensures { λ r. ⌜ ((anchor logs : List ℕ) → Concludes (now (budget .entry)) (now (budget .exit))
+        (checkpointStepTask core (worldOf anchor (now (pages .entry)) (now (backups .entry)) logs (now (work .entry))))
+        (worldOf anchor (now (pages .entry)) (now (backups .entry)) logs (now (work .entry)))
+        (worldOf anchor (now (pages .entry)) (now (backups .exit)) logs (now (work .exit))) r) ⌝ }
+{
+    let before = *budget;
+    let checkpoint = core.checkpoint;
+    let page = checkpoint.copied;
+    let whole = copy_page(
+        core.sizes,
+        core.epoch + 1,
+        page,
+        pages,
+        backups,
+        work,
+        budget,
+    );
+    let next = Core {
+        checkpoint: Checkpoint {
+            copied: page + 1,
+            ..checkpoint
+        },
+        ..core
+    };
+    settle(whole, before, *budget, 0, next)
+}
+
+pub fn step(
+    core: Core,
+    anchor: &[u64],
+    pages: &[u64],
+    backups: &mut [u64],
+    logs: &[u64],
+    work: &mut [u64],
+    budget: &mut u64,
+) -> Reply
+    ensures { λ r. ⌜ Gives (checkpointStep (now (budget .entry))) core (worldOf (now (anchor .entry)) (now (pages .entry)) (now (backups .entry)) (now (logs .entry)) (now (work .entry))) r (now (budget .exit)) (worldOf (now (anchor .entry)) (now (pages .entry)) (now (backups .exit)) (now (logs .entry)) (now (work .exit))) ⌝ }
+{
+    let stage = core.stage;
+    let allowed = is_copying(stage);
+    let refusal = first_refusal(
+        allowed,
+        core,
+        anchor.len(),
+        pages.len(),
+        backups.len(),
+        logs.len(),
+        work.len(),
+    );
+    if refusal != 0 {
+        return refuse(core, refusal);
+    }
+    let checkpoint = core.checkpoint;
+    if checkpoint.copied >= core.sizes.pages {
+        return refuse(core, 15);
+    }
+    copy_next(core, pages, backups, work, budget)
+}

@@ -1,0 +1,30 @@
+-- Actions that store nothing are whole under any budget.
+use mathlib.Core.Path.{_≡_, refl, sym, _∙_}
+use mathlib.Core.List.{List, []}
+use mathlib.Core.Bool.{true}
+use Prim.Native.Nat.{ℕ}
+use native.Mathlib.Omega.{arith}
+use lib.Seq.{sets}
+use borrow.Author.Tests.{le-leb}
+use Rattle.model.specs.World.{World, Action, write, pages, work, each, perform, stores, made, finishes}
+use Rattle.model.proofs.Run.{finished-run, stores-written, perform-pages, perform-work}
+use Rattle.device.specs.Ran.{Ran, withPages, withWork}
+
+ran-free : {l : List Action} {w v : World} (budget : ℕ) → stores l ≡ 0 → perform l w ≡ v → Ran budget budget l w v true
+unfolding made finishes
+ran-free {l} {w} budget none same =
+    let whole = le-leb (stores l) budget (omega arith) in
+    record { world = sym (finished-run budget l w whole ∙ same); left = omega arith; finished = sym whole }
+
+pub ran-none : (budget : ℕ) (w : World) → Ran budget budget [] w w true
+unfolding stores perform
+ran-none budget w = ran-free budget refl refl
+
+-- words written in memory
+pub pages-written : (budget at : ℕ) (words : List ℕ) (w : World)
+    → Ran budget budget (each (write pages) at words) w (withPages w (sets (w .pages) at words)) true
+pages-written budget at words w = ran-free budget (stores-written pages at words) (perform-pages at words w)
+
+pub work-written : (budget at : ℕ) (words : List ℕ) (w : World)
+    → Ran budget budget (each (write work) at words) w (withWork w (sets (w .work) at words)) true
+work-written budget at words w = ran-free budget (stores-written work at words) (perform-work at words w)

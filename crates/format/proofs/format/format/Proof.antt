@@ -1,0 +1,127 @@
+-- `format::format::format` meets its contract: each refusal is the first row that applies. Assumes nothing.
+use native.Mathlib.Omega.{arith}
+use mathlib.Core.Path.{sym, ap, _∙_}
+use borrow.Author.Tests.{not-true, not-false}
+use Rattle.model.specs.declared.Sizes.{Sizes}
+use Rattle.model.specs.World.{worldOf}
+use Rattle.frame.proofs.Verdicts.{refusal-given, task-given}
+use Rattle.format.proofs.Rows.{format-forbidden, format-anchor, format-sizes, format-lengths, format-accepted, lengths-tested, devices-right, memories-right}
+use borrow.Author.Needs.{needs}
+use Rattle.format.proofs.format.format.Statement.{statement}
+use Rattle.format.proofs.format.format.Tie as tie
+
+is-shut-requires : tie.Need-is-shut-requires
+is-shut-requires c κs = search needs
+
+refuse-requires : tie.Need-refuse-requires
+refuse-requires c κs = search needs
+
+returns : tie.Need-returns
+returns c =
+    let x = c .before .before .before .before .before .before .before .before .args in
+    let w = worldOf (x .anchor .now) (x .pages .now) (x .backups .now) (x .logs .now) (x .work .now) in
+    rw (c .refuse .ensures)
+    (refusal-given _ (x .core) w 1 0 0 (format-forbidden (x .core) w _ (sym (c .before .before .is-shut .ensures) ∙ not-true _ (c .before .if1 .taken))))
+
+refuse-requires-2 : tie.Need-refuse-requires-2
+refuse-requires-2 c κs = search needs
+
+returns-2 : tie.Need-returns-2
+returns-2 c =
+    let x = c .before .before .before .before .before .before .before .before .before .args in
+    let w = worldOf (x .anchor .now) (x .pages .now) (x .backups .now) (x .logs .now) (x .work .now) in
+    rw (c .refuse2 .ensures)
+    (refusal-given _ (x .core) w 2 0 0 (format-anchor (x .core) w _ (sym (c .before .before .before .is-shut .ensures) ∙ not-false _ (c .before .before .if1 .left)) (c .before .if2 .taken)))
+
+in-bounds-requires : tie.Need-in-bounds-requires
+in-bounds-requires c κs = search needs
+
+refuse-requires-3 : tie.Need-refuse-requires-3
+refuse-requires-3 c κs = search needs
+
+returns-3 : tie.Need-returns-3
+returns-3 c =
+    let x = c .before .before .before .before .before .before .before .before .before .before .before .args in
+    let w = worldOf (x .anchor .now) (x .pages .now) (x .backups .now) (x .logs .now) (x .work .now) in
+    rw (c .refuse3 .ensures)
+    (refusal-given _ (x .core) w 4 0 0
+    (format-sizes (x .core) w _ (sym (c .before .before .before .before .before .is-shut .ensures) ∙ not-false _ (c .before .before .before .before .if1 .left)) (omega (arith, c .before .before .before .if2 .left)) (sym (c .before .before .in-bounds .ensures) ∙ not-true _ (c .before .if3 .taken))))
+
+narrow-requires : tie.Need-narrow-requires
+narrow-requires c κs = sym (c .before .in-bounds .ensures) ∙ not-false _ (c .if3 .left)
+
+lengths-right-requires : tie.Need-lengths-right-requires
+lengths-right-requires c κs = rw (c .narrow .ensures) (sym (c .before .before .in-bounds .ensures) ∙ not-false _ (c .before .if3 .left))
+
+refuse-requires-4 : tie.Need-refuse-requires-4
+refuse-requires-4 c κs = search needs
+
+returns-4 : tie.Need-returns-4
+returns-4 c =
+    let x = c .before .before .before .before .before .before .before .before .before .before .before .before .before .before .args in
+    let w = worldOf (x .anchor .now) (x .pages .now) (x .backups .now) (x .logs .now) (x .work .now) in
+    rw (c .refuse4 .ensures)
+    (refusal-given _ (x .core) w 5 0 0
+    (format-lengths (x .core) w _ (sym (c .before .before .before .before .before .before .before .before .is-shut .ensures) ∙ not-false _ (c .before .before .before .before .before .before .before .if1 .left)) (omega (arith, c .before .before .before .before .before .before .if2 .left)) (sym (c .before .before .before .before .before .in-bounds .ensures) ∙ not-false _ (c .before .before .before .before .if3 .left))
+    (lengths-tested _ _ w (c .before .before .before .narrow .ensures) (c .before .before .lengths-right .ensures) ∙ not-true _ (c .before .if4 .taken))))
+
+lay-out-requires : tie.Need-lay-out-requires
+lay-out-requires c κs =
+    let x = c .before .before .before .before .before .before .before .before .before .before .before .before .before .before .before .before .before .before .before .args in
+    let w = worldOf (x .anchor .now) (x .pages .now) (x .backups .now) (x .logs .now) (x .work .now) in
+    let right = lengths-tested _ _ w (c .before .before .before .before .before .before .before .before .narrow .ensures) (c .before .before .before .before .before .before .before .lengths-right .ensures) ∙ not-false _ (c .before .before .before .before .before .before .if4 .left) in (
+      (
+        devices-right _ _ w (c .before .before .before .before .before .before .before .before .narrow .ensures) (sym (c .before .before .before .before .before .before .before .before .before .before .in-bounds .ensures) ∙ not-false _ (c .before .before .before .before .before .before .before .before .before .if3 .left)) right (omega (arith, c .before .before .before .before .before .before .before .before .before .before .before .if2 .left)),
+        sym (ap (λ (s : Sizes). s .slots) (c .before .before .before .before .before .before .before .before .narrow .ensures)),
+        sym (ap (λ (s : Sizes). s .widths) (c .before .before .before .before .before .before .before .before .narrow .ensures)),
+      ),
+      memories-right _ _ w (c .before .before .before .before .before .before .before .before .narrow .ensures) (sym (c .before .before .before .before .before .before .before .before .before .before .in-bounds .ensures) ∙ not-false _ (c .before .before .before .before .before .before .before .before .before .if3 .left)) right,
+    )
+
+same-length : tie.Need-same-length
+same-length c = search needs
+
+same-length-2 : tie.Need-same-length-2
+same-length-2 c = search needs
+
+same-length-3 : tie.Need-same-length-3
+same-length-3 c = search needs
+
+same-length-4 : tie.Need-same-length-4
+same-length-4 c = search needs
+
+same-length-5 : tie.Need-same-length-5
+same-length-5 c = search needs
+
+returns-5 : tie.Need-returns-5
+returns-5 c =
+    let x = c .before .before .before .before .before .before .before .before .before .before .before .before .before .before .before .before .before .before .before .before .before .before .before .before .before .before .before .before .before .before .args in
+    let w = worldOf (x .anchor .now) (x .pages .now) (x .backups .now) (x .logs .now) (x .work .now) in
+    task-given _ (x .core) w _ _ _
+    (format-accepted (x .core) w _ (sym (c .before .before .before .before .before .before .before .before .before .before .before .before .before .before .before .before .before .before .before .before .before .before .before .before .is-shut .ensures) ∙ not-false _ (c .before .before .before .before .before .before .before .before .before .before .before .before .before .before .before .before .before .before .before .before .before .before .before .if1 .left)) (omega (arith, c .before .before .before .before .before .before .before .before .before .before .before .before .before .before .before .before .before .before .before .before .before .before .if2 .left)) (sym (c .before .before .before .before .before .before .before .before .before .before .before .before .before .before .before .before .before .before .before .before .before .in-bounds .ensures) ∙ not-false _ (c .before .before .before .before .before .before .before .before .before .before .before .before .before .before .before .before .before .before .before .before .if3 .left))
+    (lengths-tested _ _ w (c .before .before .before .before .before .before .before .before .before .before .before .before .before .before .before .before .before .before .before .narrow .ensures) (c .before .before .before .before .before .before .before .before .before .before .before .before .before .before .before .before .before .before .lengths-right .ensures) ∙ not-false _ (c .before .before .before .before .before .before .before .before .before .before .before .before .before .before .before .before .before .if4 .left)))
+    (rw (c .before .before .before .before .before .before .before .before .before .before .before .before .before .before .before .before .before .before .before .narrow .ensures) at (c .before .before .before .before .before .before .before .before .before .before .lay-out .ensures))
+
+pub format-spec : {M : Type 1} → statement M
+format-spec =
+    tie.close
+    (tie.spec
+    is-shut-requires
+    refuse-requires
+    returns
+    refuse-requires-2
+    returns-2
+    in-bounds-requires
+    refuse-requires-3
+    returns-3
+    narrow-requires
+    lengths-right-requires
+    refuse-requires-4
+    returns-4
+    lay-out-requires
+    same-length
+    same-length-2
+    same-length-3
+    same-length-4
+    same-length-5
+    returns-5)

@@ -1,0 +1,118 @@
+-- The promises of specs/Trace.antt, each from the machine's.
+use mathlib.Core.Path.{_≡_, refl, sym, ap, _∙_}
+use mathlib.Core.List.{List, [], _∷_, _++_}
+use mathlib.Core.Bool.{true}
+use Prim.Native.Nat.{ℕ, _<_}
+use Rattle.model.specs.declared.Core.{Core}
+use Rattle.model.specs.World.{World}
+use Rattle.model.specs.Refusal.{Result, numberOf}
+use Rattle.model.specs.Causes.{whenServing}
+use Rattle.model.specs.Restart.{remaining}
+use Rattle.model.specs.Image.{imageOf}
+use Rattle.model.specs.Call.{Call, restartBegin, restartStep, restartEnd}
+use Rattle.model.specs.Reference.{outcomeOf, Reference, hear}
+use Rattle.model.specs.Machine.{Machine, result, outcome, Run}
+use Rattle.model.specs.History.{recordsOn}
+use Rattle.model.specs.Promise.{Always, PowerLoss, RestartAccepted, RestartFinishes, LogKept, StateTrue, NeverMalformed, ClosingFits, Stored, LogOf}
+use Rattle.model.specs.Trace.{Observed, seen, Step, called, On, next, reached, Linked, begins, AlwaysInCode, PowerLossInCode, EachRestartEnd, RestartAcceptedInCode, RestartFinishesInCode, LogKeptInCode, StateTrueInCode, NeverMalformedInCode, ClosingFitsInCode}
+use Rattle.model.proofs.PowerLoss.{power-loss, restart-accepted, log-kept, state-true, never-malformed}
+use Rattle.model.proofs.Finish.{restart-finishes}
+use Rattle.model.proofs.Sound.Lists.{closing-fits}
+use Rattle.model.proofs.Trace.Events.{as-machine, each-trace, in-code}
+
+-- what follows from a promise of the machine, for the code
+pub carried : (P Q : Machine → Reference → Type 0) → Always P → ((m : Machine) (r : Reference) → P m r → Q m r) → AlwaysInCode Q
+unfolding AlwaysInCode
+carried P Q always then o s f steps l = then _ _ (in-code P always o s f steps l)
+
+-- An observed call on the machine's own slices: its answer, its state and its words are the machine's.
+module _ (m : Machine) (o : Observed) (k : Call) (is : o .call ≡ k) (on : On m o) where
+  pub gave : record { answer = o .reply .answer; budget = o .left; core = o .reply .core; world = o .exit } ≡ result m k
+  gave = as-machine m o on ∙ ap (result m) is
+
+  pub gave-outcome : seen o ≡ outcome m k
+  unfolding outcome
+  gave-outcome = ap (λ (r : Result). outcomeOf (r .answer)) gave
+
+  pub gave-number : numberOf (o .reply .answer) ≡ numberOf (result m k .answer)
+  gave-number = ap (λ (r : Result). numberOf (r .answer)) gave
+
+  gave-core : o .reply .core ≡ result m k .core
+  gave-core = ap (λ (r : Result). r .core) gave
+
+  gave-world : o .exit ≡ result m k .world
+  gave-world = ap (λ (r : Result). r .world) gave
+
+-- The power-loss theorem for the code.
+pub power-loss-in-code : PowerLossInCode
+unfolding PowerLossInCode PowerLoss
+power-loss-in-code =
+    carried _ _ power-loss (λ m r h e budget is on took.
+    ap (λ (w : World). w .pages) (gave-world m e (restartEnd budget) is on)
+    ∙ h budget (sym (gave-outcome m e (restartEnd budget) is on) ∙ took))
+
+-- A list of steps in two parts.
+reached-append : (before rest : List Step) (x : Run) → reached (before ++ rest) x ≡ reached rest (reached before x)
+unfolding reached
+reached-append [] rest x = refl
+reached-append (s ∷ before) rest x = reached-append before rest (next s x)
+
+linked-append : (before rest : List Step) (x : Run) → Linked (before ++ rest) x → Linked before x × Linked rest (reached before x)
+unfolding Linked reached
+linked-append [] rest x l = (tt, l)
+linked-append (s ∷ before) rest x l = let both = linked-append before rest (next s x) (l .1) in ((l .0, both .0), both .1)
+
+-- For each restart end of a list.
+pub each-restart-end : EachRestartEnd
+unfolding EachRestartEnd PowerLossInCode AlwaysInCode Linked reached hear
+each-restart-end o s f before later e budget l is took =
+    let parts = linked-append before (called e ∷ later) (begins o s) l in
+    rw (reached-append before (called e ∷ []) (begins o s), is, took)
+    (power-loss-in-code o s f before (parts .0) e budget is (parts .1 .0 .0) took)
+
+-- A restart begin of a shut store is refused for its number only.
+pub restart-accepted-in-code : RestartAcceptedInCode
+unfolding RestartAcceptedInCode RestartAccepted
+restart-accepted-in-code =
+    carried _ _ restart-accepted (λ m r h shut b is on. rw (gave-number m b restartBegin is on) (h shut))
+
+-- A restart that was begun can be finished.
+pub restart-finishes-in-code : RestartFinishesInCode
+unfolding RestartFinishesInCode RestartFinishes
+restart-finishes-in-code =
+    carried _ _ restart-finishes (λ m r h replaying.
+    let f = h replaying in
+    record {
+      steps = λ o source is on some.
+          let k : Call = restartStep source in (
+            gave-outcome m o k is on ∙ f .steps source some,
+            rw (gave-core m o k is on) (f .less source some),
+            λ other ne. ap (λ (c : Core). remaining c other) (gave-core m o k is on) ∙ f .others source other ne,
+          );
+      ends = λ e budget is on none enough. gave-outcome m e (restartEnd budget) is on ∙ f .ends budget none enough;
+    })
+
+-- What the state says is true.
+pub state-true-in-code : StateTrueInCode
+unfolding StateTrueInCode StateTrue
+state-true-in-code = in-code _ state-true
+
+-- No call finds a malformed record.
+pub never-malformed-in-code : NeverMalformedInCode
+unfolding NeverMalformedInCode NeverMalformed
+never-malformed-in-code =
+    carried _ _ never-malformed (λ m r h o on seven. h (o .call) (sym (gave-number m o (o .call) refl on) ∙ seven))
+
+-- Commit and abort always fit.
+pub closing-fits-in-code : ClosingFitsInCode
+unfolding ClosingFitsInCode ClosingFits
+closing-fits-in-code = in-code _ closing-fits
+
+-- Each disk's words are the records that the calls put there.
+pub log-kept-in-code : LogKeptInCode
+unfolding LogKeptInCode LogKept
+log-kept-in-code =
+    each-trace (λ put x.
+    ((disk : ℕ) → disk < imageOf (x .machine .world) .sizes .disks → Stored (imageOf (x .machine .world)) disk (recordsOn disk put))
+    × (whenServing (x .machine .core .stage) ≡ true → (disk : ℕ) → disk < x .machine .core .sizes .disks
+    → LogOf (x .machine) disk (recordsOn disk put))) log-kept

@@ -1,0 +1,231 @@
+-- The promises of specs/Promise.antt about the code: for every list of its calls as they were observed. All that is used of a call is
+-- its contract, `Gives` (specs/Call.antt): a premise here, proved of the call where its code stands.
+use mathlib.Core.Path.{_≡_}
+use Prim.Native.Nat.{ℕ, _+_, _≤_, _<_}
+use mathlib.Core.List.{List, [], _∷_, _++_}
+use mathlib.Core.Bool.{true, false, _||_}
+use lib.ListN.{length, getD}
+use lib.Dec.{eqb}
+use Rattle.model.specs.declared.Stage.the-variants.{Shut, Replaying}
+use Rattle.model.specs.declared.Sizes.{Sizes}
+use Rattle.model.specs.declared.Core.{Core}
+use Rattle.model.specs.declared.Reply.{Reply}
+use Rattle.model.specs.Sizes.{total}
+use Rattle.model.specs.World.{World}
+use Rattle.model.specs.State.{endOf, isOpen}
+use Rattle.model.specs.Refusal.{numberOf}
+use Rattle.model.specs.Causes.{whenServing, tailOn}
+use Rattle.model.specs.Transaction.{diskOf, readWords}
+use Rattle.model.specs.Restart.{remaining}
+use Rattle.model.specs.Call.{Call, format, update, read, commit, restartBegin, restartStep, restartEnd, Gives}
+use Rattle.model.specs.Image.{imageOf}
+use Rattle.model.specs.Reference.{Outcome, taken, refused, interrupted, outcomeOf, Reference, blank, heard, hear, slotIndex, wordsIn, plainTable, writtenByOther}
+use Rattle.model.specs.Machine.{Machine, isRefused, scrambled, Run}
+use Rattle.model.specs.History.{Put, toldBy, recordsOn}
+use Rattle.model.specs.Promise.{PlainTable, Stored, LogOf, Truth, Closable}
+
+-- A call of the code as it was observed: the call with its arguments; the state and the words that it got; the answer and the state
+-- that it handed back; the budget that it left, 0 for a call that takes none; the words as it left them. A new state touches no word;
+-- the state that it got is the one that it takes the place of.
+pub record Observed : Type 0 where
+  pub call : Call
+  pub core : Core
+  pub entry : World
+  pub reply : Reply
+  pub left : ℕ
+  pub exit : World
+
+-- it kept its contract
+unfoldable pub KeepsContract : Observed → Type 0
+KeepsContract o = Gives (o .call) (o .core) (o .entry) (o .reply) (o .left) (o .exit)
+
+-- whether it was taken, refused or cut: what it answered, not what it should have
+abbrev pub seen : Observed → Outcome
+seen o = outcomeOf (o .reply .answer)
+
+-- What may happen after a format. A power failure inside a call is that call's budget; between two calls it is a new state.
+pub data Step : Type 0 where
+  -- a call on the slices as they were left
+  called : Observed → Step
+  -- a call that was lent other slices, some or all of them
+  elsewhere : Observed → Step
+  -- what lost power leaves in the page memory and in the work memory
+  lost : (pages work : List ℕ) → Step
+
+-- "Each call gets the devices, the state and the pages as the last one left or returned them": those of the machine. It kept its
+-- contract.
+pub record On (m : Machine) (o : Observed) : Type 0 where
+  pub core : o .core ≡ m .core
+  pub entry : o .entry ≡ m .world
+  pub kept : KeepsContract o
+
+-- "save that a refused call may be lent slices of other lengths": it gets the machine's state all the same. It kept its
+-- contract.
+pub record Beside (m : Machine) (o : Observed) : Type 0 where
+  pub core : o .core ≡ m .core
+  pub kept : KeepsContract o
+  pub turned : seen o ≡ refused
+
+-- "only in stage shut the pages may hold anything, as lost power leaves them"
+pub record Scrambles (m : Machine) (pages work : List ℕ) : Type 0 where
+  pub stage : m .core .stage ≡ Shut
+  pub pageLength : length pages ≡ length (m .world .pages)
+  pub workLength : length work ≡ length (m .world .work)
+
+-- "and a format if refused"
+unfoldable pub FormatRefused : Observed → Type 0
+FormatRefused o = (s : Sizes) (budget : ℕ) → o .call ≡ format s budget → seen o ≡ refused
+
+-- the step may come next
+abbrev pub Fits : Machine → Step → Type 0
+Fits m (called o) = On m o × FormatRefused o
+Fits m (elsewhere o) = Beside m o
+Fits m (lost pages work) = Scrambles m pages work
+
+-- The machine and the reference after a step. The machine is what the call handed back and left; after a call that was lent other
+-- slices its words are as they were (`turned-away`: a refused call leaves every word that it was lent). The reference hears what was
+-- answered.
+abbrev pub next : Step → Run → Run
+next (called o) x =
+    record {
+      machine = record { core = o .reply .core; world = o .exit };
+      reference = hear (heard (o .call) (o .reply .answer)) (x .reference);
+    }
+next (elsewhere o) x =
+    record {
+      machine = record { core = o .reply .core; world = x .machine .world };
+      reference = hear (heard (o .call) (o .reply .answer)) (x .reference);
+    }
+next (lost pages work) x =
+    record {
+      machine = record { core = x .machine .core; world = scrambled (x .machine .world) pages work };
+      reference = x .reference;
+    }
+
+unfoldable pub reached : List Step → Run → Run
+reached [] x = x
+reached (s ∷ steps) x = reached steps (next s x)
+
+-- each step gets what the one before it left
+unfoldable pub Linked : List Step → Run → Type 0
+Linked [] x = Unit {0}
+Linked (s ∷ steps) x = Fits (x .machine) s × Linked steps (next s x)
+
+-- A format of these sizes, on any state and any slices, that kept its contract and was taken.
+pub record Formats (o : Observed) (s : Sizes) : Type 0 where
+  pub budget : ℕ
+  pub call : o .call ≡ format s budget
+  pub kept : KeepsContract o
+  pub finished : seen o ≡ taken
+
+-- where a trace starts: what that format handed back and left, with a blank reference
+unfoldable pub begins : Observed → Sizes → Run
+begins o s = record { machine = record { core = o .reply .core; world = o .exit }; reference = blank s }
+
+-- P holds of every machine and reference that is reached so: let a format of the code be taken, on any state and any slices. Then let
+-- any steps come, each linked to the one before: calls of the code, taken, refused or cut at any store, also inside a restart, whichever
+-- sources its steps name in whichever order; refused calls on other slices; new states; refused formats; and whatever lost power leaves
+-- in the memories while the store is shut. Of the calls nothing is supposed but that each kept its contract.
+unfoldable pub AlwaysInCode : (Machine → Reference → Type 0) → Type 0
+AlwaysInCode P =
+    (o : Observed) (s : Sizes) → Formats o s
+    → (steps : List Step) → Linked steps (begins o s)
+    → P (reached steps (begins o s) .machine) (reached steps (begins o s) .reference)
+
+-- Power loss. If the code's restart end is then called and is taken, the page memory that it leaves equals, word for word, the values
+-- that the committed transactions alone made, in commit order.
+unfoldable pub PowerLossInCode : Type 0
+PowerLossInCode =
+    AlwaysInCode λ m r. (e : Observed) (budget : ℕ) → e .call ≡ restartEnd budget → On m e → seen e ≡ taken
+    → e .exit .pages ≡ wordsIn (r .committed)
+
+-- The same, read off one list: "the pages after each restart end that is taken equal, word for word, the results in 01's book for the
+-- calls up to it".
+unfoldable pub EachRestartEnd : Type 0
+EachRestartEnd =
+    (o : Observed) (s : Sizes) → Formats o s
+    → (before later : List Step) (e : Observed) (budget : ℕ) → Linked (before ++ called e ∷ later) (begins o s)
+    → e .call ≡ restartEnd budget → seen e ≡ taken
+    → e .exit .pages ≡ wordsIn (reached (before ++ called e ∷ []) (begins o s) .reference .committed)
+
+-- The code's restart begin, called in stage shut on the slices as they were left, answers 0 or 13.
+unfoldable pub RestartAcceptedInCode : Type 0
+RestartAcceptedInCode =
+    AlwaysInCode λ m r. m .core .stage ≡ Shut → (b : Observed) → b .call ≡ restartBegin → On m b
+    → (eqb (numberOf (b .reply .answer)) 0 || eqb (numberOf (b .reply .answer)) 13) ≡ true
+
+-- A restart can be finished: a step of the code from a source that has something left is taken, and hands back a state with less of
+-- that source and as much of every other; once nothing is left, an end that has its T + D + 1 stores is taken.
+pub record FinishableInCode (m : Machine) : Type 0 where
+  pub steps : (o : Observed) (source : ℕ) → o .call ≡ restartStep source → On m o → 0 < remaining (m .core) source
+      → (seen o ≡ taken) × (remaining (o .reply .core) source < remaining (m .core) source)
+      × ((other : ℕ) → (other ≡ source → ⊥) → remaining (o .reply .core) other ≡ remaining (m .core) other)
+  pub ends : (e : Observed) (budget : ℕ) → e .call ≡ restartEnd budget → On m e
+      → ((source : ℕ) → source ≤ m .core .sizes .disks → remaining (m .core) source ≡ 0)
+      → total (m .core .sizes) + m .core .sizes .disks + 1 ≤ budget → seen e ≡ taken
+
+unfoldable pub RestartFinishesInCode : Type 0
+RestartFinishesInCode = AlwaysInCode λ m r. m .core .stage ≡ Replaying → FinishableInCode m
+
+-- How an update or a read of a slot is answered: 11 only where another open write set has a write to the slot, and where one has, the
+-- call is refused.
+pub record Guarded (r : Reference) (o : Observed) (number page slot : ℕ) : Type 0 where
+  pub locked : numberOf (o .reply .answer) ≡ 11 → writtenByOther number page slot (r .writeSets) ≡ true
+  pub free : isRefused (seen o) ≡ false → writtenByOther number page slot (r .writeSets) ≡ false
+
+-- A plain table of slots: the state and the words that the code's calls left are those of PlainTable, and a read of the code that is
+-- taken gives the slot's value there. `words` are what that read hands back, by its contract.
+pub record PlainTableInCode (m : Machine) (r : Reference) : Type 0 where
+  pub table : PlainTable m r
+  pub reads : (o : Observed) (reader page slot : ℕ) (words : List ℕ) → o .call ≡ read reader page slot → On m o → seen o ≡ taken
+      → words ≡ readWords (o .core) (o .entry) reader page slot
+      → words ≡ getD (plainTable r) (slotIndex (r .sizes) page slot) []
+  pub readLocks : (o : Observed) (reader page slot : ℕ) → o .call ≡ read reader page slot → On m o → Guarded r o reader page slot
+  pub updateLocks : (o : Observed) (number page slot : ℕ) (value : List ℕ) (budget : ℕ)
+      → o .call ≡ update number page slot value budget → On m o → Guarded r o number page slot
+
+unfoldable pub TableInCode : Type 0
+TableInCode = AlwaysInCode λ m r. whenServing (m .core .stage) ≡ true → PlainTableInCode m r
+
+-- what the observed calls put into the logs (specs/History.antt), told by what each of them answered and got; a call that was lent other
+-- slices is refused and puts nothing
+abbrev pub toldIn : Step → List Put → List Put
+toldIn (called o) puts = toldBy (seen o) (o .call) (o .core) (o .entry) puts
+toldIn (elsewhere o) puts = puts
+toldIn (lost pages work) puts = puts
+
+unfoldable pub historyIn : List Step → List Put → List Put
+historyIn [] puts = puts
+historyIn (s ∷ steps) puts = historyIn steps (toldIn s puts)
+
+-- The log: as LogKept, for the words that the code's calls left and the records that they put.
+unfoldable pub LogKeptInCode : Type 0
+LogKeptInCode =
+    (o : Observed) (s : Sizes) → Formats o s
+    → (steps : List Step) → Linked steps (begins o s)
+    → let n : Machine = reached steps (begins o s) .machine in
+    let put : List Put = historyIn steps [] in
+    ((disk : ℕ) → disk < imageOf (n .world) .sizes .disks → Stored (imageOf (n .world)) disk (recordsOn disk put))
+    × (whenServing (n .core .stage) ≡ true → (disk : ℕ) → disk < n .core .sizes .disks → LogOf n disk (recordsOn disk put))
+
+-- The state that the code hands back says what is true of the words that it left.
+unfoldable pub StateTrueInCode : Type 0
+StateTrueInCode = AlwaysInCode λ m r. whenServing (m .core .stage) ≡ true → Truth m
+
+-- No call of the code on the slices as they were left answers 7.
+unfoldable pub NeverMalformedInCode : Type 0
+NeverMalformedInCode = AlwaysInCode λ m r. (o : Observed) → On m o → numberOf (o .reply .answer) ≡ 7 → ⊥
+
+-- Commit and abort always fit, by the state that the code hands back.
+unfoldable pub ClosingFitsInCode : Type 0
+ClosingFitsInCode =
+    AlwaysInCode λ m r. whenServing (m .core .stage) ≡ true → (t : ℕ) → isOpen (m .core .table) t ≡ true → Closable (m .core) t
+
+-- The commit point. The commit record goes to position p, the end of the log of the transaction's disk. A commit of the code that is
+-- taken leaves that disk's tail word at p + 2, behind the record; one that is cut, at whichever store, leaves it at p or below.
+unfoldable pub CommitPointsInCode : Type 0
+CommitPointsInCode =
+    AlwaysInCode λ m r. (o : Observed) (t budget : ℕ) → o .call ≡ commit t budget → On m o
+    → let p : ℕ = endOf (m .core .logs) (diskOf (m .core) t) in
+    let tail : ℕ = tailOn (m .core .sizes) (o .exit) (diskOf (m .core) t) in
+    (seen o ≡ taken → tail ≡ p + 2) × (seen o ≡ interrupted → tail ≤ p)

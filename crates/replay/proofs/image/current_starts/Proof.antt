@@ -1,0 +1,43 @@
+-- `replay::image::current_starts` meets its contract: the row that the checkpoint number names. Assumes nothing.
+use mathlib.Core.Path.{_∙_}
+use Prim.Native.Nat.{_≤_}
+use native.Mathlib.Omega.{arith}
+use borrow.Author.Needs.{needs}
+use Rattle.model.specs.Anchor.{epochOn}
+use Rattle.replay.proofs.Eights.{current-row, eight-per-disk}
+use Rattle.replay.proofs.image.current_starts.Statement.{statement}
+use Rattle.replay.proofs.image.current_starts.Tie as tie
+
+read-rows-requires : tie.Need-read-rows-requires
+read-rows-requires c κs = search needs
+
+shared-slice-read-current : tie.Need-shared-slice-read-current
+shared-slice-read-current c = search needs
+
+mul-keep-below : tie.Need-mul-keep-below
+mul-keep-below c = search needs
+
+array-copy-out-keep-below : tie.Need-array-copy-out-keep-below
+array-copy-out-keep-below c = search needs
+
+keep-below-requires : tie.Need-keep-below-requires
+keep-below-requires c κs = search needs
+
+returns : tie.Need-returns
+unfolding epochOn
+returns c =
+    λ s e.
+    let few : s .disks ≤ 8 = omega (arith, c .before .before .before .before .before .pre .0) in
+    rw (← e) at (c .keep-below .ensures)
+    ∙ eight-per-disk s _ _ few (λ d h. current-row _ (c .before .before .before .read-rows .ensures) d (omega arith))
+
+pub current-starts-spec : {M : Type 1} → statement M
+current-starts-spec =
+    tie.close
+    (tie.spec
+    read-rows-requires
+    shared-slice-read-current
+    mul-keep-below
+    array-copy-out-keep-below
+    keep-below-requires
+    returns)

@@ -1,0 +1,61 @@
+-- `replay::image::keep_below` meets its contract: the words passed are kept. Assumes nothing.
+use Prim.Native.Nat.{_-_, _≤_}
+use mathlib.Core.Path.{_≡_, refl}
+use lib.ListN.{getD}
+use native.Mathlib.Omega.{arith}
+use borrow.Author.Needs.{needs}
+use Rattle.replay.specs.Parts.{eightBelow}
+use Rattle.replay.proofs.Eights.{eight-none, eight-more}
+use Rattle.replay.proofs.image.keep_below.Statement.{statement}
+use Rattle.replay.proofs.image.keep_below.Tie as tie
+
+abbrev Inv-loop : tie.InvT-loop
+Inv-loop n row kept₀ d₀ kept d = (d ≤ n) × (kept ≡ eightBelow d (λ i. getD row i 0))
+
+abbrev μ-loop : tie.MeasureT-loop
+μ-loop n row kept₀ d₀ kept d = n - d
+
+loop-holds : tie.Need-loop-holds Inv-loop μ-loop
+loop-holds c = (omega arith, eight-none _)
+
+mul-kept : tie.Need-mul-kept Inv-loop μ-loop
+mul-kept c = search needs
+
+array-read-kept : tie.Need-array-read-kept Inv-loop μ-loop
+array-read-kept c = search needs
+
+mul-kept-2 : tie.Need-mul-kept-2 Inv-loop μ-loop
+mul-kept-2 c = search needs
+
+array-write-kept : tie.Need-array-write-kept Inv-loop μ-loop
+array-write-kept c = search needs
+
+add-d : tie.Need-add-d Inv-loop μ-loop
+add-d c = search needs
+
+loop-less : tie.Need-loop-less Inv-loop μ-loop
+loop-less c = search needs
+
+loop-again : tie.Need-loop-again Inv-loop μ-loop
+loop-again c = (omega arith, rw (c .before .loop .inv .1) (eight-more _ _ _ (omega arith) refl))
+
+returns : tie.Need-returns Inv-loop μ-loop
+returns c =
+    let last : c .before .loop .d ≡ c .before .before .args .n = omega arith in
+    rw last at (c .before .loop .inv .1)
+
+pub keep-below-spec : {M : Type 1} → statement M
+keep-below-spec =
+    tie.close
+    (tie.spec
+    Inv-loop
+    μ-loop
+    loop-holds
+    mul-kept
+    array-read-kept
+    mul-kept-2
+    array-write-kept
+    add-d
+    loop-less
+    loop-again
+    returns)

@@ -1,0 +1,79 @@
+-- `replay::image::tails_on` meets its contract: the tails passed are read. Assumes nothing.
+use Prim.Native.Nat.{_+_, _*_, _-_, _≤_}
+use mathlib.Core.Path.{_≡_, refl, _∙_}
+use lib.ListN.{getD}
+use native.Mathlib.Omega.{arith}
+use borrow.Author.Needs.{needs}
+use Rattle.model.specs.Sizes.{diskAt, tailWord}
+use Rattle.log.proofs.Scanning.{disk-within}
+use Rattle.replay.specs.Parts.{eightBelow}
+use Rattle.replay.proofs.Eights.{eight-none, eight-more, eight-per-disk}
+use Rattle.replay.proofs.image.tails_on.Statement.{statement}
+use Rattle.replay.proofs.image.tails_on.Tie as tie
+
+abbrev Inv-loop : tie.InvT-loop
+Inv-loop logs disks ring tails₀ d₀ tails d = (d ≤ disks) × (tails ≡ eightBelow d (λ i. getD logs (i * (ring + 1)) 0))
+
+abbrev μ-loop : tie.MeasureT-loop
+μ-loop logs disks ring tails₀ d₀ tails d = disks - d
+
+loop-holds : tie.Need-loop-holds Inv-loop μ-loop
+loop-holds c = (omega arith, eight-none _)
+
+add-at : tie.Need-add-at Inv-loop μ-loop
+add-at c = search needs
+
+mul-at : tie.Need-mul-at Inv-loop μ-loop
+mul-at c =
+    let start = c .before .before in
+    omega (arith, disk-within (c .before .loop .d) (start .args .sizes .disks) (start .args .sizes .ring) (c .loop-test .taken))
+
+mul-tails : tie.Need-mul-tails Inv-loop μ-loop
+mul-tails c =
+    let start = c .before .before in
+    omega (arith, disk-within (c .before .loop .d) (start .args .sizes .disks) (start .args .sizes .ring) (c .loop-test .taken))
+
+shared-slice-read-tails : tie.Need-shared-slice-read-tails Inv-loop μ-loop
+shared-slice-read-tails c =
+    let at-loop = c .before .before in
+    let start = at-loop .before in
+    omega (arith, disk-within (at-loop .loop .d) (start .args .sizes .disks) (start .args .sizes .ring) (c .before .loop-test .taken))
+
+mul-tails-2 : tie.Need-mul-tails-2 Inv-loop μ-loop
+mul-tails-2 c = search needs
+
+array-write-tails : tie.Need-array-write-tails Inv-loop μ-loop
+array-write-tails c = search needs
+
+add-d : tie.Need-add-d Inv-loop μ-loop
+add-d c = search needs
+
+loop-less : tie.Need-loop-less Inv-loop μ-loop
+loop-less c = search needs
+
+loop-again : tie.Need-loop-again Inv-loop μ-loop
+loop-again c = (omega arith, rw (c .before .before .loop .inv .1) (eight-more _ _ _ (omega arith) refl))
+
+returns : tie.Need-returns Inv-loop μ-loop
+unfolding tailWord diskAt
+returns c =
+    let last : c .before .loop .d ≡ c .before .before .args .sizes .disks = omega arith in
+    rw last at (c .before .loop .inv .1) ∙ eight-per-disk (c .before .before .args .sizes) _ _ (omega arith) (λ d h. refl)
+
+pub tails-on-spec : {M : Type 1} → statement M
+tails-on-spec =
+    tie.close
+    (tie.spec
+    Inv-loop
+    μ-loop
+    loop-holds
+    add-at
+    mul-at
+    mul-tails
+    shared-slice-read-tails
+    mul-tails-2
+    array-write-tails
+    add-d
+    loop-less
+    loop-again
+    returns)

@@ -1,0 +1,71 @@
+-- `replay::image::wrong_tail` meets its contract: no disk passed has a wrong tail. Assumes nothing.
+use Prim.Native.Nat.{ℕ, _-_, _≤_, _<_}
+use mathlib.Core.Path.{_≡_, sym, _∙_}
+use mathlib.Core.Bool.{false}
+use lib.ListN.{getD}
+use native.Mathlib.Omega.{arith}
+use borrow.Author.Needs.{needs}
+use Rattle.model.proofs.Below.{below-suc}
+use Rattle.replay.specs.Parts.{tailOut}
+use Rattle.replay.proofs.Tails.{search-found, search-none}
+use Rattle.replay.proofs.image.wrong_tail.Statement.{statement}
+use Rattle.replay.proofs.image.wrong_tail.Tie as tie
+
+abbrev Inv-loop : tie.InvT-loop
+Inv-loop disks ring starts tails d₀ d = (d ≤ disks) × ((j : ℕ) → j < d → tailOut ring (getD starts j 0) (getD tails j 0) ≡ false)
+
+abbrev μ-loop : tie.MeasureT-loop
+μ-loop disks ring starts tails d₀ d = disks - d
+
+loop-holds : tie.Need-loop-holds Inv-loop μ-loop
+loop-holds c = (omega arith, λ j h. absurd (omega arith))
+
+mul-tail-out : tie.Need-mul-tail-out Inv-loop μ-loop
+mul-tail-out c = search needs
+
+array-read-tail-out : tie.Need-array-read-tail-out Inv-loop μ-loop
+array-read-tail-out c = search needs
+
+mul-tail-out-2 : tie.Need-mul-tail-out-2 Inv-loop μ-loop
+mul-tail-out-2 c = search needs
+
+array-read-tail-out-2 : tie.Need-array-read-tail-out-2 Inv-loop μ-loop
+array-read-tail-out-2 c = search needs
+
+tail-out-requires : tie.Need-tail-out-requires Inv-loop μ-loop
+tail-out-requires c κs = search needs
+
+returns : tie.Need-returns Inv-loop μ-loop
+returns c = search-found _ _ _ (c .before .before .before .loop .inv .1) (omega arith) (sym (c .before .tail-out .ensures) ∙ c .if1 .taken)
+
+add-d : tie.Need-add-d Inv-loop μ-loop
+add-d c = search needs
+
+loop-less : tie.Need-loop-less Inv-loop μ-loop
+loop-less c = search needs
+
+loop-again : tie.Need-loop-again Inv-loop μ-loop
+loop-again c =
+    let at-loop = c .before .before .before in
+    (omega arith, λ j h. below-suc _ (at-loop .loop .d) (at-loop .loop .inv .1) (sym (c .before .tail-out .ensures) ∙ c .if1 .left) j (omega arith))
+
+returns-2 : tie.Need-returns-2 Inv-loop μ-loop
+returns-2 c = search-none _ _ (c .before .loop .d) (c .before .loop .inv .1) (omega arith)
+
+pub wrong-tail-spec : {M : Type 1} → statement M
+wrong-tail-spec =
+    tie.close
+    (tie.spec
+    Inv-loop
+    μ-loop
+    loop-holds
+    mul-tail-out
+    array-read-tail-out
+    mul-tail-out-2
+    array-read-tail-out-2
+    tail-out-requires
+    returns
+    add-d
+    loop-less
+    loop-again
+    returns-2)

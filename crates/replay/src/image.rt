@@ -1,0 +1,116 @@
+// What restart begin reads: the anchor's sizes and current starts, and the tails.
+use layout::anchor::read_rows;
+use layout::anchor::read_sizes;
+use layout::bounds::in_bounds;
+use layout::bounds::narrow;
+use model::Sizes;
+use table::room::LIMIT;
+ghost use mathlib.Core.Path.{_≡_};
+ghost use mathlib.Core.Bool.{true};
+ghost use Prim.Native.Nat.{_+_, _*_, _≤_};
+ghost use lib.ListN.{length, getD};
+ghost use Rattle.model.specs.Below.{firstBelow};
+ghost use Rattle.model.specs.Sizes.{tailWord, sizesInBounds};
+ghost use Rattle.model.specs.Anchor.{anchorWords, sizesOn, startOn};
+ghost use Rattle.model.specs.Checkpoint.{perDisk};
+ghost use Rattle.replay.specs.Parts.{anchorRefusal, tailOut, eightBelow};
+
+// 2 for a wrong length, 3 for an unformatted anchor, 4 for sizes out of bounds, else 0.
+pub fn anchor_refusal(anchor: &[u64]) -> u64
+    ensures { λ r. ⌜ r ≡ anchorRefusal (now (anchor .entry)) ⌝ }
+{
+    if anchor.len() != 148 {
+        return 2;
+    }
+    if anchor[3] == 0 {
+        return 3;
+    }
+    let raw = read_sizes(anchor);
+    let slots = raw.slots;
+    let widths = raw.widths;
+    if in_bounds(raw.pages, raw.disks, raw.ring, slots, widths) {
+        0
+    } else {
+        4
+    }
+}
+
+// The sizes that an anchor gives.
+pub fn anchor_sizes(anchor: &[u64]) -> Sizes
+    requires { ⌜ (length (now anchor) ≡ anchorWords) × (sizesInBounds (sizesOn (now anchor)) ≡ true) ⌝ }
+    ensures { λ r. ⌜ r ≡ sizesOn (now (anchor .entry)) ⌝ }
+{
+    let raw = read_sizes(anchor);
+    let slots = raw.slots;
+    let widths = raw.widths;
+    narrow(raw.pages, raw.disks, raw.ring, slots, widths)
+}
+
+// The first n words of a row, then zeros.
+fn keep_below(row: [u64; 8], n: u64) -> [u64; 8]
+    requires { ⌜ n ≤ 8 ⌝ }
+    ensures { λ r. ⌜ r ≡ eightBelow n (λ d. getD row d 0) ⌝ }
+{
+    let mut kept = [0u64; 8];
+    let mut d: u64 = 0;
+    while d < n {
+        kept[d as usize] = row[d as usize];
+        d += 1;
+    }
+    kept
+}
+
+// Where the retained logs start: the current row.
+pub fn current_starts(disks: u64, anchor: &[u64]) -> [u64; 8]
+    requires { ⌜ (disks ≤ 8) × (length (now anchor) ≡ anchorWords) ⌝ }
+    ensures { λ r. ⌜ ((s : Sizes) → s .disks ≡ disks → r ≡ perDisk s (startOn (now (anchor .entry)))) ⌝ }
+{
+    let rows = read_rows(anchor);
+    let current = (anchor[3] % 2) as usize;
+    keep_below(rows[current], disks)
+}
+
+// The tails, as the log disks have them.
+pub fn tails_on(sizes: Sizes, logs: &[u64]) -> [u64; 8]
+    requires { ⌜ (sizes .disks ≤ 8) × (sizes .ring ≤ 65536) × (sizes .disks * (sizes .ring + 1) ≤ length (now logs)) ⌝ }
+    ensures { λ r. ⌜ r ≡ perDisk sizes (λ d. getD (now (logs .entry)) (tailWord sizes d) 0) ⌝ }
+{
+    let disks = sizes.disks;
+    let ring = sizes.ring;
+    let mut tails = [0u64; 8];
+    let mut d: u64 = 0;
+    while d < disks {
+        let at = (d * (ring + 1)) as usize;
+        tails[d as usize] = logs[at];
+        d += 1;
+    }
+    tails
+}
+
+// The distance is tested after the order, and so without a sum, which may not fit a word.
+fn tail_out(ring: u64, start: u64, tail: u64) -> bool
+    ensures { λ r. ⌜ r ≡ tailOut ring start tail ⌝ }
+{
+    if tail < start {
+        return true;
+    }
+    if ring < tail - start {
+        return true;
+    }
+    LIMIT < tail
+}
+
+// The lowest disk whose tail is wrong, the number of disks where none is.
+pub fn wrong_tail(disks: u64, ring: u64, starts: [u64; 8], tails: [u64; 8]) -> u64
+    requires { ⌜ disks ≤ 8 ⌝ }
+    ensures { λ r. ⌜ r ≡ firstBelow (λ d. tailOut ring (getD starts d 0) (getD tails d 0)) disks ⌝ }
+{
+    let mut d: u64 = 0;
+    while d < disks {
+        if tail_out(ring, starts[d as usize], tails[d as usize]) {
+            return d;
+        }
+        d += 1;
+    }
+    disks
+}

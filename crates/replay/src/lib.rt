@@ -1,0 +1,4 @@
+// The parts of a restart: what its begin reads from the devices, what a step XORs in, what its end stores.
+pub mod image;
+pub mod save;
+pub mod take;

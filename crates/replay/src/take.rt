@@ -1,0 +1,85 @@
+// What a restart step XORs into the pages: a record's difference, a page of the backup.
+use layout::places::page_base;
+use layout::places::page_words;
+use layout::places::total;
+use log::read::read_word;
+use model::Sizes;
+use words::xor_in;
+ghost use mathlib.Core.Path.{_≡_};
+ghost use mathlib.Core.List.{[]};
+ghost use mathlib.Core.Bool.{true, cond};
+ghost use Prim.Native.Nat.{_+_, _*_, _≤_, _<_};
+ghost use lib.ListN.{length};
+ghost use Rattle.model.specs.Word.{part};
+ghost use Rattle.model.specs.Sizes.{pageBase, pageWords, total, sizesInBounds};
+ghost use Rattle.model.specs.Anchor.{backupAt};
+ghost use Rattle.model.specs.Decode.{readLog, span};
+ghost use Rattle.model.specs.Image.{xorAt};
+ghost use Rattle.log.specs.Reading.{Readable};
+
+// XORs the n words of a disk's log that start at position `from` into pages at `at`.
+fn xor_span(
+    pages: &mut [u64],
+    at: u64,
+    sizes: Sizes,
+    logs: &[u64],
+    disk: u64,
+    tail: u64,
+    from: u64,
+    n: u64,
+)
+    requires { ⌜ Readable sizes (now logs) disk tail [] tail × (at + n ≤ length (now pages)) × (from + n ≤ tail) ⌝ }
+    ensures { λ _. ⌜ now (pages .exit) ≡ xorAt at (span (readLog sizes (now (logs .entry)) disk tail []) from n) (now (pages .entry)) ⌝ }
+{
+    let none = &logs[0..0];
+    let mut i: u64 = 0;
+    while i < n {
+        let word = read_word(logs, disk, sizes.ring, tail, none, from + i);
+        let here = (at + i) as usize;
+        pages[here] ^= word;
+        i += 1;
+    }
+}
+
+// The same if `replays` says so, and else nothing.
+pub fn replay_span(
+    replays: bool,
+    pages: &mut [u64],
+    at: u64,
+    sizes: Sizes,
+    logs: &[u64],
+    disk: u64,
+    tail: u64,
+    from: u64,
+    n: u64,
+)
+    requires { ⌜ Readable sizes (now logs) disk tail [] tail × (at + n ≤ length (now pages)) × (from + n ≤ tail) ⌝ }
+    ensures { λ _. ⌜ now (pages .exit) ≡ cond replays (xorAt at (span (readLog sizes (now (logs .entry)) disk tail []) from n) (now (pages .entry))) (now (pages .entry)) ⌝ }
+{
+    if replays {
+        xor_span(pages, at, sizes, logs, disk, tail, from, n);
+    }
+}
+
+// Where checkpoint `epoch` keeps the pages.
+pub fn backup_at(sizes: Sizes, epoch: u64) -> u64
+    requires { ⌜ sizes .pages ≤ 64 ⌝ }
+    ensures { λ r. ⌜ (r ≡ backupAt sizes epoch) × (r + total sizes ≤ 2 * total sizes) ⌝ }
+{
+    let words = total(sizes);
+    if epoch % 2 == 0 {
+        return 0;
+    }
+    words
+}
+
+// XORs a page of the current backup into the pages.
+pub fn xor_page(pages: &mut [u64], backups: &[u64], sizes: Sizes, epoch: u64, page: u64)
+    requires { ⌜ (sizesInBounds sizes ≡ true) × (page < sizes .pages) × (length (now pages) ≡ total sizes) × (length (now backups) ≡ 2 * total sizes) ⌝ }
+    ensures { λ _. ⌜ now (pages .exit) ≡ xorAt (pageBase sizes page) (part (backupAt sizes epoch + pageBase sizes page) (pageWords sizes page) (now (backups .entry))) (now (pages .entry)) ⌝ }
+{
+    let base = page_base(sizes, page);
+    let n = page_words(sizes, page);
+    let from = backup_at(sizes, epoch) + base;
+    xor_in(pages, base as usize, backups, from as usize, n as usize);
+}

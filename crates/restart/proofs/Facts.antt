@@ -1,0 +1,70 @@
+-- What a replaying state gives the functions that a step calls.
+use mathlib.Core.Path.{_≡_}
+use mathlib.Core.List.{List, []}
+use Prim.Native.Nat.{ℕ, _+_, _≤_, _<_}
+use native.Mathlib.Omega.{arith}
+use lib.ListN.{length}
+use Rattle.model.specs.declared.Core.{Core}
+use Rattle.model.specs.declared.Decoded.the-variants.{Change}
+use Rattle.model.specs.Sizes.{slotBase}
+use Rattle.model.specs.World.{World}
+use Rattle.model.specs.State.{limit, tailOf}
+use Rattle.model.specs.Causes.{whenReplaying}
+use Rattle.model.specs.Restart.{readDisk, nextRecord}
+use Rattle.model.proofs.Bounds.{Bounded, bounded}
+use Rattle.model.proofs.Decode.{found-change}
+use Rattle.model.proofs.Geometry.{slot-end-total}
+use Rattle.model.proofs.Lengths.{Lengths, lengths-right}
+use Rattle.model.proofs.Sound.Test.{ReplaySound, replay-sound}
+use Rattle.frame.proofs.Verdicts.{Passed}
+use Rattle.log.specs.Reading.{Readable}
+use Rattle.log.proofs.Ready.{readable}
+use Rattle.restart.specs.Rest.{Replays, OnLog, ChangeFits}
+
+module _ (c : Core) (r : Replays c) where
+  pub replaying : ReplaySound c
+  replaying = replay-sound c (r .stage) (r .state)
+
+  pub sizes-bounded : Bounded (c .sizes)
+  sizes-bounded = bounded (c .sizes) (replaying .bounds)
+
+-- The first checks leave such a state, and slices of the lengths that it gives.
+module _ {c : Core} {w : World} (p : Passed whenReplaying c w) where
+  pub replays : Replays c
+  replays = record { stage = p .stage; state = p .state }
+
+  pub slices : Lengths (c .sizes) w
+  slices = lengths-right (c .sizes) w (p .lengths)
+
+  pub on-log : {disk : ℕ} → disk < c .sizes .disks → OnLog c disk (w .pages) (w .logs)
+  on-log h = record { replays = replays; disk-in = h; page-words = slices .pages; log-words = slices .logs }
+
+-- A log.
+module _ {c : Core} {disk : ℕ} {pages logs : List ℕ} (on : OnLog c disk pages logs) where
+  pub eight : disk < 8
+  eight = omega (arith, on .disk-in, sizes-bounded c (on .replays) .disks-max)
+
+  pub tail-low : tailOf (c .logs) disk ≤ limit
+  tail-low = replaying c (on .replays) .tails disk (on .disk-in)
+
+  pub log-readable : Readable (c .sizes) logs disk (tailOf (c .logs) disk) [] (tailOf (c .logs) disk)
+  log-readable =
+      readable (c .sizes) (sizes-bounded c (on .replays)) logs disk (tailOf (c .logs) disk) [] (tailOf (c .logs) disk) (on .log-words)
+      (on .disk-in) (omega arith) (omega (arith, tail-low))
+
+  -- a change found there fits
+  pub change-fits : (w : World) {kind page slot number epoch width next : ℕ}
+      → nextRecord c w disk ≡ Change kind page slot number epoch width next → ChangeFits c disk page slot width
+  unfolding nextRecord
+  change-fits w e =
+      let f = found-change (c .sizes) (readDisk c w disk) (tailOf (c .logs) disk) e in
+      record { page-in = f .page-in; slot-in = f .slot-in; width-is = f .width-eq; difference-ends = omega (arith, f .next-eq, f .next-le) }
+
+  module _ {page slot width : ℕ} (f : ChangeFits c disk page slot width) where
+    pub slot-place : (page < 64) × (slot < 65536)
+    slot-place =
+        let b = sizes-bounded c (on .replays) in
+        (omega (arith, f .page-in, b .pages-max), omega (arith, f .slot-in, b .used page (f .page-in) .slots-max))
+
+    pub slot-fits : {at : ℕ} → at ≡ slotBase (c .sizes) page slot → at + width ≤ length pages
+    slot-fits e = omega (arith, e, slot-end-total (c .sizes) page slot (f .page-in) (f .slot-in), f .width-is, on .page-words)

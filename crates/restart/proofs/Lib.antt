@@ -1,0 +1,7 @@
+-- Each call: its rows, and what it does when none applies.
+pub mod Storeless
+pub mod Remaining
+pub mod Beginning
+pub mod Facts
+pub mod Stepping
+pub mod Ending

@@ -1,0 +1,67 @@
+-- `restart::remain::logs_done` meets its contract: of the logs passed nothing remains. Assumes nothing.
+use Prim.Native.Nat.{_-_, _≤_}
+use mathlib.Core.Path.{_≡_, refl}
+use mathlib.Core.Bool.{true}
+use lib.Dec.{eqb}
+use lib.ListN.{getD}
+use native.Mathlib.Omega.{arith}
+use borrow.Author.Needs.{needs}
+use Rattle.model.specs.Below.{allBelow}
+use Rattle.table.proofs.Tests.{all-more, all-stop, all-done}
+use Rattle.restart.proofs.Remaining.{left-none, left-some}
+use Rattle.restart.proofs.remain.logs_done.Statement.{statement}
+use Rattle.restart.proofs.remain.logs_done.Tie as tie
+
+abbrev Inv-loop : tie.InvT-loop
+Inv-loop disks tails positions d₀ d = (d ≤ disks) × (allBelow (λ i. eqb (getD tails i 0 - getD positions i 0) 0) d ≡ true)
+
+abbrev μ-loop : tie.MeasureT-loop
+μ-loop disks tails positions d₀ d = disks - d
+
+loop-holds : tie.Need-loop-holds Inv-loop μ-loop
+unfolding allBelow
+loop-holds c = (omega arith, refl)
+
+mul-if1 : tie.Need-mul-if1 Inv-loop μ-loop
+mul-if1 c = search needs
+
+array-read-if1 : tie.Need-array-read-if1 Inv-loop μ-loop
+array-read-if1 c = search needs
+
+mul-if1-2 : tie.Need-mul-if1-2 Inv-loop μ-loop
+mul-if1-2 c = search needs
+
+array-read-if1-2 : tie.Need-array-read-if1-2 Inv-loop μ-loop
+array-read-if1-2 c = search needs
+
+returns : tie.Need-returns Inv-loop μ-loop
+returns c = all-stop _ _ (c .before .before .loop .d) (omega arith) (left-some _ _ (c .if1 .taken))
+
+add-d : tie.Need-add-d Inv-loop μ-loop
+add-d c = search needs
+
+loop-less : tie.Need-loop-less Inv-loop μ-loop
+loop-less c = search needs
+
+loop-again : tie.Need-loop-again Inv-loop μ-loop
+loop-again c = (omega arith, all-more _ _ (c .before .before .loop .inv .1) (left-none _ _ (c .if1 .left)))
+
+returns-2 : tie.Need-returns-2 Inv-loop μ-loop
+returns-2 c = all-done _ _ _ (c .before .loop .inv .0) (omega arith) (c .before .loop .inv .1)
+
+pub logs-done-spec : {M : Type 1} → statement M
+logs-done-spec =
+    tie.close
+    (tie.spec
+    Inv-loop
+    μ-loop
+    loop-holds
+    mul-if1
+    array-read-if1
+    mul-if1-2
+    array-read-if1-2
+    returns
+    add-d
+    loop-less
+    loop-again
+    returns-2)

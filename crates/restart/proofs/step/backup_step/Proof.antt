@@ -1,0 +1,35 @@
+-- `restart::step::backup_step` meets its contract: the next page is one of the pages. Assumes nothing.
+use borrow.Author.Needs.{needs}
+use Rattle.model.specs.Restart.{withReplay}
+use Rattle.restart.proofs.Facts.{replaying}
+use Rattle.restart.proofs.Stepping.{backup-none, backup-taken}
+use Rattle.restart.proofs.step.backup_step.Statement.{statement}
+use Rattle.restart.proofs.step.backup_step.Tie as tie
+
+refuse-requires : tie.Need-refuse-requires
+refuse-requires c κs = search needs
+
+returns : tie.Need-returns
+returns c = λ anchor logs work. rw (c .refuse .ensures) (backup-none _ _ (c .before .if1 .taken))
+
+xor-page-requires : tie.Need-xor-page-requires
+xor-page-requires c κs =
+    let start = c .before .before .before .before .before .before .before in
+    (replaying _ (start .pre .0) .bounds, c .before .if1 .left, start .pre .1, start .pre .2)
+
+add-t13 : tie.Need-add-t13
+add-t13 c = search needs
+
+same-length : tie.Need-same-length
+same-length c = search needs
+
+returns-2 : tie.Need-returns-2
+unfolding withReplay
+returns-2 c =
+    let at-xor-page = c .before .before .before .before .before .before .before in
+    let at-if1 = at-xor-page .before .before in
+    λ anchor logs work. backup-taken _ _ (at-if1 .if1 .left) (at-xor-page .xor-page .ensures)
+
+pub backup-step-spec : {M : Type 1} → statement M
+backup-step-spec =
+    tie.close (tie.spec refuse-requires returns xor-page-requires add-t13 same-length returns-2)

@@ -1,0 +1,76 @@
+-- What restart begin and step give once their first rows have passed.
+use mathlib.Core.Path.{_≡_}
+use mathlib.Core.List.{List, [], _∷_}
+use mathlib.Core.Bool.{true}
+use Prim.Native.Nat.{ℕ, _+_, _≤_, _<_}
+use lib.Dec.{eqb}
+use lib.ListN.{length, replicate}
+use Rattle.model.specs.declared.Stage.the-variants.{Replaying}
+use Rattle.model.specs.declared.Sizes.{Sizes}
+use Rattle.model.specs.declared.Core.{Core}
+use Rattle.model.specs.declared.Answer.the-variants.{Finished}
+use Rattle.model.specs.declared.Reply.{Reply}
+use Rattle.model.specs.Sizes.{slotsIn, widthIn, total, logWords}
+use Rattle.model.specs.Anchor.{epochOn, sizesOn}
+use Rattle.model.specs.World.{World}
+use Rattle.model.specs.State.{noTable, noCheckpoint, tailOf, sound}
+use Rattle.model.specs.Refusal.{Row, row, verdict, conclude}
+use Rattle.model.specs.Causes.{whenReplaying, tailRow, faultFrom, faultRow, sourceMissing, spent}
+use Rattle.model.specs.Restart.{restartBeginTask, positionOf, remaining, stepFault, restartStepTask}
+
+-- a replaying state that a call made
+pub record Replays (c : Core) : Type 0 where
+  pub stage : whenReplaying (c .stage) ≡ true
+  pub state : sound c ≡ true
+
+-- what a step of a log relies on
+pub record OnLog (c : Core) (disk : ℕ) (pages logs : List ℕ) : Type 0 where
+  pub replays : Replays c
+  pub disk-in : disk < c .sizes .disks
+  pub page-words : length pages ≡ total (c .sizes)
+  pub log-words : length logs ≡ logWords (c .sizes)
+
+-- a change at the log's next position: its slot is one of the pages', and its difference ends within the log
+pub record ChangeFits (c : Core) (disk page slot width : ℕ) : Type 0 where
+  pub page-in : page < c .sizes .pages
+  pub slot-in : slot < slotsIn (c .sizes) page
+  pub width-is : width ≡ widthIn (c .sizes) page
+  pub difference-ends : positionOf c disk + 3 + width ≤ tailOf (c .logs) disk
+
+-- a call that stores nothing and leaves this state
+abbrev pub finished : Core → Reply
+finished c = record { answer = Finished 0 0; core = c }
+
+-- rows 6, 7 and 13 of begin
+unfoldable pub beginRest : World → List Row
+beginRest w =
+    let s : Sizes = sizesOn (w .anchor) in
+    tailRow s w ∷ faultRow (faultFrom s w (s .disks) 0) ∷ row 13 (spent (epochOn (w .anchor))) ∷ []
+
+unfoldable pub BeginsOn : Core → World → Reply → World → Type 0
+BeginsOn c w r v =
+    record { answer = r .answer; budget = 0; core = r .core; world = v } ≡ conclude (verdict (beginRest w)) 0 (restartBeginTask w) c w
+
+-- rows 7, 8 and 15 of a step
+unfoldable pub stepRest : Core → World → ℕ → List Row
+stepRest c w source =
+    faultRow (stepFault c w source) ∷ row 8 (sourceMissing (c .sizes) source) ∷ row 15 (eqb (remaining c source) 0) ∷ []
+
+unfoldable pub StepsOn : Core → World → ℕ → Reply → World → Type 0
+StepsOn c w source r v =
+    record { answer = r .answer; budget = 0; core = r .core; world = v }
+    ≡ conclude (verdict (stepRest c w source)) 0 (restartStepTask c w source) c w
+
+-- the state that begin leaves
+unfoldable pub replayingCore : Sizes → ℕ → List ℕ → List ℕ → Core
+replayingCore sizes epoch starts tails =
+    record {
+      stage = Replaying;
+      sizes = sizes;
+      epoch = epoch;
+      logs = record { starts = starts; tails = tails; fills = replicate 8 0 };
+      table = noTable;
+      next = 0;
+      checkpoint = noCheckpoint;
+      replay = record { positions = starts; page = 0 };
+    }

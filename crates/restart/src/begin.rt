@@ -1,0 +1,116 @@
+// Restart begin: all checks of the devices, then zeroed pages and a replaying state.
+use frame::settle::no_checkpoint;
+use frame::settle::no_table;
+use frame::settle::refuse;
+use frame::settle::refuse_at;
+use frame::stages::is_shut;
+use layout::bounds::lengths_right;
+use layout::places::total;
+use log::scan::check_disks;
+use model::Answer;
+use model::Core;
+use model::Fault;
+use model::Logs;
+use model::Replay;
+use model::Reply;
+use model::Sizes;
+use model::Stage;
+use replay::image::anchor_refusal;
+use replay::image::anchor_sizes;
+use replay::image::current_starts;
+use replay::image::tails_on;
+use replay::image::wrong_tail;
+use table::room::LIMIT;
+use words::fill_words;
+ghost use mathlib.Core.Path.{_≡_};
+ghost use mathlib.Core.List.{List};
+ghost use mathlib.Core.Bool.{true};
+ghost use Prim.Native.Nat.{ℕ};
+ghost use lib.ListN.{length};
+ghost use Rattle.model.specs.Sizes.{total, logWords, sizesInBounds};
+ghost use Rattle.model.specs.Anchor.{anchorWords, sizesOn};
+ghost use Rattle.model.specs.World.{worldOf};
+ghost use Rattle.model.specs.Call.{Gives, restartBegin};
+ghost use Rattle.restart.specs.Rest.{BeginsOn, replayingCore};
+
+// The state that begin leaves: every log at its start, the backup at its first page.
+fn replaying_core(sizes: Sizes, epoch: u64, starts: [u64; 8], tails: [u64; 8]) -> Core
+    ensures { λ r. ⌜ r ≡ replayingCore sizes epoch starts tails ⌝ }
+{
+    Core {
+        stage: Stage::Replaying,
+        sizes,
+        epoch,
+        logs: Logs {
+            starts,
+            tails,
+            fills: [0u64; 8],
+        },
+        table: no_table(),
+        next: 0,
+        checkpoint: no_checkpoint(),
+        replay: Replay {
+            positions: starts,
+            page: 0,
+        },
+    }
+}
+
+// Rows 6, 7 and 13, and what begin does when none applies.
+fn begin_on(core: Core, sizes: Sizes, anchor: &[u64], pages: &mut [u64], logs: &[u64]) -> Reply
+    requires { ⌜ (sizes ≡ sizesOn (now anchor)) × (sizesInBounds sizes ≡ true) × (length (now anchor) ≡ anchorWords) × (length (now pages) ≡ total sizes) × (length (now logs) ≡ logWords sizes) ⌝ }
+    ensures { λ r. ⌜ ((backups work : List ℕ) → BeginsOn core (worldOf (now (anchor .entry)) (now (pages .entry)) backups (now (logs .entry)) work) r (worldOf (now (anchor .entry)) (now (pages .exit)) backups (now (logs .entry)) work)) ⌝ }
+{
+    let disks = sizes.disks;
+    let starts = current_starts(disks, anchor);
+    let tails = tails_on(sizes, logs);
+    let disk = wrong_tail(disks, sizes.ring, starts, tails);
+    if disk < disks {
+        return refuse_at(core, 6, disk, 0);
+    }
+    let fault = check_disks(sizes, logs, starts);
+    match fault {
+        Fault::BadRecord { disk: d, position } => refuse_at(core, 7, d, position),
+        Fault::Sound => {
+            let epoch = anchor[3];
+            if epoch >= LIMIT {
+                return refuse(core, 13);
+            }
+            let words = total(sizes) as usize;
+            fill_words(pages, 0, words, 0);
+            Reply {
+                answer: Answer::Finished {
+                    stores: 0,
+                    value: 0,
+                },
+                core: replaying_core(sizes, epoch, starts, tails),
+            }
+        }
+    }
+}
+
+// Rows 1 to 5 come first. A shut state needs no test of its own.
+pub fn begin(
+    core: Core,
+    anchor: &[u64],
+    pages: &mut [u64],
+    backups: &[u64],
+    logs: &[u64],
+    work: &[u64],
+) -> Reply
+    ensures { λ r. ⌜ Gives restartBegin core (worldOf (now (anchor .entry)) (now (pages .entry)) (now (backups .entry)) (now (logs .entry)) (now (work .entry))) r 0 (worldOf (now (anchor .entry)) (now (pages .exit)) (now (backups .entry)) (now (logs .entry)) (now (work .entry))) ⌝ }
+{
+    let stage = core.stage;
+    if !is_shut(stage) {
+        return refuse(core, 1);
+    }
+    let refusal = anchor_refusal(anchor);
+    if refusal != 0 {
+        return refuse(core, refusal);
+    }
+    let sizes = anchor_sizes(anchor);
+    if !lengths_right(sizes, pages.len(), backups.len(), logs.len(), work.len()) {
+        return refuse(core, 5);
+    }
+    begin_on(core, sizes, anchor, pages, logs)
+}

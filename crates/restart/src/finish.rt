@@ -1,0 +1,79 @@
+// Restart end: the replayed pages become checkpoint c + 1, and the state opens.
+use crate::remain::is_done;
+use frame::checks::first_refusal;
+use frame::settle::open_core;
+use frame::settle::refuse;
+use frame::settle::settle;
+use frame::stages::is_replaying;
+use model::Core;
+use model::Reply;
+use replay::save::fresh_work;
+use replay::save::store_checkpoint;
+ghost use mathlib.Core.Path.{_≡_};
+ghost use mathlib.Core.List.{List};
+ghost use Prim.Native.Nat.{ℕ, _*_};
+ghost use lib.ListN.{length};
+ghost use Rattle.model.specs.Sizes.{total};
+ghost use Rattle.model.specs.Anchor.{anchorWords};
+ghost use Rattle.model.specs.World.{worldOf};
+ghost use Rattle.model.specs.Memory.{workWords};
+ghost use Rattle.model.specs.Restart.{restartEndTask};
+ghost use Rattle.model.specs.Call.{Gives, restartEnd};
+ghost use Rattle.frame.specs.Settle.{Concludes};
+ghost use Rattle.restart.specs.Rest.{Replays};
+
+// The stores of restart end, and fresh memory once all are made.
+fn open_replayed(
+    core: Core,
+    anchor: &mut [u64],
+    pages: &[u64],
+    backups: &mut [u64],
+    work: &mut [u64],
+    budget: &mut u64,
+) -> Reply
+    requires { ⌜ Replays core × (length (now anchor) ≡ anchorWords) × (length (now pages) ≡ total (core .sizes)) × (length (now backups) ≡ 2 * total (core .sizes)) × (length (now work) ≡ workWords (core .sizes)) ⌝ }
+    ensures { λ r. ⌜ ((logs : List ℕ) → Concludes (now (budget .entry)) (now (budget .exit)) (restartEndTask core (worldOf (now (anchor .entry)) (now (pages .entry)) (now (backups .entry)) logs (now (work .entry)))) (worldOf (now (anchor .entry)) (now (pages .entry)) (now (backups .entry)) logs (now (work .entry))) (worldOf (now (anchor .exit)) (now (pages .entry)) (now (backups .exit)) logs (now (work .exit))) r) ⌝ }
+{
+    let sizes = core.sizes;
+    let logs = core.logs;
+    let tails = logs.tails;
+    let epoch = core.epoch + 1;
+    let before = *budget;
+    let opened = open_core(sizes, epoch, tails);
+    if !store_checkpoint(sizes, epoch, tails, anchor, pages, backups, budget) {
+        return settle(false, before, *budget, epoch, opened);
+    }
+    fresh_work(work, sizes, epoch);
+    settle(true, before, *budget, epoch, opened)
+}
+
+pub fn end(
+    core: Core,
+    anchor: &mut [u64],
+    pages: &[u64],
+    backups: &mut [u64],
+    logs: &[u64],
+    work: &mut [u64],
+    budget: &mut u64,
+) -> Reply
+    ensures { λ r. ⌜ Gives (restartEnd (now (budget .entry))) core (worldOf (now (anchor .entry)) (now (pages .entry)) (now (backups .entry)) (now (logs .entry)) (now (work .entry))) r (now (budget .exit)) (worldOf (now (anchor .exit)) (now (pages .entry)) (now (backups .exit)) (now (logs .entry)) (now (work .exit))) ⌝ }
+{
+    let stage = core.stage;
+    let allowed = is_replaying(stage);
+    let refusal = first_refusal(
+        allowed,
+        core,
+        anchor.len(),
+        pages.len(),
+        backups.len(),
+        logs.len(),
+        work.len(),
+    );
+    if refusal != 0 {
+        return refuse(core, refusal);
+    }
+    if !is_done(core) {
+        return refuse(core, 15);
+    }
+    open_replayed(core, anchor, pages, backups, work, budget)
+}

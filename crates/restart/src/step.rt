@@ -1,0 +1,186 @@
+// Restart step: the next record of a log, or the next page of the backup.
+use frame::checks::first_refusal;
+use frame::settle::refuse;
+use frame::settle::refuse_at;
+use frame::stages::is_replaying;
+use layout::places::slot_base;
+use log::read::decode_at;
+use log::scan::fate_from;
+use model::Answer;
+use model::Core;
+use model::Decoded;
+use model::Fate;
+use model::Replay;
+use model::Reply;
+use replay::take::replay_span;
+use replay::take::xor_page;
+ghost use mathlib.Core.Path.{_≡_};
+ghost use mathlib.Core.List.{List, []};
+ghost use mathlib.Core.Bool.{cond};
+ghost use Prim.Native.Nat.{ℕ, _+_, _*_, _<_};
+ghost use lib.ListN.{length};
+ghost use Rattle.model.specs.Sizes.{slotBase, total};
+ghost use Rattle.model.specs.Decode.{readLog, span};
+ghost use Rattle.model.specs.Image.{xorAt};
+ghost use Rattle.model.specs.World.{worldOf};
+ghost use Rattle.model.specs.State.{tailOf};
+ghost use Rattle.model.specs.Restart.{positionOf, movedTo};
+ghost use Rattle.model.specs.Call.{Gives, restartStep};
+ghost use Rattle.restart.specs.Rest.{Replays, OnLog, ChangeFits, finished, StepsOn};
+
+// A step done: the log's next record stands at `next`.
+fn move_on(core: Core, disk: u64, next: u64) -> Reply
+    requires { ⌜ disk < 8 ⌝ }
+    ensures { λ r. ⌜ r ≡ finished (movedTo core disk next) ⌝ }
+{
+    let replay = core.replay;
+    let mut positions = replay.positions;
+    positions[disk as usize] = next;
+    let moved = Replay {
+        positions,
+        page: replay.page,
+    };
+    Reply {
+        answer: Answer::Finished {
+            stores: 0,
+            value: 0,
+        },
+        core: Core {
+            replay: moved,
+            ..core
+        },
+    }
+}
+
+// A change is XORed in if `replays` says so; the step is done either way.
+fn take_change(
+    core: Core,
+    disk: u64,
+    page: u64,
+    slot: u64,
+    width: u64,
+    next: u64,
+    replays: bool,
+    pages: &mut [u64],
+    logs: &[u64],
+) -> Reply
+    requires { ⌜ OnLog core disk (now pages) (now logs) × ChangeFits core disk page slot width ⌝ }
+    ensures { λ r. ⌜ (r ≡ finished (movedTo core disk next)) × (now (pages .exit) ≡ cond replays (xorAt (slotBase (core .sizes) page slot) (span (readLog (core .sizes) (now (logs .entry)) disk (tailOf (core .logs) disk) []) (positionOf core disk + 3) width) (now (pages .entry))) (now (pages .entry))) ⌝ }
+{
+    let sizes = core.sizes;
+    let state_logs = core.logs;
+    let replay = core.replay;
+    let d = disk as usize;
+    let tail = state_logs.tails[d];
+    let from = replay.positions[d] + 3;
+    let at = slot_base(sizes, page, slot);
+    replay_span(replays, pages, at, sizes, logs, disk, tail, from, width);
+    move_on(core, disk, next)
+}
+
+// A closed transaction's record not in the backup, or a loose one's record in it, is XORed in.
+fn log_step(core: Core, disk: u64, pages: &mut [u64], logs: &[u64]) -> Reply
+    requires { ⌜ OnLog core disk (now pages) (now logs) ⌝ }
+    ensures { λ r. ⌜ ((anchor backups work : List ℕ) → StepsOn core (worldOf anchor (now (pages .entry)) backups (now (logs .entry)) work) disk r (worldOf anchor (now (pages .exit)) backups (now (logs .entry)) work)) ⌝ }
+{
+    let sizes = core.sizes;
+    let state_logs = core.logs;
+    let replay = core.replay;
+    let d = disk as usize;
+    let tail = state_logs.tails[d];
+    let position = replay.positions[d];
+    if tail <= position {
+        return refuse(core, 15);
+    }
+    let none = &logs[0..0];
+    let here = decode_at(sizes, logs, disk, tail, none, tail, position);
+    match here {
+        Decoded::Malformed => refuse_at(core, 7, disk, position),
+        Decoded::Close { next, .. } => move_on(core, disk, next),
+        Decoded::Change {
+            page,
+            slot,
+            number,
+            epoch,
+            width,
+            next,
+            ..
+        } => {
+            let fate = fate_from(sizes, logs, disk, tail, none, tail, next, number);
+            let in_backup = epoch < core.epoch;
+            match fate {
+                Fate::Unreadable { position: p } => refuse_at(core, 7, disk, p),
+                Fate::Closed => {
+                    take_change(core, disk, page, slot, width, next, !in_backup, pages, logs)
+                }
+                Fate::Unclosed => {
+                    take_change(core, disk, page, slot, width, next, in_backup, pages, logs)
+                }
+            }
+        }
+    }
+}
+
+// The next page of the backup is XORed in.
+fn backup_step(core: Core, pages: &mut [u64], backups: &[u64]) -> Reply
+    requires { ⌜ Replays core × (length (now pages) ≡ total (core .sizes)) × (length (now backups) ≡ 2 * total (core .sizes)) ⌝ }
+    ensures { λ r. ⌜ ((anchor logs work : List ℕ) → StepsOn core (worldOf anchor (now (pages .entry)) (now (backups .entry)) logs work) (core .sizes .disks) r (worldOf anchor (now (pages .exit)) (now (backups .entry)) logs work)) ⌝ }
+{
+    let sizes = core.sizes;
+    let replay = core.replay;
+    let page = replay.page;
+    if sizes.pages <= page {
+        return refuse(core, 15);
+    }
+    xor_page(pages, backups, sizes, core.epoch, page);
+    let positions = replay.positions;
+    let moved = Replay {
+        positions,
+        page: page + 1,
+    };
+    Reply {
+        answer: Answer::Finished {
+            stores: 0,
+            value: 0,
+        },
+        core: Core {
+            replay: moved,
+            ..core
+        },
+    }
+}
+
+pub fn step(
+    core: Core,
+    source: u64,
+    anchor: &[u64],
+    pages: &mut [u64],
+    backups: &[u64],
+    logs: &[u64],
+    work: &[u64],
+) -> Reply
+    ensures { λ r. ⌜ Gives (restartStep source) core (worldOf (now (anchor .entry)) (now (pages .entry)) (now (backups .entry)) (now (logs .entry)) (now (work .entry))) r 0 (worldOf (now (anchor .entry)) (now (pages .exit)) (now (backups .entry)) (now (logs .entry)) (now (work .entry))) ⌝ }
+{
+    let stage = core.stage;
+    let allowed = is_replaying(stage);
+    let refusal = first_refusal(
+        allowed,
+        core,
+        anchor.len(),
+        pages.len(),
+        backups.len(),
+        logs.len(),
+        work.len(),
+    );
+    if refusal != 0 {
+        return refuse(core, refusal);
+    }
+    let disks = core.sizes.disks;
+    if source < disks {
+        return log_step(core, source, pages, logs);
+    }
+    if source == disks {
+        return backup_step(core, pages, backups);
+    }
+    refuse(core, 8)
+}

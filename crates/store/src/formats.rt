@@ -1,0 +1,46 @@
+// Format.
+use crate::Called;
+use crate::State;
+use crate::core_of;
+use crate::hand_back;
+ghost use mathlib.Core.Path.{_≡_};
+ghost use mathlib.Core.Bool.{true};
+ghost use Rattle.model.specs.World.{worldOf};
+ghost use Rattle.model.specs.State.{sound};
+ghost use Rattle.model.specs.Call.{format, Gives};
+
+// The sizes come by value: P, D and W, the slots in each page, the words in each slot of that page.
+pub fn format(
+    state: State,
+    pages_count: u64,
+    disks: u64,
+    ring: u64,
+    slots: [u64; 64],
+    widths: [u64; 64],
+    anchor: &mut [u64],
+    pages: &mut [u64],
+    backups: &mut [u64],
+    logs: &mut [u64],
+    work: &mut [u64],
+    budget: &mut u64,
+) -> Called
+    ensures { λ r. ⌜ Gives (format (record { pages = «pages_count»; disks = disks; ring = ring; slots = slots; widths = widths }) (now (budget .entry))) (state .core) (worldOf (now (anchor .entry)) (now (pages .entry)) (now (backups .entry)) (now (logs .entry)) (now (work .entry))) (record { answer = r .answer; core = r .state .core }) (now (budget .exit)) (worldOf (now (anchor .exit)) (now (pages .exit)) (now (backups .exit)) (now (logs .exit)) (now (work .exit))) ⌝ }
+    ensures { λ r. ⌜ (sound (state .core) ≡ true → sound (r .state .core) ≡ true) ⌝ }
+{
+    let core = core_of(state);
+    let reply = format::format::format(
+        core,
+        pages_count,
+        disks,
+        ring,
+        slots,
+        widths,
+        anchor,
+        pages,
+        backups,
+        logs,
+        work,
+        budget,
+    );
+    hand_back(reply)
+}

@@ -1,0 +1,71 @@
+// The three calls of a restart, and what remains of a source.
+use crate::Called;
+use crate::State;
+use crate::core_of;
+use crate::hand_back;
+ghost use mathlib.Core.Path.{_≡_};
+ghost use mathlib.Core.Bool.{true};
+ghost use Rattle.model.specs.World.{worldOf};
+ghost use Rattle.model.specs.State.{sound};
+ghost use Rattle.model.specs.Restart.{remaining};
+ghost use Rattle.model.specs.Call.{restartBegin, restartStep, restartEnd, Gives};
+
+// Checks the devices, and zeroes the pages.
+pub fn restart_begin(
+    state: State,
+    anchor: &[u64],
+    pages: &mut [u64],
+    backups: &[u64],
+    logs: &[u64],
+    work: &[u64],
+) -> Called
+    ensures { λ r. ⌜ Gives restartBegin (state .core) (worldOf (now (anchor .entry)) (now (pages .entry)) (now (backups .entry)) (now (logs .entry)) (now (work .entry))) (record { answer = r .answer; core = r .state .core }) 0 (worldOf (now (anchor .entry)) (now (pages .exit)) (now (backups .entry)) (now (logs .entry)) (now (work .entry))) ⌝ }
+    ensures { λ r. ⌜ (sound (state .core) ≡ true → sound (r .state .core) ≡ true) ⌝ }
+{
+    let core = core_of(state);
+    let reply = restart::begin::begin(core, anchor, pages, backups, logs, work);
+    hand_back(reply)
+}
+
+// Replays the next item of a source: a log by its disk, the backup by the number of disks.
+pub fn restart_step(
+    state: State,
+    source: u64,
+    anchor: &[u64],
+    pages: &mut [u64],
+    backups: &[u64],
+    logs: &[u64],
+    work: &[u64],
+) -> Called
+    ensures { λ r. ⌜ Gives (restartStep source) (state .core) (worldOf (now (anchor .entry)) (now (pages .entry)) (now (backups .entry)) (now (logs .entry)) (now (work .entry))) (record { answer = r .answer; core = r .state .core }) 0 (worldOf (now (anchor .entry)) (now (pages .exit)) (now (backups .entry)) (now (logs .entry)) (now (work .entry))) ⌝ }
+    ensures { λ r. ⌜ (sound (state .core) ≡ true → sound (r .state .core) ≡ true) ⌝ }
+{
+    let core = core_of(state);
+    let reply = restart::step::step(core, source, anchor, pages, backups, logs, work);
+    hand_back(reply)
+}
+
+// Makes the pages the current backup; answers the new checkpoint number.
+pub fn restart_end(
+    state: State,
+    anchor: &mut [u64],
+    pages: &[u64],
+    backups: &mut [u64],
+    logs: &[u64],
+    work: &mut [u64],
+    budget: &mut u64,
+) -> Called
+    ensures { λ r. ⌜ Gives (restartEnd (now (budget .entry))) (state .core) (worldOf (now (anchor .entry)) (now (pages .entry)) (now (backups .entry)) (now (logs .entry)) (now (work .entry))) (record { answer = r .answer; core = r .state .core }) (now (budget .exit)) (worldOf (now (anchor .exit)) (now (pages .entry)) (now (backups .exit)) (now (logs .entry)) (now (work .exit))) ⌝ }
+    ensures { λ r. ⌜ (sound (state .core) ≡ true → sound (r .state .core) ≡ true) ⌝ }
+{
+    let core = core_of(state);
+    let reply = restart::finish::end(core, anchor, pages, backups, logs, work, budget);
+    hand_back(reply)
+}
+
+// What remains of a source: words of a log, pages of the backup.
+pub fn restart_remaining(state: State, source: u64) -> u64
+    ensures { λ r. ⌜ r ≡ remaining (state .core) source ⌝ }
+{
+    restart::remain::remaining(state.core, source)
+}
