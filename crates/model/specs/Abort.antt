@@ -1,4 +1,4 @@
--- 01, "Calls": abort. "For each update, newest first, a compensation record with the same difference and the page's present
+-- 01, "Calls": abort: "for each update, newest first, a compensation record with the same difference and the page's present
 -- copy number, and the slot changed back; then the abort record; no flush after it; slots released."
 use Prim.Native.Nat.{ℕ, _+_, _-_}
 use mathlib.Core.List.{List, [], _∷_, _++_}

@@ -9,14 +9,15 @@ use Rattle.model.specs.Sizes.{total}
 abbrev pub anchorWords : ℕ
 anchorWords = 148
 
--- "word 0 the number of pages P, 1 the number of log disks D, 2 the ring size W, 3 the checkpoint number c"
+-- "word 0 the number of pages P (1 to 64), 1 the number of log disks D (1 to 8), 2 the ring size W (128 to 65,536), 3 the
+-- checkpoint number c, 0 for unformatted"
 abbrev pub epochWord : ℕ
 epochWord = 3
 
 unfoldable pub epochOn : List ℕ → ℕ
 epochOn anchor = getD anchor epochWord 0
 
--- "Then two parallel arrays of 64: slots in each page and words in each slot"
+-- "Then two parallel arrays of 64: slots in each page (1 to 128) and words in each slot of that page (1 to 32)"
 abbrev pub slotsAt : ℕ
 slotsAt = 4
 

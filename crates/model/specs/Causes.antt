@@ -130,6 +130,6 @@ locked c w number page slot =
 unfoldable pub tableFull : Core → Bool
 tableFull c = leb places (placeOf (c .table) 0)
 
--- 13. "c is 2^62 or more, or the next number is"
+-- 13. "c is 2^62 or more (checkpoint begin, restart begin), or the next number is (begin)"
 unfoldable pub spent : ℕ → Bool
 spent n = leb limit n

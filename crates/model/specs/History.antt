@@ -43,7 +43,8 @@ putBy (restartStep source) c w = []
 putBy (restartEnd budget) c w = []
 putBy newState c w = []
 
--- "Restart end makes the pages the current backup": it leaves no log behind it, and what was put before it is told no more.
+-- Restart end: "all pages to backup (c + 1) mod 2; each tail into row (c + 1) mod 2; c := c + 1". It leaves no log behind it, and what
+-- was put before it is told no more.
 abbrev pub forgets : Call → Bool
 forgets (restartEnd budget) = true
 forgets (format s budget) = true

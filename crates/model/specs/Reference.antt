@@ -118,7 +118,7 @@ afterTaken (commit number budget) n r =
     record { sizes = r .sizes; committed = applied (r .sizes) (writesOf number (r .writeSets)) (r .committed); writeSets = removed number (r .writeSets) }
 -- "Abort taken: the sheet goes."
 afterTaken (abort number budget) n r = withSets r (removed number (r .writeSets))
--- "a new state: all sheets go, the results stay"
+-- "Any call cut, or a new state: all sheets go, the results stay."
 afterTaken newState n r = withSets r []
 -- "Any other call, and every refused one: nothing."
 afterTaken (read reader page slot) n r = r
@@ -132,7 +132,7 @@ afterTaken (restartEnd budget) n r = r
 abbrev pub afterOutcome : Outcome → Call → ℕ → Reference → Reference
 afterOutcome taken call n r = afterTaken call n r
 afterOutcome refused call n r = r
--- "Any call cut: all sheets go, the results stay."
+-- "Any call cut, or a new state: all sheets go, the results stay."
 afterOutcome interrupted call n r = withSets r []
 
 unfoldable pub hear : Heard → Reference → Reference

@@ -44,7 +44,7 @@ ringWord s disk p = diskAt s disk + 1 + p % ringOf s disk
 unfoldable pub logWords : Sizes → ℕ
 logWords s = diskAt s (s .disks)
 
--- "slots in each page (1 to 128) and words in each slot (1 to 32), their product at most 128; entries from P on are 0"
+-- "slots in each page (1 to 128) and words in each slot of that page (1 to 32), their product at most 128; entries from P on are 0"
 unfoldable pub usedEntry : Sizes → ℕ → Bool
 usedEntry s page = within 1 128 (slotsIn s page) && within 1 32 (widthIn s page) && leb (pageWords s page) 128
 
@@ -54,7 +54,8 @@ unusedEntry s page = eqb (slotsIn s page) 0 && eqb (widthIn s page) 0
 unfoldable pub entryInBounds : Sizes → ℕ → Bool
 entryInBounds s page = cond (ltb page (s .pages)) (usedEntry s page) (unusedEntry s page)
 
--- "P (1 to 64), D (1 to 8), W (128 to 65,536)", "two parallel arrays of 64"
+-- "the number of pages P (1 to 64)", "the number of log disks D (1 to 8)", "the ring size W (128 to 65,536)", "two parallel arrays
+-- of 64"
 unfoldable pub sizesInBounds : Sizes → Bool
 sizesInBounds s =
     within 1 64 (s .pages) && within 1 8 (s .disks) && within 128 65536 (s .ring)
