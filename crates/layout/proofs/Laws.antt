@@ -83,6 +83,12 @@ module _ (s : Sizes) where
   unfolding sizesInBounds entryInBounds usedEntry unusedEntry pageWords slotsIn widthIn
   all-in counts slots widths e = sym (rw (counts, eq-eqb _ _ slots, eq-eqb _ _ widths) e)
 
+  -- the rest is the entries
+  pub all-entries : countsInBounds (s .pages) (s .disks) (s .ring) ≡ true → length (s .slots) ≡ 64 → length (s .widths) ≡ 64
+      → allBelow (entryInBounds (entriesOf (s .pages) (s .slots) (s .widths))) 64 ≡ sizesInBounds s
+  unfolding sizesInBounds entryInBounds usedEntry unusedEntry pageWords slotsIn widthIn
+  all-entries counts slots widths = rw (counts, eq-eqb _ _ slots, eq-eqb _ _ widths)
+
 -- an entry in bounds is a byte, used or not
 pub entry-bytes : (s : Sizes) → sizesInBounds s ≡ true → (i : ℕ) → i < 64 → (getD (s .slots) i 0 < 256) × (getD (s .widths) i 0 < 256)
 unfolding slotsIn widthIn

@@ -1,14 +1,14 @@
 // The bounds of the sizes, and the lengths that they give the lent slices.
 use crate::places::total;
-use crate::places::word_of;
+use crate::places::words_of;
 use model::Sizes;
 ghost use mathlib.Core.Path.{_≡_};
 ghost use mathlib.Core.Bool.{true, cond, _&&_};
-ghost use Prim.Native.Nat.{ℕ, _*_, _<_};
+ghost use Prim.Native.Nat.{ℕ, _*_, _≤_, _<_};
 ghost use lib.Dec.{leb, eqb};
 ghost use lib.ListN.{getD};
-ghost use Rattle.model.specs.Below.{within};
-ghost use Rattle.model.specs.Sizes.{total, logWords, sizesInBounds};
+ghost use Rattle.model.specs.Below.{within, allBelow};
+ghost use Rattle.model.specs.Sizes.{total, logWords, entryInBounds, sizesInBounds};
 ghost use Rattle.model.specs.Memory.{workWords};
 
 // Whether the lent slices have the lengths that the sizes give; the anchor's is fixed.
@@ -101,6 +101,57 @@ pub fn in_bounds(pages: u64, disks: u64, ring: u64, slots: [u64; 64], widths: [u
     true
 }
 
+// 0 for a used page's entry in bounds, else 1. A product of 1 to 128 has both its factors within that.
+fn used_fault(slots: u8, width: u8) -> u8
+    ensures { λ r. ⌜ (r ≤ 1) × (r ≡ cond (within 1 128 slots && within 1 32 width && leb (slots * width) 128) 0 1) ⌝ }
+{
+    let words = words_of(slots, width);
+    if words == 0 {
+        return 1;
+    }
+    if words > 128 {
+        return 1;
+    }
+    if width > 32 { 1 } else { 0 }
+}
+
+fn unused_fault(slots: u8, width: u8) -> u8
+    ensures { λ r. ⌜ (r ≤ 1) × (r ≡ cond (eqb slots 0 && eqb width 0) 0 1) ⌝ }
+{
+    if slots != 0 {
+        return 1;
+    }
+    if width != 0 { 1 } else { 0 }
+}
+
+// The entries of pages below `end` that are out of bounds. They are counted, and not left at the first: so the loop takes many at once.
+fn used_faults(slots: [u8; 64], widths: [u8; 64], end: usize) -> u8
+    requires { ⌜ end ≤ 64 ⌝ }
+    ensures { λ r. ⌜ (r ≤ end) × (eqb r 0 ≡ allBelow (entryInBounds (record { pages = end; disks = 0; ring = 0; slots = slots; widths = widths })) end) ⌝ }
+{
+    let mut faults: u8 = 0;
+    let mut i: usize = 0;
+    while i < end {
+        faults += used_fault(slots[i], widths[i]);
+        i += 1;
+    }
+    faults
+}
+
+// Those of all entries, `before` of them below `from`.
+fn all_faults(slots: [u8; 64], widths: [u8; 64], from: usize, before: u8) -> u8
+    requires { ⌜ (from ≤ 64) × (before ≤ from) × (eqb before 0 ≡ allBelow (entryInBounds (record { pages = from; disks = 0; ring = 0; slots = slots; widths = widths })) from) ⌝ }
+    ensures { λ r. ⌜ eqb r 0 ≡ allBelow (entryInBounds (record { pages = from; disks = 0; ring = 0; slots = slots; widths = widths })) 64 ⌝ }
+{
+    let mut faults = before;
+    let mut i = from;
+    while i < 64 {
+        faults += unused_fault(slots[i], widths[i]);
+        i += 1;
+    }
+    faults
+}
+
 // The same of sizes whose entries are bytes.
 pub fn sizes_in_bounds(sizes: Sizes) -> bool
     ensures { λ r. ⌜ r ≡ sizesInBounds sizes ⌝ }
@@ -111,14 +162,8 @@ pub fn sizes_in_bounds(sizes: Sizes) -> bool
     let end = sizes.pages as usize;
     let slots = sizes.slots;
     let widths = sizes.widths;
-    let mut i: usize = 0;
-    while i < 64 {
-        if !entry_in_bounds(i < end, word_of(slots[i]), word_of(widths[i])) {
-            return false;
-        }
-        i += 1;
-    }
-    true
+    let used = used_faults(slots, widths, end);
+    all_faults(slots, widths, end, used) == 0
 }
 
 fn bytes_of(words: [u64; 64]) -> [u8; 64]

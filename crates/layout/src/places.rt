@@ -10,11 +10,11 @@ pub fn word_of(byte: u8) -> u64
     byte as u64
 }
 
-// Slots times width: the words of a page. A product of bytes, so no sum over 64 pages overflows.
-fn words_of(slots: u8, width: u8) -> u64
-    ensures { λ r. ⌜ (r ≡ slots * width) × (r < 65536) ⌝ }
+// Slots times width: the words of a page. Narrow, so that a loop over pages takes many of them at once.
+pub fn words_of(slots: u8, width: u8) -> u16
+    ensures { λ r. ⌜ r ≡ slots * width ⌝ }
 {
-    (slots as u64) * (width as u64)
+    (slots as u16) * (width as u16)
 }
 
 // The words of a page.
@@ -25,7 +25,8 @@ pub fn page_words(sizes: Sizes, page: u64) -> u64
     let slots = sizes.slots;
     let widths = sizes.widths;
     let i = page as usize;
-    words_of(slots[i], widths[i])
+    let words = words_of(slots[i], widths[i]);
+    words as u64
 }
 
 // The first word of a page; of page P, the words of all pages.
@@ -36,13 +37,14 @@ pub fn page_base(sizes: Sizes, page: u64) -> u64
     let slots = sizes.slots;
     let widths = sizes.widths;
     let end = page as usize;
-    let mut sum: u64 = 0;
+    let mut sum: u32 = 0;
     let mut i: usize = 0;
     while i < end {
-        sum += words_of(slots[i], widths[i]);
+        let words = words_of(slots[i], widths[i]);
+        sum += words as u32;
         i += 1;
     }
-    sum
+    sum as u64
 }
 
 // 01's T.

@@ -1,87 +1,34 @@
--- The loop's invariant: the entries passed are in bounds.
-use Prim.Native.Nat.{_-_, _≤_}
-use mathlib.Core.Path.{_≡_, sym, _∙_}
-use mathlib.Core.Bool.{true}
+use mathlib.Core.Path.{sym, _∙_}
 use native.Mathlib.Omega.{arith}
 use borrow.Author.Needs.{needs}
 use borrow.Author.Tests.{not-true, not-false}
-use Rattle.model.specs.Below.{allBelow}
-use Rattle.model.specs.Sizes.{slotsIn, widthIn, pageWords, usedEntry, unusedEntry, entryInBounds}
-use Rattle.layout.proofs.Laws.{entriesOf, all-none, all-more, counts-out, entry-out, all-in}
+use Rattle.model.proofs.Booleans.{both, in-range}
+use Rattle.layout.proofs.Laws.{counts-out, all-entries}
 use Rattle.layout.proofs.bounds.sizes_in_bounds.Statement.{statement}
 use Rattle.layout.proofs.bounds.sizes_in_bounds.Tie as tie
 
-abbrev Inv-loop : tie.InvT-loop
-Inv-loop end slots widths i₀ i =
-    (i ≤ 64) × (allBelow (entryInBounds (entriesOf end slots widths)) i ≡ true)
-
-abbrev μ-loop : tie.MeasureT-loop
-μ-loop end slots widths i₀ i = 64 - i
-
-counts-in-bounds-requires : tie.Need-counts-in-bounds-requires Inv-loop μ-loop
+counts-in-bounds-requires : tie.Need-counts-in-bounds-requires
 counts-in-bounds-requires c κs = search needs
 
-returns : tie.Need-returns Inv-loop μ-loop
+returns : tie.Need-returns
 returns c = counts-out _ (sym (c .before .counts-in-bounds .ensures) ∙ not-true _ (c .if1 .taken))
 
-loop-holds : tie.Need-loop-holds Inv-loop μ-loop
-loop-holds c = (omega arith, all-none _)
+used-faults-requires : tie.Need-used-faults-requires
+used-faults-requires c κs =
+    let counts = sym (c .before .before .before .counts-in-bounds .ensures) ∙ not-false _ (c .before .before .if1 .left) in
+    in-range 1 64 _ (both _ _ (both _ _ counts .0) .0) .1
 
-array-read-word-of : tie.Need-array-read-word-of Inv-loop μ-loop
-array-read-word-of c = search needs
+all-faults-requires : tie.Need-all-faults-requires
+all-faults-requires c κs =
+    let counts = sym (c .before .before .before .before .counts-in-bounds .ensures) ∙ not-false _ (c .before .before .before .if1 .left) in
+    (in-range 1 64 _ (both _ _ (both _ _ counts .0) .0) .1, c .used-faults .ensures .0, c .used-faults .ensures .1)
 
-word-of-requires : tie.Need-word-of-requires Inv-loop μ-loop
-word-of-requires c κs = search needs
-
-array-read-word-of-2 : tie.Need-array-read-word-of-2 Inv-loop μ-loop
-array-read-word-of-2 c = search needs
-
-word-of-requires-2 : tie.Need-word-of-requires-2 Inv-loop μ-loop
-word-of-requires-2 c κs = search needs
-
-entry-in-bounds-requires : tie.Need-entry-in-bounds-requires Inv-loop μ-loop
-entry-in-bounds-requires c κs = search needs
-
-returns-2 : tie.Need-returns-2 Inv-loop μ-loop
-unfolding entryInBounds usedEntry unusedEntry pageWords slotsIn widthIn
+returns-2 : tie.Need-returns-2
 returns-2 c =
-    let test = rw (c .before .before .before .word-of .ensures .0, c .before .before .word-of2 .ensures .0) at (c .before .entry-in-bounds .ensures) in
-    entry-out _ (c .before .before .before .before .before .loop .i) (search needs) (sym test ∙ not-true _ (c .if2 .taken))
-
-add-i : tie.Need-add-i Inv-loop μ-loop
-add-i c = search needs
-
-loop-less : tie.Need-loop-less Inv-loop μ-loop
-loop-less c = search needs
-
-loop-again : tie.Need-loop-again Inv-loop μ-loop
-unfolding entryInBounds usedEntry unusedEntry pageWords slotsIn widthIn
-loop-again c =
-    let test = rw (c .before .before .before .word-of .ensures .0, c .before .before .word-of2 .ensures .0) at (c .before .entry-in-bounds .ensures) in
-    (omega arith, all-more _ _ (c .before .before .before .before .before .loop .inv .1) (sym test ∙ not-false _ (c .if2 .left)))
-
-returns-3 : tie.Need-returns-3 Inv-loop μ-loop
-returns-3 c =
-    let last : c .before .loop .i ≡ 64 = omega arith in
-    all-in _ (sym (c .before .before .before .before .before .counts-in-bounds .ensures) ∙ not-false _ (c .before .before .before .before .if1 .left)) (search needs) (search needs)
-    (rw last at (c .before .loop .inv .1))
+    let counts = sym (c .before .before .before .before .before .counts-in-bounds .ensures) ∙ not-false _ (c .before .before .before .before .if1 .left) in
+    c .all-faults .ensures ∙ all-entries _ counts (search needs) (search needs)
 
 pub sizes-in-bounds-spec : {M : Type 1} → statement M
 sizes-in-bounds-spec =
     tie.close
-    (tie.spec
-    Inv-loop
-    μ-loop
-    counts-in-bounds-requires
-    returns
-    loop-holds
-    array-read-word-of
-    word-of-requires
-    array-read-word-of-2
-    word-of-requires-2
-    entry-in-bounds-requires
-    returns-2
-    add-i
-    loop-less
-    loop-again
-    returns-3)
+    (tie.spec counts-in-bounds-requires returns used-faults-requires all-faults-requires returns-2)

@@ -30,6 +30,9 @@ array-read-words-of-2 c = search needs
 words-of-requires : tie.Need-words-of-requires Inv-loop μ-loop
 words-of-requires c κs = search needs
 
+cast-sum : tie.Need-cast-sum Inv-loop μ-loop
+cast-sum c = search needs
+
 add-sum : tie.Need-add-sum Inv-loop μ-loop
 add-sum c = search needs
 
@@ -41,7 +44,10 @@ loop-less c = search needs
 
 loop-again : tie.Need-loop-again Inv-loop μ-loop
 loop-again c =
-    (omega arith, omega arith, rw (sum-step, c .words-of .ensures .0, c .before .before .loop .inv .2))
+    (omega arith, omega arith, rw (sum-step, c .words-of .ensures, c .before .before .loop .inv .2))
+
+cast-result : tie.Need-cast-result Inv-loop μ-loop
+cast-result c = search needs
 
 returns : tie.Need-returns Inv-loop μ-loop
 unfolding pageBase pageWords slotsIn widthIn
@@ -59,8 +65,10 @@ page-base-spec =
     array-read-words-of
     array-read-words-of-2
     words-of-requires
+    cast-sum
     add-sum
     add-i
     loop-less
     loop-again
+    cast-result
     returns)

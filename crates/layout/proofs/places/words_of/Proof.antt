@@ -10,7 +10,7 @@ mul-result : tie.Need-mul-result
 mul-result c = record { fits = omega (arith, product-max (c .args .slots) (c .args .width) 255 255 (search needs) (search needs)) }
 
 returns : tie.Need-returns
-returns c = (refl, omega (arith, product-max (c .args .slots) (c .args .width) 255 255 (search needs) (search needs)))
+returns c = refl
 
 pub words-of-spec : {M : Type 1} → statement M
 words-of-spec = tie.close (tie.spec mul-result returns)
