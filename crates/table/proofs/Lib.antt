@@ -2,3 +2,4 @@
 pub mod Places
 pub mod HasRoom
 pub mod Tests
+pub mod Sums

@@ -4,10 +4,10 @@ use model::Logs;
 use model::Table;
 ghost use mathlib.Core.Path.{_≡_};
 ghost use mathlib.Core.Bool.{cond, not, _&&_};
-ghost use Prim.Native.Nat.{_+_, _-_, _≤_, _<_, min};
+ghost use Prim.Native.Nat.{ℕ, _+_, _-_, _≤_, _<_, min};
 ghost use lib.ListN.{getD};
 ghost use lib.Dec.{eqb};
-ghost use Rattle.model.specs.State.{limit, reservedOn};
+ghost use Rattle.model.specs.State.{reservedOn};
 ghost use Rattle.model.specs.Room.{hasRoom, better, idlest};
 ghost use Rattle.table.specs.Parts.{cap, tableOf, coreOf, roomFor};
 
@@ -17,16 +17,6 @@ pub const LIMIT: u64 = 4611686018427387904;
 // Sums of reserved words stop here: far above LIMIT, and adding LIMIT to it still fits a word.
 const CAP: u64 = 9223372036854775808;
 
-// What one place adds to the words reserved on a disk.
-fn reserved_by(number: u64, home: u64, reserved: u64, disk: u64) -> u64
-    ensures { λ r. ⌜ r ≡ cond (not (eqb number 0) && eqb home disk) reserved 0 ⌝ }
-{
-    if number == 0 {
-        return 0;
-    }
-    if home == disk { reserved } else { 0 }
-}
-
 // The sum, at most CAP.
 fn capped(a: u64, b: u64) -> u64
     requires { ⌜ a ≤ cap ⌝ }
@@ -35,30 +25,39 @@ fn capped(a: u64, b: u64) -> u64
     if b <= CAP - a { a + b } else { CAP }
 }
 
-// The words reserved on a disk, at most CAP: a table that no call made may hold any numbers.
-pub fn reserved_capped<'a>(
+// The sums with what one place adds to them.
+fn add_place(sums: [u64; 8], number: u64, disk: u64, words: u64) -> [u64; 8]
+    requires { ⌜ ((d : ℕ) → d < 8 → getD sums d 0 ≤ cap) ⌝ }
+    ensures { λ r. ⌜ ((d : ℕ) → d < 8 → getD r d 0 ≡ min cap (getD sums d 0 + cond (not (eqb number 0) && eqb disk d) words 0)) ⌝ }
+{
+    if number == 0 {
+        return sums;
+    }
+    if disk >= 8 {
+        return sums;
+    }
+    let mut next = sums;
+    let d = disk as usize;
+    next[d] = capped(sums[d], words);
+    next
+}
+
+// The words reserved on each disk, at most CAP: a table that no call made may hold any numbers.
+pub fn reserved_each<'a>(
     numbers: &'a [u64; 16],
     disks: &'a [u64; 16],
     reserved: &'a [u64; 16],
-    disk: u64,
-) -> u64
-    ensures { λ r. ⌜ r ≡ min cap (reservedOn (tableOf (now (numbers .entry)) (now (disks .entry)) (now (reserved .entry))) disk) ⌝ }
+) -> [u64; 8]
+    ensures { λ r. ⌜ ((d : ℕ) → d < 8 → getD r d 0 ≡ min cap (reservedOn (tableOf (now (numbers .entry)) (now (disks .entry)) (now (reserved .entry))) d)) ⌝ }
 {
-    let mut sum: u64 = 0;
+    let mut sums = [0u64; 8];
     let mut i: usize = 0;
     while i < 16 {
-        let words = reserved_by(numbers[i], disks[i], reserved[i], disk);
-        sum = capped(sum, words);
+        let next = add_place(sums, numbers[i], disks[i], reserved[i]);
+        sums = next;
         i += 1;
     }
-    sum
-}
-
-pub fn reserved_on(table: Table, disk: u64) -> u64
-    requires { ⌜ reservedOn table disk ≤ limit ⌝ }
-    ensures { λ r. ⌜ r ≡ reservedOn table disk ⌝ }
-{
-    reserved_capped(&table.numbers, &table.disks, &table.reserved, disk)
+    sums
 }
 
 fn beyond(end: u64, start: u64) -> u64
@@ -100,12 +99,12 @@ pub fn has_room(ring: u64, logs: Logs, table: Table, need: u64, disk: usize) -> 
     requires { ⌜ disk < 8 ⌝ }
     ensures { λ r. ⌜ r ≡ hasRoom (coreOf 8 ring logs table) need disk ⌝ }
 {
-    let sum = reserved_capped(&table.numbers, &table.disks, &table.reserved, disk as u64);
+    let sums = reserved_each(&table.numbers, &table.disks, &table.reserved);
     room_for(
         logs.starts[disk],
         logs.tails[disk],
         logs.fills[disk],
-        sum,
+        sums[disk],
         ring,
         need,
     )
@@ -138,15 +137,15 @@ pub fn idlest(core: Core, need: u64) -> usize
     let ring = core.sizes.ring;
     let logs = core.logs;
     let table = core.table;
+    let sums = reserved_each(&table.numbers, &table.disks, &table.reserved);
     let mut best: usize = 8;
     let mut d: usize = 0;
     while d < disks {
-        let sum = reserved_capped(&table.numbers, &table.disks, &table.reserved, d as u64);
         let room = room_for(
             logs.starts[d],
             logs.tails[d],
             logs.fills[d],
-            sum,
+            sums[d],
             ring,
             need,
         );

@@ -1,6 +1,6 @@
 // The tests that a state made by the calls passes, but for those of its sizes.
 use crate::room::LIMIT;
-use crate::room::reserved_capped;
+use crate::room::reserved_each;
 use crate::room::room_for;
 use model::Core;
 use model::Logs;
@@ -43,10 +43,10 @@ fn disks_sound(disks: usize, ring: u64, logs: Logs, table: Table) -> bool
     requires { ⌜ disks ≤ 8 ⌝ }
     ensures { λ r. ⌜ r ≡ allBelow (diskSound (coreOf disks ring logs table)) disks ⌝ }
 {
+    let sums = reserved_each(&table.numbers, &table.disks, &table.reserved);
     let mut d: usize = 0;
     while d < disks {
-        let sum = reserved_capped(&table.numbers, &table.disks, &table.reserved, d as u64);
-        if !disk_sound(logs.starts[d], logs.tails[d], logs.fills[d], sum, ring) {
+        if !disk_sound(logs.starts[d], logs.tails[d], logs.fills[d], sums[d], ring) {
             return false;
         }
         d += 1;

@@ -1,27 +1,31 @@
 -- `table::room::idlest` meets its contract: the best of the disks passed. Assumes nothing.
 use Prim.Native.Nat.{_-_, _≤_}
-use mathlib.Core.Path.{_≡_}
+use mathlib.Core.Path.{_≡_, refl}
 use native.Mathlib.Omega.{arith}
 use borrow.Author.Needs.{needs}
+use Rattle.model.specs.declared.Table.{Table}
 use Rattle.model.specs.Room.{idlest, hasRoom, loadOf, idlestBelow}
 use Rattle.model.specs.Sizes.{ringOf}
 use Rattle.table.specs.Parts.{coreOf}
 use Rattle.table.proofs.HasRoom.{room-computed, idlest-step}
+use Rattle.table.proofs.Sums.{SumsOf}
 use Rattle.table.proofs.room.idlest.Statement.{statement}
 use Rattle.table.proofs.room.idlest.Tie as tie
 
 abbrev Inv-loop : tie.InvT-loop
-Inv-loop need disks ring logs table best₀ d₀ best d = (d ≤ disks) × (best ≤ 8) × (best ≡ idlestBelow (hasRoom (coreOf disks ring logs table) need) (loadOf logs) d)
+Inv-loop need disks ring logs sums best₀ d₀ best d =
+    (d ≤ disks) × (best ≤ 8)
+    × ((t : Table) → SumsOf sums t → best ≡ idlestBelow (hasRoom (coreOf disks ring logs t) need) (loadOf logs) d)
 
 abbrev μ-loop : tie.MeasureT-loop
-μ-loop need disks ring logs table best₀ d₀ best d = disks - d
+μ-loop need disks ring logs sums best₀ d₀ best d = disks - d
+
+reserved-each-requires : tie.Need-reserved-each-requires Inv-loop μ-loop
+reserved-each-requires c κs = search needs
 
 loop-holds : tie.Need-loop-holds Inv-loop μ-loop
 unfolding idlestBelow
-loop-holds c = search needs
-
-reserved-capped-requires : tie.Need-reserved-capped-requires Inv-loop μ-loop
-reserved-capped-requires c κs = search needs
+loop-holds c = (search needs, search needs, λ t sums. refl)
 
 mul-room-for : tie.Need-mul-room-for Inv-loop μ-loop
 mul-room-for c = search needs
@@ -41,6 +45,12 @@ mul-room-for-3 c = search needs
 element-copy-out-room-for-3 : tie.Need-element-copy-out-room-for-3 Inv-loop μ-loop
 element-copy-out-room-for-3 c = search needs
 
+mul-room-for-4 : tie.Need-mul-room-for-4 Inv-loop μ-loop
+mul-room-for-4 c = search needs
+
+array-read-room-for : tie.Need-array-read-room-for Inv-loop μ-loop
+array-read-room-for c = search needs
+
 room-for-requires : tie.Need-room-for-requires Inv-loop μ-loop
 room-for-requires c κs = search needs
 
@@ -57,15 +67,16 @@ loop-again : tie.Need-loop-again Inv-loop μ-loop
 loop-again c = (
   search needs,
   search needs,
-  idlest-step _ _ _ _ _ _ (c .before .before .before .before .before .before .before .before .before .before .before .before .before .loop .inv .2)
-      (room-computed _ _ _ _ _ _ _ _ (c .before .before .before .before .before .before .before .reserved-capped .ensures) (c .before .before .before .room-for .ensures))
+  λ t sums. idlest-step _ _ _ _ _ _ (c .before .before .before .before .before .before .before .before .loop .inv .2 t sums)
+      (room-computed _ _ _ t _ _ _ _ (sums _ (omega arith)) (c .before .before .before .room-for .ensures))
       (c .better-disk .ensures .1),
 )
 
 returns : tie.Need-returns Inv-loop μ-loop
 unfolding idlest hasRoom ringOf
-returns c = let e : c .before .loop .d ≡ c .before .before .before .before .args .core .sizes .disks = omega arith in
-    (search needs, rw e at (c .before .loop .inv .2))
+returns c =
+    let e : c .before .loop .d ≡ c .before .before .before .before .before .before .before .before .before .args .core .sizes .disks = omega arith in
+    (search needs, rw e at (c .before .loop .inv .2 (c .before .before .before .before .before .before .before .before .before .args .core .table) (c .before .before .reserved-each .ensures)))
 
 pub idlest-spec : {M : Type 1} → statement M
 idlest-spec =
@@ -73,14 +84,16 @@ idlest-spec =
     (tie.spec
     Inv-loop
     μ-loop
+    reserved-each-requires
     loop-holds
-    reserved-capped-requires
     mul-room-for
     element-copy-out-room-for
     mul-room-for-2
     element-copy-out-room-for-2
     mul-room-for-3
     element-copy-out-room-for-3
+    mul-room-for-4
+    array-read-room-for
     room-for-requires
     better-disk-requires
     add-d
