@@ -1,9 +1,10 @@
 -- A disk of a serving state, as the functions of `log` are lent it.
 use mathlib.Core.Path.{_≡_, refl}
 use mathlib.Core.List.{List}
-use Prim.Native.Nat.{ℕ, _+_, _≤_, _<_}
+use Prim.Native.Nat.{ℕ, _+_, _*_, _-_, _≤_, _<_}
 use native.Mathlib.Omega.{arith}
 use lib.ListN.{length}
+use Rattle.model.specs.declared.Sizes.{Sizes}
 use Rattle.model.specs.declared.Core.{Core}
 use Rattle.model.specs.Sizes.{diskAt, logWords}
 use Rattle.model.specs.World.{World}
@@ -18,6 +19,12 @@ use Rattle.log.proofs.Scanning.{disk-within}
 use Rattle.frame.specs.declared.home.Home.{Home}
 use Rattle.frame.specs.Home.{Serves, homeOf}
 use Rattle.frame.proofs.Verdicts.{Passed}
+
+-- a buffer's place, counted from the end of the work memory
+pub buffer-from-end : (s : Sizes) (work disk : ℕ) → work ≡ workWords s → disk < s .disks
+    → work - 64 * (s .disks - disk + 1) ≡ bufferAt s disk
+unfolding workWords epochAt bufferAt
+buffer-from-end s work disk e below = omega (arith, e, below)
 
 pub home-lent : (c : Core) (w : World) (disk : ℕ)
     → Lent (c .sizes) (c .logs) w disk (homeOf c disk .ring) (homeOf c disk .buffer) (homeOf c disk .tail) (homeOf c disk .fill) (w .logs) (w .work)

@@ -1,20 +1,34 @@
 -- What a state that passes the first test may be taken for.
 use mathlib.Core.Path.{_≡_, refl, sym, ap, _∙_}
-use mathlib.Core.Bool.{Bool, true, false, _&&_}
+use mathlib.Core.Bool.{Bool, true, false, cond, _&&_}
 use Rattle.model.specs.declared.Stage.{Stage}
 use Rattle.model.specs.declared.Stage.the-variants.{Shut, Replaying, Open, Copying}
 use Rattle.model.specs.declared.Core.{Core}
 use Rattle.model.specs.Sizes.{sizesInBounds}
 use Rattle.model.specs.State.{servingSound, checkpointSound, replaySound, soundIn, sound}
-use Rattle.model.specs.Causes.{whenShut, whenReplaying, whenServing}
+use Rattle.model.specs.Causes.{whenShut, whenReplaying, whenOpen, whenServing}
 use Rattle.model.proofs.Booleans.{true-false, both}
 use Rattle.model.proofs.Store.Rows.{sizes-sound}
+use Rattle.table.proofs.HasRoom.{and-true}
 use Rattle.table.proofs.Tests.{replay-split}
 
 -- the test of each stage
-pub sound-at : (c : Core) (g : Stage) → c .stage ≡ g → sound c ≡ soundIn g c
+-- the test of a state, stage by stage, as it is made
+pub sound-by-stage : (c : Core)
+    → sound c
+    ≡ cond (whenShut (c .stage)) true
+    (cond (whenReplaying (c .stage)) (replaySound c) (servingSound c && cond (whenOpen (c .stage)) true (checkpointSound c)))
 unfolding sound
-sound-at c g e = rw e refl
+sound-by-stage c = go (c .stage)
+  where
+    go : (g : Stage)
+        → soundIn g c
+        ≡ cond (whenShut g) true
+        (cond (whenReplaying g) (replaySound c) (servingSound c && cond (whenOpen g) true (checkpointSound c)))
+    go Shut = refl
+    go Replaying = refl
+    go Open = sym (and-true (servingSound c))
+    go Copying = refl
 
 replay-sizes : (c : Core) → replaySound c ≡ true → sizesInBounds (c .sizes) ≡ true
 replay-sizes c e = both _ _ (sym (replay-split c) ∙ e) .0

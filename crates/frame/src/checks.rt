@@ -1,10 +1,12 @@
 // The checks that every call but format and restart begin makes first: its stage with the test of the state, the anchor's length, the
 // other lengths.
+use crate::stages::is_open;
+use crate::stages::is_replaying;
+use crate::stages::is_shut;
 use layout::bounds::lengths_right;
 use layout::bounds::sizes_in_bounds;
 use model::Core;
 use model::Sizes;
-use model::Stage;
 use table::sound::checkpoint_bounds;
 use table::sound::replay_bounds;
 use table::sound::serving_bounds;
@@ -33,26 +35,28 @@ fn replay_sound(core: Core) -> bool
     replay_bounds(core)
 }
 
-// A state that a call made.
+// A state that a call made. The test that all serving stages share stands once, so that it is not copied for each.
 fn is_sound(core: Core) -> bool
     ensures { λ r. ⌜ r ≡ sound core ⌝ }
 {
     let stage = core.stage;
-    match stage {
-        Stage::Shut => true,
-        Stage::Replaying => replay_sound(core),
-        Stage::Open => serving_sound(core),
-        Stage::Copying => {
-            if !serving_sound(core) {
-                return false;
-            }
-            checkpoint_bounds(core)
-        }
+    if is_shut(stage) {
+        return true;
     }
+    if is_replaying(stage) {
+        return replay_sound(core);
+    }
+    if !serving_sound(core) {
+        return false;
+    }
+    if is_open(stage) {
+        return true;
+    }
+    checkpoint_bounds(core)
 }
 
 // 2 for a wrong anchor, 5 for another wrong slice, else 0.
-pub fn length_refusal(
+fn length_refusal(
     sizes: Sizes,
     anchor: usize,
     pages: usize,

@@ -1,12 +1,12 @@
 // A disk of a serving state: the numbers that the functions of `log` are lent.
-use layout::places::total;
 use model::Core;
 use model::Logs;
 use table::place::place_of;
 ghost use mathlib.Core.Path.{_≡_};
 ghost use mathlib.Core.Bool.{true};
-ghost use Prim.Native.Nat.{_≤_, _<_};
+ghost use Prim.Native.Nat.{_+_, _-_, _*_, _≤_, _<_};
 ghost use lib.ListN.{length};
+ghost use Rattle.model.specs.Memory.{workWords};
 ghost use Rattle.model.specs.State.{isOpen, servingSound};
 ghost use Rattle.model.specs.Transaction.{diskOf};
 ghost use Rattle.frame.specs.Home.{homeOf, withDisk};
@@ -19,16 +19,25 @@ pub struct Home {
     pub fill: u64,
 }
 
+// A disk's buffer in a work memory of this length: the buffers lie before its last 64 words, so that the pages need not be summed up.
+fn buffer_place(work: usize, disks: u64, disk: u64) -> u64
+    requires { ⌜ (disk < disks) × (disks ≤ 8) × (64 * disks + 64 ≤ work) ⌝ }
+    ensures { λ r. ⌜ r ≡ work - 64 * (disks - disk + 1) ⌝ }
+{
+    work as u64 - 64 * (disks - disk + 1)
+}
+
+// `work` is the work memory's length.
 // That the arrays are as long as their types say is told here, where it is near: callers' proofs use it.
-pub fn home_of(core: Core, disk: u64) -> Home
-    requires { ⌜ (core .sizes .pages ≤ 64) × (disk < 8) ⌝ }
+fn home_of(core: Core, work: usize, disk: u64) -> Home
+    requires { ⌜ (disk < core .sizes .disks) × (core .sizes .disks ≤ 8) × (work ≡ workWords (core .sizes)) ⌝ }
     ensures { λ r. ⌜ r ≡ homeOf core disk ⌝ }
     ensures { λ _. ⌜ (length (core .logs .starts) ≡ 8) × (length (core .logs .tails) ≡ 8) × (length (core .logs .fills) ≡ 8) ⌝ }
 {
     let sizes = core.sizes;
     let logs = core.logs;
     let d = disk as usize;
-    let buffer = total(sizes) + 64 * disk;
+    let buffer = buffer_place(work, sizes.disks, disk);
     Home {
         disk,
         ring: sizes.ring,
@@ -39,15 +48,15 @@ pub fn home_of(core: Core, disk: u64) -> Home
 }
 
 // The disk of an open transaction.
-pub fn home_of_transaction(core: Core, number: u64) -> Home
-    requires { ⌜ (servingSound core ≡ true) × (isOpen (core .table) number ≡ true) ⌝ }
+pub fn home_of_transaction(core: Core, work: usize, number: u64) -> Home
+    requires { ⌜ (servingSound core ≡ true) × (isOpen (core .table) number ≡ true) × (work ≡ workWords (core .sizes)) ⌝ }
     ensures { λ r. ⌜ r ≡ homeOf core (diskOf core number) ⌝ }
     ensures { λ _. ⌜ (length (core .logs .starts) ≡ 8) × (length (core .logs .tails) ≡ 8) × (length (core .logs .fills) ≡ 8) ⌝ }
 {
     let table = core.table;
     let place = place_of(table, number);
     let disk = table.disks[place];
-    home_of(core, disk)
+    home_of(core, work, disk)
 }
 
 // The logs with another tail and fill of one disk.

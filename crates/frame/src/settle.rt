@@ -33,7 +33,7 @@ pub fn no_checkpoint() -> Checkpoint
     }
 }
 
-pub fn no_replay() -> Replay
+fn no_replay() -> Replay
     ensures { λ r. ⌜ r ≡ noReplay ⌝ }
 {
     Replay {
@@ -43,7 +43,7 @@ pub fn no_replay() -> Replay
 }
 
 // Logs that start at their tails, with nothing buffered.
-pub fn empty_logs(tails: [u64; 8]) -> Logs
+fn empty_logs(tails: [u64; 8]) -> Logs
     ensures { λ r. ⌜ r ≡ emptyLogs tails ⌝ }
 {
     Logs {

@@ -30,7 +30,7 @@ home-of-requires c κs =
     let x = c .before .before .before .args in
     let b = bounded (x .core .sizes) (sizes-sound (x .core) (c .before .before .before .pre .0)) in
     let below = open-below (x .core) (x .number) (c .before .before .before .pre .0) (c .before .before .before .pre .1) in
-    (b .pages-max, rw (c .before .place-of .ensures) (omega (arith, below, b .disks-max)))
+    (rw (c .before .place-of .ensures) below, b .disks-max, c .before .before .before .pre .2)
 
 returns : tie.Need-returns
 unfolding diskOf diskAtPlace
