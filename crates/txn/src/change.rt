@@ -124,7 +124,7 @@ fn updated_table(core: Core, number: u64, home: Home, words: u64) -> Table
 
 // What a record of the transaction says beside its difference.
 fn head_of(core: Core, number: u64, page: u64, slot: u64, work: &[u64]) -> Head
-    requires { ⌜ (core .sizes .pages ≤ 64) × (core .sizes .disks ≤ 8) × (page < 64) × (length (now work) ≡ workWords (core .sizes)) ⌝ }
+    requires { ⌜ (page < 64) × (length (now work) ≡ workWords (core .sizes)) ⌝ }
     ensures { λ r. ⌜ r ≡ record { kind = 0; page = page; slot = slot; number = number; epoch = epochOf (core .sizes) (now (work .entry)) page } ⌝ }
 {
     Head {
@@ -153,7 +153,7 @@ pub fn change_slot(
         (withMemory w (now (pages .exit)) (now (logs .exit)) (now (work .exit))) r) ⌝ }
 {
     let before = *budget;
-    let home = home_of_transaction(core, number);
+    let home = home_of_transaction(core, work.len(), number);
     let head = head_of(core, number, page, slot, work);
     let at = slot_base(core.sizes, page, slot) as usize;
     let added = log_and_set(home, head, at, value, pages, logs, work, budget);

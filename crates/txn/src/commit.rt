@@ -78,7 +78,7 @@ fn close(core: Core, number: u64, logs: &mut [u64], work: &mut [u64], budget: &m
         → Concludes (now (budget .entry)) (now (budget .exit)) (commitTask core w number) w (withSlices w (now (logs .exit)) (now (work .exit))) r) ⌝ }
 {
     let before = *budget;
-    let home = home_of_transaction(core, number);
+    let home = home_of_transaction(core, work.len(), number);
     let whole = store_close(home, number, logs, work, budget);
     let next = Core {
         logs: with_disk(core.logs, home.disk, home.tail + home.fill + 2, 0),

@@ -1,6 +1,5 @@
 // A slot: whether it is there, and who holds it.
 use layout::places::slot_base;
-use layout::places::total;
 use layout::places::word_of;
 use model::Sizes;
 use model::Table;
@@ -77,11 +76,11 @@ pub fn slot_part<'a>(sizes: Sizes, page: u64, slot: u64, pages: &'a [u64]) -> &'
     &pages[at..at + width]
 }
 
-// The copy epoch of a page.
+// The copy epoch of a page: they are the last 64 words.
 pub fn page_epoch(sizes: Sizes, work: &[u64], page: u64) -> u64
-    requires { ⌜ (sizes .pages ≤ 64) × (sizes .disks ≤ 8) × (page < 64) × (length (now work) ≡ workWords sizes) ⌝ }
+    requires { ⌜ (page < 64) × (length (now work) ≡ workWords sizes) ⌝ }
     ensures { λ r. ⌜ r ≡ epochOf sizes (now (work .entry)) page ⌝ }
 {
-    let at = (total(sizes) + 64 * sizes.disks + page) as usize;
+    let at = work.len() - 64 + page as usize;
     work[at]
 }

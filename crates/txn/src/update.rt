@@ -4,12 +4,12 @@ use crate::slots::is_locked;
 use crate::slots::slot_missing;
 use crate::slots::slot_width;
 use frame::checks::first_refusal;
-use frame::home::home_of_transaction;
 use frame::settle::refuse;
 use frame::stages::is_serving;
 use model::Core;
 use model::Reply;
 use table::place::is_open;
+use table::place::place_of;
 use table::room::has_room;
 ghost use mathlib.Core.Path.{_≡_};
 ghost use mathlib.Core.Bool.{true};
@@ -29,15 +29,11 @@ fn has_update_room(core: Core, number: u64, page: u64) -> bool
     requires { ⌜ (servingSound core ≡ true) × (isOpen (core .table) number ≡ true) × (page < 64) ⌝ }
     ensures { λ r. ⌜ r ≡ hasRoom core (2 * wordsOf updateKind (widthIn (core .sizes) page)) (diskOf core number) ⌝ }
 {
-    let home = home_of_transaction(core, number);
+    let table = core.table;
+    let place = place_of(table, number);
+    let disk = table.disks[place] as usize;
     let width = slot_width(core.sizes, page) as u64;
-    has_room(
-        home.ring,
-        core.logs,
-        core.table,
-        2 * (3 + width),
-        home.disk as usize,
-    )
+    has_room(core.sizes.ring, core.logs, table, 2 * (3 + width), disk)
 }
 
 // The number that an update is refused with, 0 if it is taken.

@@ -12,14 +12,14 @@ use Rattle.txn.proofs.change.change_slot.Statement.{statement}
 use Rattle.txn.proofs.change.change_slot.Tie as tie
 
 home-of-transaction-requires : tie.Need-home-of-transaction-requires
-home-of-transaction-requires c κs = (c .before .before .before .before .before .pre .serves .state, c .before .before .before .before .before .pre .opened)
+home-of-transaction-requires c κs =
+    let ok = c .before .before .before .before .before .pre in
+    (ok .serves .state, ok .opened, ok .serves .work-words)
 
 head-of-requires : tie.Need-head-of-requires
 head-of-requires c κs =
-    let x = c .before .before .before .before .before .before .before .args in
     let ok = c .before .before .before .before .before .before .before .pre in
-    let b = bounded _ (sizes-sound (x .core) (ok .serves .state)) in
-    (b .pages-max, b .disks-max, changes-slot ok .page-small, ok .serves .work-words)
+    (changes-slot ok .page-small, ok .serves .work-words)
 
 slot-base-requires : tie.Need-slot-base-requires
 slot-base-requires c κs =

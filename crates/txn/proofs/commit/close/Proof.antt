@@ -13,7 +13,7 @@ use Rattle.txn.proofs.commit.close.Statement.{statement}
 use Rattle.txn.proofs.commit.close.Tie as tie
 
 home-of-transaction-requires : tie.Need-home-of-transaction-requires
-home-of-transaction-requires c κs = (c .before .before .before .pre .0 .state, c .before .before .before .pre .1)
+home-of-transaction-requires c κs = (c .before .before .before .pre .0 .state, c .before .before .before .pre .1, c .before .before .before .pre .0 .work-words)
 
 store-close-requires : tie.Need-store-close-requires
 unfolding homeOf endOf

@@ -1,34 +1,33 @@
--- `txn::slots::page_epoch` meets its contract: its place in the work memory. Assumes nothing.
-use mathlib.Core.Path.{refl}
-use Rattle.model.specs.Memory.{bufferAt, epochAt, workWords, epochOf}
+-- `txn::slots::page_epoch` meets its contract: its place counted from the end of the work memory. Assumes nothing.
+use mathlib.Core.Path.{_≡_, refl}
+use Prim.Native.Nat.{_+_, _-_}
+use native.Mathlib.Omega.{arith}
+use lib.ListN.{length}
+use Rattle.model.specs.Memory.{epochAt, workWords, epochOf}
 use borrow.Author.Needs.{needs}
 use Rattle.txn.proofs.slots.page_epoch.Statement.{statement}
 use Rattle.txn.proofs.slots.page_epoch.Tie as tie
 
-total-requires : tie.Need-total-requires
-total-requires c κs = search needs
-
-mul-at : tie.Need-mul-at
-mul-at c = search needs
+sub-at : tie.Need-sub-at
+unfolding workWords epochAt
+sub-at c = omega arith
 
 add-at : tie.Need-add-at
 add-at c = search needs
-
-add-at-2 : tie.Need-add-at-2
-add-at-2 c = search needs
 
 mul-result : tie.Need-mul-result
 mul-result c = search needs
 
 shared-slice-read-result : tie.Need-shared-slice-read-result
-unfolding workWords epochAt bufferAt
+unfolding workWords epochAt
 shared-slice-read-result c = search needs
 
 returns : tie.Need-returns
-unfolding epochOf epochAt bufferAt
-returns c = rw (c .before .before .total .ensures .0) refl
+unfolding epochOf epochAt workWords
+returns c =
+    let x = c .before .args in
+    let same : length (x .work .now) - 64 + x .page ≡ epochAt (x .sizes) (x .page) = omega arith in
+    rw same refl
 
 pub page-epoch-spec : {M : Type 1} → statement M
-page-epoch-spec =
-    tie.close
-    (tie.spec total-requires mul-at add-at add-at-2 mul-result shared-slice-read-result returns)
+page-epoch-spec = tie.close (tie.spec sub-at add-at mul-result shared-slice-read-result returns)
