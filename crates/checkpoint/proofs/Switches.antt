@@ -12,11 +12,12 @@ use Rattle.model.specs.Anchor.{epochWord, startWord}
 use Rattle.model.specs.World.{World, worldOf, store, anchor, each}
 use Rattle.model.specs.Append.{flush}
 use Rattle.model.specs.Checkpoint.{perDisk, newStart, checkpointEndTask}
+use Rattle.model.proofs.PerDisk.{first-words}
+use Rattle.model.proofs.Run.{list-each}
 use Rattle.device.specs.Ran.{Ran, Stored}
 use Rattle.device.proofs.Ran.{ran-then, ran-cut}
 use Rattle.device.proofs.Runs.{anchor-ran}
 use Rattle.checkpoint.specs.Lent.{startsStored}
-use Rattle.checkpoint.proofs.PerDisk.{first-words, list-each}
 
 module _ (number disks : ℕ) (starts pages backups logs work : List ℕ) {budget rest : ℕ} {before after : List ℕ} {whole : Bool}
     (did : Stored budget rest (132 + 8 * (number % 2)) (part 0 disks starts) before after whole) where
@@ -40,7 +41,7 @@ end-parts : (c : Core) (w : World) → c .sizes .disks ≤ 8
 unfolding checkpointEndTask startsStored startWord
 end-parts c w few =
     rw (
-      first-words (newStart c) (c .sizes) few,
+      first-words (c .sizes) (newStart c) few,
       add-zero,
       ← list-each (store anchor) (132 + 8 * ((c .epoch + 1) % 2)) (newStart c) (c .sizes .disks),
     )

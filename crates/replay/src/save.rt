@@ -1,10 +1,8 @@
-// What restart end stores, and the memory that it makes fresh.
-use crate::take::backup_at;
+// What restart end stores.
 use device::store_copy;
 use device::store_word;
-use layout::places::total;
+use layout::backup::backup_at;
 use model::Sizes;
-use words::fill_words;
 ghost use mathlib.Core.Path.{_≡_};
 ghost use mathlib.Core.List.{List};
 ghost use mathlib.Core.Bool.{true};
@@ -13,9 +11,8 @@ ghost use lib.ListN.{length};
 ghost use Rattle.model.specs.Sizes.{total, sizesInBounds};
 ghost use Rattle.model.specs.Anchor.{anchorWords};
 ghost use Rattle.model.specs.World.{worldOf};
-ghost use Rattle.model.specs.Memory.{workWords};
 ghost use Rattle.device.specs.Ran.{Ran};
-ghost use Rattle.replay.specs.Parts.{pagesAndRow, checkpointStores, freshWork};
+ghost use Rattle.replay.specs.Parts.{pagesAndRow, checkpointStores};
 
 // Stores all pages in the backup of checkpoint `epoch`, then the starts in its row; true if all are stored.
 fn store_pages_and_row(
@@ -55,15 +52,4 @@ pub fn store_checkpoint(
         return false;
     }
     store_word(anchor, 3, epoch, budget)
-}
-
-// Work memory made fresh: no owners, every page with this copy epoch.
-pub fn fresh_work(work: &mut [u64], sizes: Sizes, epoch: u64)
-    requires { ⌜ (sizesInBounds sizes ≡ true) × (length (now work) ≡ workWords sizes) ⌝ }
-    ensures { λ _. ⌜ now (work .exit) ≡ freshWork sizes epoch (now (work .entry)) ⌝ }
-{
-    let words = total(sizes) as usize;
-    let epochs = words + 64 * (sizes.disks as usize);
-    fill_words(work, 0, words, 0);
-    fill_words(work, epochs, 64, epoch);
 }
