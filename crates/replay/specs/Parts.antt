@@ -21,10 +21,7 @@ unfoldable pub tailOut : ℕ → ℕ → ℕ → Bool
 tailOut ring start tail = ltb tail start || ltb (start + ring) tail || ltb limit tail
 
 -- the stores of restart end: all pages, the starts, and then the number of checkpoint `epoch`
-unfoldable pub pagesAndRow : Sizes → ℕ → List ℕ → List ℕ → List Action
-pagesAndRow s epoch starts pages =
-    each (store backups) (backupAt s epoch) pages
-    ++ listBelow (λ d. store anchor (startWord epoch d) (getD starts d 0)) (s .disks)
-
 unfoldable pub checkpointStores : Sizes → ℕ → List ℕ → List ℕ → List Action
-checkpointStores s epoch starts pages = pagesAndRow s epoch starts pages ++ store anchor epochWord epoch ∷ []
+checkpointStores s epoch starts pages =
+    each (store backups) (backupAt s epoch) pages
+    ++ (listBelow (λ d. store anchor (startWord epoch d) (getD starts d 0)) (s .disks) ++ store anchor epochWord epoch ∷ [])

@@ -23,15 +23,15 @@ use Rattle.device.proofs.Ran.{ran-then, ran-cut}
 use Rattle.frame.specs.Checks.{firstRefusal}
 use Rattle.frame.specs.Settle.{refusedWith, settled, Concludes}
 use Rattle.frame.proofs.Verdicts.{first-refused, first-accepted, refusal-given, task-given, task-settled}
-use Rattle.replay.specs.Parts.{pagesAndRow, checkpointStores}
+use Rattle.replay.specs.Parts.{checkpointStores}
 
 module _ (c : Core) (w : World) {budget rest : ℕ} {v : World} {whole : Bool}
     (ran : Ran budget rest (checkpointStores (c .sizes) (c .epoch + 1) (c .logs .tails) (w .pages)) w v whole) where
   -- the stores, and then the memory
   listed : restartEndTask c w .actions
       ≡ checkpointStores (c .sizes) (c .epoch + 1) (c .logs .tails) (w .pages) ++ freshMemory (c .sizes) (c .epoch + 1)
-  unfolding restartEndTask checkpointStores pagesAndRow tailOf
-  listed = rw (append-assoc, append-assoc)
+  unfolding restartEndTask checkpointStores tailOf
+  listed = simp append-assoc
 
   pub end-cut : whole ≡ false → (k : Core) {r : Reply} → r ≡ settled false budget rest (c .epoch + 1) k
       → Concludes budget rest (restartEndTask c w) w v r
