@@ -54,14 +54,13 @@ pub getD-part : (at n : ℕ) (l : List ℕ) (i : ℕ) → i < n → getD (part a
 unfolding part
 getD-part at n l i h = rw (getD-take, getD-drop)
 
--- word by word
-pub part-list : (at n : ℕ) (l : List ℕ) → at + n ≤ length l → part at n l ≡ listBelow (λ i. getD l (at + i) 0) n
-part-list at n l h =
-    ext-getD 0 (part at n l) (listBelow (λ i. getD l (at + i) 0) n)
-    (length-part at n l h ∙ sym (length-list (λ i. getD l (at + i) 0) n))
+-- the first words of a list, one by one
+pub take-list : (n : ℕ) (l : List ℕ) → n ≤ length l → take n l ≡ listBelow (λ i. getD l i 0) n
+take-list n l h =
+    ext-getD 0 (take n l) (listBelow (λ i. getD l i 0) n) (length-take-le n l h ∙ sym (length-list (λ i. getD l i 0) n))
     (λ i f.
-    let g : i < n = omega (arith, length-part at n l h) in
-    getD-part at n l i g ∙ sym (getD-list (λ i. getD l (at + i) 0) n i 0 g))
+    let g : i < n = omega (arith, length-take-le n l h) in
+    rw (getD-take, getD-list (λ i. getD l i 0) n i 0 g))
 
 -- A run of words set: a word before it, behind it, outside it, and within it.
 pub getD-sets-before : (l : List ℕ) (i : ℕ) (vs : List ℕ) (j : ℕ) → j < i → getD (sets l i vs) j 0 ≡ getD l j 0

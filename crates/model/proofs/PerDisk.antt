@@ -1,15 +1,14 @@
--- Eight numbers, one for each disk: filled disk by disk, read, compared, and the words of the disks in use.
+-- Eight numbers, one for each disk: filled disk by disk, read, and compared.
 use mathlib.Core.Path.{_≡_, refl, sym, _∙_}
 use mathlib.Core.Bool.{Bool, true, false, cond}
 use Prim.Native.Nat.{ℕ, _+_, _≤_, _<_}
 use native.Mathlib.Omega.{arith}
 use native.Mathlib.Decide.{ℕ-discrete}
 use lib.Dec.{ltb}
-use lib.ListN.{length, getD, set, take, replicate, length-set, length-take, getD-replicate}
-use lib.Seq.{ext-getD, getD-set-same, getD-set-other, getD-take}
+use lib.ListN.{length, getD, set, replicate, length-set, getD-replicate}
+use lib.Seq.{ext-getD, getD-set-same, getD-set-other}
 use borrow.Author.Tests.{lt-ltb, le-ltb, ltb-true, ltb-false}
 use Rattle.model.specs.declared.Sizes.{Sizes}
-use Rattle.model.specs.Below.{listBelow}
 use Rattle.model.specs.Checkpoint.{eightBelow, perDisk}
 use Rattle.model.proofs.Below.{length-list, getD-list, list-cong}
 use Rattle.model.proofs.Booleans.{cond-cong}
@@ -69,16 +68,3 @@ module _ (s : Sizes) where
   pub eight-per-disk : (f : ℕ → ℕ) (n : ℕ) → n ≡ s .disks → eightBelow n f ≡ perDisk s f
   unfolding perDisk
   eight-per-disk f n e = rw e
-
-  -- the words of the disks in use
-  pub first-words : (f : ℕ → ℕ) → s .disks ≤ 8 → take (s .disks) (perDisk s f) ≡ listBelow f (s .disks)
-  first-words f h =
-      ext-getD 0 (take (s .disks) (perDisk s f)) (listBelow f (s .disks))
-      (long ∙ sym (length-list f (s .disks)))
-      (λ i l. at i (omega (arith, long)))
-    where
-      long : length (take (s .disks) (perDisk s f)) ≡ s .disks
-      long = simp (length-take, length-per-disk) (omega arith)
-
-      at : (i : ℕ) → i < s .disks → getD (take (s .disks) (perDisk s f)) i 0 ≡ getD (listBelow f (s .disks)) i 0
-      at i l = rw (getD-take, getD-per-disk f i h l, getD-list f (s .disks) i 0 l)
