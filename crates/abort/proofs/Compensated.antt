@@ -15,7 +15,8 @@ use Rattle.model.specs.Memory.{epochOf}
 use Rattle.model.specs.Append.{append}
 use Rattle.model.specs.Image.{xorAt}
 use Rattle.model.specs.Abort.{xorIn, compensate}
-use Rattle.device.specs.Ran.{Ran, withPages}
+use Rattle.model.proofs.Restart.Words.{withPages}
+use Rattle.device.specs.Ran.{Ran}
 use Rattle.device.proofs.Memory.{pages-written}
 use Rattle.device.proofs.Ran.{ran-then, ran-cut}
 use Rattle.abort.specs.declared.record.Progress.{Progress}

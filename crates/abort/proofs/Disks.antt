@@ -32,7 +32,6 @@ pub record Small (s : Sizes) (disk : ℕ) (work : List ℕ) : Type 0 where
   pub below : disk < 8
   pub words : total s ≤ 8192
   pub buffer : total s + 64 * disk + 64 ≤ length work
-  pub epochs : total s + 64 * s .disks + 64 ≡ length work
 
 -- the buffered words of a log lie within the work memory
 pub record Lies (r : Window) (work : List ℕ) : Type 0 where
@@ -56,7 +55,6 @@ module _ {s : Sizes} {l : Logs} {disk : ℕ} {logs work : List ℕ} (at : Servin
         below = omega (arith, at .disk-below, bounds .disks-max);
         words = total-max s bounds;
         buffer = omega (arith, at .work-words, at .disk-below);
-        epochs = omega (arith, at .work-words);
       }
 
   -- where its log ends and its buffered words lie

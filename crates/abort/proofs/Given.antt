@@ -1,24 +1,22 @@
 -- What an abort gives: a refusal of its first rows, a transaction that is not open, a fault, or its work.
 use mathlib.Core.Path.{_≡_, refl, _∙_}
 use mathlib.Core.List.{[], _∷_}
-use mathlib.Core.Bool.{Bool, true, false, not}
+use mathlib.Core.Bool.{Bool, true, false}
 use Prim.Native.Nat.{ℕ, _-_}
-use native.Mathlib.Omega.{arith}
 use lib.ListN.{length}
-use borrow.Author.Tests.{le-ltb}
 use Rattle.model.specs.declared.Table.{Table}
 use Rattle.model.specs.declared.Core.{Core}
 use Rattle.model.specs.declared.Reply.{Reply}
 use Rattle.model.specs.declared.Fault.the-variants.{Sound, BadRecord}
 use Rattle.model.specs.Sizes.{total}
-use Rattle.model.specs.Scan.{faultIn, updatesIn, updateWords}
 use Rattle.model.specs.World.{World}
-use Rattle.model.specs.State.{isOpen, placeOf, reservedAt, without, withLog}
+use Rattle.model.specs.State.{isOpen, without, withLog}
 use Rattle.model.specs.Refusal.{row, verdict}
 use Rattle.model.specs.Causes.{whenServing, notOpen, faultRow}
-use Rattle.model.specs.Abort.{abortScan, updatesLeft, abortFault, abortRows, abortTask}
+use Rattle.model.specs.Abort.{abortFault, abortRows, abortTask}
 use Rattle.model.specs.Call.{abort, Gives}
 use Rattle.model.proofs.Lengths.{lengths-right}
+use Rattle.model.proofs.Store.AbortRows.{nothing-bad}
 use Rattle.frame.specs.Checks.{firstRefusal}
 use Rattle.frame.specs.Settle.{refusedWith, settled}
 use Rattle.frame.specs.Home.{Serves}
@@ -27,11 +25,6 @@ use Rattle.frame.proofs.Homes.{serves-passed}
 use Rattle.abort.specs.declared.record.Progress.{Progress}
 use Rattle.abort.specs.Undo.{Did}
 use Rattle.abort.specs.Scope.{rolledBack}
-
--- of a transaction that is not open nothing is read
-unread : (c : Core) (w : World) (number : ℕ) → isOpen (c .table) number ≡ false → abortFault c w number ≡ Sound
-unfolding abortFault abortScan updatesLeft updatesIn updateWords faultIn
-unread c w number shut = rw (shut, le-ltb (reservedAt (c .table) (placeOf (c .table) number) - 2) 0 (omega arith)) refl
 
 module _ (c : Core) (number budget : ℕ) (w : World) {a : Bool} {r : ℕ} (stage : a ≡ whenServing (c .stage))
     (first : r ≡ firstRefusal a c (length (w .anchor)) (length (w .pages)) (length (w .backups)) (length (w .logs)) (length (w .work))) where
@@ -56,7 +49,7 @@ module _ (c : Core) (number budget : ℕ) (w : World) {a : Bool} {r : ℕ} (stag
 
     pub given-shut : isOpen (c .table) number ≡ false → {reply : Reply} → reply ≡ refusedWith c 9 0 0 → Gives (abort number budget) c w reply budget w
     unfolding verdict notOpen
-    given-shut shut e = rw e (refusal-given (abort number budget) c w 9 0 0 (decided ∙ rw (unread c w number shut, shut) refl))
+    given-shut shut e = rw e (refusal-given (abort number budget) c w 9 0 0 (decided ∙ rw (nothing-bad c w number (rw shut), shut) refl))
 
     pub given-fault : {disk position : ℕ} → abortFault c w number ≡ BadRecord disk position → {reply : Reply}
         → reply ≡ refusedWith c 7 disk position → Gives (abort number budget) c w reply budget w

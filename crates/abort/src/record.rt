@@ -1,7 +1,7 @@
 // A record appended for a disk of a state, and the logs' part of the state after it.
 use crate::window::window_of;
 use frame::home::with_disk;
-use layout::places::total;
+use layout::memory::page_epoch;
 use log::write::Head;
 use log::write::Logged;
 use log::write::append_change;
@@ -56,13 +56,12 @@ pub fn log_compensation(
         (worldOf anchor pages backups (now (logs .entry)) (now (work .entry))) (worldOf anchor pages backups (now (logs .exit)) (now (work .exit))) r) ⌝ }
 {
     let log = window_of(sizes, state, disk);
-    let at = (total(sizes) + 64 * sizes.disks + page) as usize;
     let head = Head {
         kind: 1,
         page,
         slot,
         number,
-        epoch: work[at],
+        epoch: page_epoch(sizes, work, page),
     };
     let added = append_change(
         logs,

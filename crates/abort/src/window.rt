@@ -1,5 +1,5 @@
 // Where a disk's log ends, and where its buffered words lie in the work memory.
-use layout::places::total;
+use layout::memory::buffer_at;
 use model::Logs;
 use model::Sizes;
 ghost use mathlib.Core.Path.{_≡_};
@@ -23,7 +23,7 @@ pub fn window_of(sizes: Sizes, state: Logs, disk: u64) -> Window
     let d = disk as usize;
     let tail = state.tails[d];
     let fill = state.fills[d];
-    let start = total(sizes) + 64 * disk;
+    let start = buffer_at(sizes, disk);
     Window {
         tail,
         fill,

@@ -1,8 +1,9 @@
 // A page goes to the backup of the checkpoint under way.
 use device::store_copy;
+use layout::backup::backup_at;
+use layout::memory::epoch_at;
 use layout::places::page_base;
 use layout::places::page_words;
-use layout::places::total;
 use model::Sizes;
 ghost use mathlib.Core.List.{List};
 ghost use Prim.Native.Nat.{ℕ};
@@ -28,11 +29,10 @@ pub fn copy_page(
 {
     let base = page_base(sizes, page);
     let words = page_words(sizes, page);
-    let all = total(sizes);
-    let at = number % 2 * all + base;
+    let backup = backup_at(sizes, number);
     if !store_copy(
         backups,
-        at as usize,
+        (backup + base) as usize,
         pages,
         base as usize,
         words as usize,
@@ -40,6 +40,7 @@ pub fn copy_page(
     ) {
         return false;
     }
-    work[(all + 64 * sizes.disks + page) as usize] = number;
+    let at = epoch_at(sizes, page) as usize;
+    work[at] = number;
     true
 }

@@ -6,4 +6,4 @@ mod ends;
 mod flush;
 mod starts;
 pub mod step;
-mod switch;
+pub mod switch;

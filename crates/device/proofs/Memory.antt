@@ -4,11 +4,18 @@ use mathlib.Core.List.{List, []}
 use mathlib.Core.Bool.{true}
 use Prim.Native.Nat.{ℕ}
 use native.Mathlib.Omega.{arith}
+use lib.ListN.{replicate}
 use lib.Seq.{sets}
 use borrow.Author.Tests.{le-leb}
 use Rattle.model.specs.World.{World, Action, write, pages, work, each, perform, stores, made, finishes}
+use Rattle.model.specs.declared.Sizes.{Sizes}
+use Rattle.model.specs.Sizes.{total}
+use Rattle.model.specs.Memory.{epochAt, freshWork}
+use Rattle.model.specs.Format.{freshMemory}
 use Rattle.model.proofs.Run.{finished-run, stores-written, perform-pages, perform-work}
-use Rattle.device.specs.Ran.{Ran, withPages, withWork}
+use Rattle.model.proofs.Restart.Words.{withPages}
+use Rattle.device.specs.Ran.{Ran, withWork}
+use Rattle.device.proofs.Ran.{ran-then}
 
 ran-free : {l : List Action} {w v : World} (budget : ℕ) → stores l ≡ 0 → perform l w ≡ v → Ran budget budget l w v true
 unfolding made finishes
@@ -28,3 +35,12 @@ pages-written budget at words w = ran-free budget (stores-written pages at words
 pub work-written : (budget at : ℕ) (words : List ℕ) (w : World)
     → Ran budget budget (each (write work) at words) w (withWork w (sets (w .work) at words)) true
 work-written budget at words w = ran-free budget (stores-written work at words) (perform-work at words w)
+
+-- work memory made fresh
+pub fresh-written : (budget : ℕ) (s : Sizes) (epoch : ℕ) (w : World)
+    → Ran budget budget (freshMemory s epoch) w (withWork w (freshWork s epoch (w .work))) true
+unfolding freshMemory freshWork
+fresh-written budget s epoch w =
+    let owners : List ℕ = replicate (total s) 0 in
+    ran-then (work-written budget 0 owners w) _ refl
+    (work-written budget (epochAt s 0) (replicate 64 epoch) (withWork w (sets (w .work) 0 owners)))

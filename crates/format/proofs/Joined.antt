@@ -3,7 +3,7 @@ use mathlib.Core.Path.{_≡_, refl, sym}
 use mathlib.Core.List.{List, [], _∷_, _++_, append-assoc}
 use mathlib.Core.Bool.{Bool, true, false}
 use Prim.Native.Nat.{ℕ, _+_, _*_}
-use native.Mathlib.Nat.{add-zero, one-mul}
+use native.Mathlib.Nat.{one-mul}
 use lib.ListN.{replicate}
 use lib.Seq.{sets}
 use Rattle.model.specs.declared.Sizes.{Sizes}
@@ -13,11 +13,11 @@ use Rattle.model.specs.Below.{joinBelow}
 use Rattle.model.specs.Sizes.{total}
 use Rattle.model.specs.Anchor.{epochWord, slotsAt, widthsAt, rowsAt, backupAt}
 use Rattle.model.specs.World.{World, Action, worldOf, store, anchor, backups, logs, each}
-use Rattle.model.specs.Memory.{bufferAt, epochAt}
+use Rattle.model.specs.Memory.{freshWork}
 use Rattle.model.specs.State.{openCore}
 use Rattle.model.specs.Format.{formatStores, freshMemory, formatTask}
 use Rattle.device.specs.Ran.{Ran, Stored}
-use Rattle.device.proofs.Memory.{pages-written, work-written}
+use Rattle.device.proofs.Memory.{pages-written, fresh-written}
 use Rattle.device.proofs.Ran.{ran-then, ran-cut}
 use Rattle.device.proofs.Runs.{anchor-ran, backups-ran, logs-ran}
 use Rattle.frame.specs.Settle.{settled, Concludes}
@@ -93,15 +93,12 @@ module _ (s : Sizes) where
   -- memory made fresh
   pub fresh-ran : (budget words : ℕ) (anchor backups logs pages work : List ℕ) → words ≡ total s
       → Ran budget budget (pagesZero s ++ freshMemory s 1) (worldOf anchor pages backups logs work)
-      (worldOf anchor (sets pages 0 (replicate words 0)) backups logs (sets (sets work 0 (replicate words 0)) (words + 64 * s .disks) (replicate 64 1))) true
-  unfolding pagesZero freshMemory epochAt bufferAt
+      (worldOf anchor (sets pages 0 (replicate words 0)) backups logs (freshWork s 1 work)) true
+  unfolding pagesZero
   fresh-ran budget words a b l pages work long =
-      let w1 = worldOf a (sets pages 0 (replicate (total s) 0)) b l work in
-      let w2 = worldOf a (sets pages 0 (replicate (total s) 0)) b l (sets work 0 (replicate (total s) 0)) in
-      rw (long, add-zero)
+      rw long
       (ran-then (pages-written budget 0 (replicate (total s) 0) (worldOf a pages b l work)) _ refl
-      (ran-then (work-written budget 0 (replicate (total s) 0) w1) _ refl
-      (work-written budget (total s + 64 * s .disks) (replicate 64 1) w2)))
+      (fresh-written budget s 1 (worldOf a (sets pages 0 (replicate (total s) 0)) b l work)))
 
   actions : formatStores s ++ (pagesZero s ++ freshMemory s 1) ≡ formatTask s .actions
   unfolding formatTask pagesZero

@@ -1,4 +1,5 @@
 // Fresh memory: zero pages, no owners, every copy number 1.
+use layout::memory::fresh_work;
 use layout::places::total;
 use model::Sizes;
 use words::fill_words;
@@ -17,8 +18,6 @@ pub fn make_fresh(sizes: Sizes, pages: &mut [u64], work: &mut [u64])
         (worldOf anchor (now (pages .exit)) backups logs (now (work .exit))) true) ⌝ }
 {
     let words = total(sizes) as usize;
-    let disks = sizes.disks as usize;
     fill_words(pages, 0, words, 0);
-    fill_words(work, 0, words, 0);
-    fill_words(work, words + 64 * disks, 64, 1);
+    fresh_work(work, sizes, 1);
 }

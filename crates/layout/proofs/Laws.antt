@@ -1,29 +1,32 @@
--- Laws that the proofs of this crate share: products, the bounds on the sizes, and an array that is filled word by word.
-use mathlib.Core.Path.{_≡_, refl, sym, _∙_}
-use mathlib.Core.Bool.{Bool, true, false, true≢false, and-eq-true-iff, _&&_}
+-- Laws that the proofs of this crate share: products, the bounds on the sizes, an array that is filled word by word, fresh memory.
+use mathlib.Core.Path.{_≡_, refl, sym, ap, _∙_}
+use mathlib.Core.Bool.{Bool, true, false, and-false, _&&_}
 use mathlib.Core.List.{List}
 use Prim.Native.Nat.{ℕ, _+_, _*_, _≤_, _<_}
 use native.Mathlib.Omega.{arith}
 use native.Mathlib.Numerals.{add-one}
 use native.Mathlib.Nat.{le-trans, mul-le-mul-left, mul-le-mul-right}
-use lib.Dec.{leb, ltb, eqb}
-use lib.ListN.{length, getD, set, take}
-use lib.Seq.{take-suc, take-suc-set, take-all}
-use borrow.Author.Tests.{eq-eqb, leb-true, ltb-true, ltb-false}
+use lib.Dec.{ltb, eqb}
+use lib.ListN.{length, getD, set, take, replicate}
+use lib.Seq.{sets, take-suc, take-suc-set, take-all}
+use borrow.Author.Tests.{eq-eqb, ltb-true, ltb-false}
 use Rattle.model.specs.declared.Sizes.{Sizes}
 use Rattle.model.specs.Word.{part}
 use Rattle.model.specs.Below.{within, allBelow}
-use Rattle.model.specs.Sizes.{slotsIn, widthIn, pageWords, usedEntry, unusedEntry, entryInBounds, sizesInBounds}
-use Rattle.model.proofs.Below.{all-each}
+use Rattle.model.specs.Sizes.{slotsIn, widthIn, pageWords, usedEntry, unusedEntry, entryInBounds, sizesInBounds, total}
+use Rattle.model.specs.Memory.{epochAt, freshWork}
+use Rattle.model.proofs.Below.{all-stop}
+use Rattle.model.proofs.Booleans.{in-range}
 use Rattle.model.proofs.Bounds.{bounded}
 use Rattle.model.proofs.Parts.{length-part, getD-part}
+-- beside these, the loops over the entries need
+pub use Rattle.model.proofs.Below.{all-none, all-more}
 
 pub product-max : (a b m n : ℕ) → a ≤ m → b ≤ n → a * b ≤ m * n
 product-max a b m n h k = le-trans (mul-le-mul-left a k) (mul-le-mul-right n h)
 
 pub within-max : (low high n : ℕ) → within low high n ≡ true → n ≤ high
-unfolding within
-within-max low high n e = leb-true n high (and-eq-true-iff (leb low n) (leb n high) .0 e .1)
+within-max low high n e = in-range low high n e .1
 
 -- An array that is filled from another list: the first i words are done, then one more.
 pub fill-more : (out source : List ℕ) (i v : ℕ) → i < length out → i < length source → v ≡ getD source i 0
@@ -47,25 +50,6 @@ entriesOf pages slots widths = record { pages = pages; disks = 0; ring = 0; slot
 abbrev pub countsInBounds : ℕ → ℕ → ℕ → Bool
 countsInBounds pages disks ring = within 1 64 pages && within 1 8 disks && within 128 65536 ring
 
-and-false : (a b : Bool) → b ≡ false → a && b ≡ false
-and-false true b e = e
-and-false false b e = refl
-
-pub all-more : (f : ℕ → Bool) (n : ℕ) → allBelow f n ≡ true → f n ≡ true → allBelow f (n + 1) ≡ true
-unfolding allBelow
-all-more f n e h = rw (add-one, e) h
-
-pub all-none : (f : ℕ → Bool) → allBelow f 0 ≡ true
-unfolding allBelow
-all-none f = refl
-
-all-fails : (f : ℕ → Bool) (n i : ℕ) → i < n → f i ≡ false → allBelow f n ≡ false
-all-fails f n i h e = go (allBelow f n) refl
-  where
-    go : (b : Bool) → allBelow f n ≡ b → b ≡ false
-    go true all = absurd (true≢false (sym (all-each f n all i h) ∙ e))
-    go false all = refl
-
 module _ (s : Sizes) where
   pub counts-out : countsInBounds (s .pages) (s .disks) (s .ring) ≡ false → false ≡ sizesInBounds s
   unfolding sizesInBounds
@@ -76,7 +60,7 @@ module _ (s : Sizes) where
   entry-out i h e =
       let front : Bool =
       countsInBounds (s .pages) (s .disks) (s .ring) && eqb (length (s .slots)) 64 && eqb (length (s .widths)) 64 in
-      sym (and-false front (allBelow (entryInBounds s) 64) (all-fails (entryInBounds s) 64 i h e))
+      rw (← all-stop (entryInBounds s) 64 i h e) (sym (and-false front))
 
   pub all-in : countsInBounds (s .pages) (s .disks) (s .ring) ≡ true → length (s .slots) ≡ 64 → length (s .widths) ≡ 64
       → allBelow (entryInBounds (entriesOf (s .pages) (s .slots) (s .widths))) 64 ≡ true → true ≡ sizesInBounds s
@@ -101,3 +85,12 @@ entry-bytes s e i h = go (ltb i (s .pages)) refl
     go false p =
         let b = bounded s e .unused i (ltb-false i (s .pages) p) h in
         (omega (arith, b .0), omega (arith, b .1))
+
+-- the words set in work memory
+pub fresh-set : (s : Sizes) (epoch : ℕ) (work : List ℕ) {words at : ℕ} {middle after : List ℕ} → words ≡ total s → at ≡ epochAt s 0
+    → middle ≡ sets work 0 (replicate words 0) → after ≡ sets middle at (replicate 64 epoch) → after ≡ freshWork s epoch work
+unfolding freshWork
+fresh-set s epoch work {words} {at} {middle} count place owners epochs =
+    epochs ∙ ap (λ (m : List ℕ). sets m at (replicate 64 epoch)) owners
+    ∙ ap (λ (n : ℕ). sets (sets work 0 (replicate n 0)) at (replicate 64 epoch)) count
+    ∙ ap (λ (n : ℕ). sets (sets work 0 (replicate (total s) 0)) n (replicate 64 epoch)) place

@@ -1,4 +1,6 @@
 // Where pages, slots and memories lie, computed from the sizes; and the sizes: their bounds, and how an anchor gives them.
 pub mod anchor;
+pub mod backup;
 pub mod bounds;
+pub mod memory;
 pub mod places;

@@ -5,22 +5,22 @@ use mathlib.Core.List.{List}
 use native.Mathlib.Omega.{arith}
 use lib.ListN.{length}
 use Rattle.model.specs.declared.Sizes.{Sizes}
-use Rattle.model.specs.Sizes.{diskAt, tailWord, logWords}
+use Rattle.model.specs.Sizes.{ringOf, diskAt, tailWord, logWords}
 use Rattle.model.specs.State.{limit}
 use Rattle.model.specs.World.{World}
 use Rattle.model.specs.Causes.{tailOn}
 use Rattle.model.proofs.Bounds.{Bounded}
+use Rattle.model.proofs.Ring.{disk-within}
 use Rattle.log.specs.Reading.{Readable, Checkable}
-use Rattle.log.proofs.Scanning.{disk-within}
 
 module _ (s : Sizes) (b : Bounded s) where
   pub readable : (logs : List ℕ) (disk tail : ℕ) (buffer : List ℕ) (stop : ℕ) → length logs ≡ logWords s → disk < s .disks
       → stop ≤ tail + length buffer → stop ≤ 2 ^ 63 → Readable s logs disk tail buffer stop
-  unfolding logWords diskAt
+  unfolding logWords diskAt ringOf
   readable logs disk tail buffer stop right below le low =
       record {
         ring-pos = omega (arith, b .ring-min);
-        disk-fits = omega (arith, disk-within disk (s .disks) (s .ring) below);
+        disk-fits = omega (arith, disk-within s disk below);
         stop-le = le;
         stop-low = low;
       }

@@ -1,10 +1,10 @@
 -- A loop over a log, by what is decoded at its position: the answer from there is the answer from the next position.
 use Prim.Native.Nat.{ℕ, zero, suc, _+_, _-_, _*_, _≤_, _<_}
 use mathlib.Core.Path.{_≡_, refl, sym, ap, _∙_}
-use mathlib.Core.List.{List, [], _∷_, _++_}
+use mathlib.Core.List.{List, [], _∷_}
 use mathlib.Core.Bool.{Bool, true, false, cond, _&&_}
 use native.Mathlib.Omega.{arith}
-use native.Mathlib.Nat.{mul-le-mul-right, add-mul, one-mul, zero-add}
+use native.Mathlib.Nat.{mul-le-mul-right, add-mul, one-mul}
 use native.Mathlib.Decide.{decLt}
 use lib.ListN.{getD}
 use lib.Dec.{eqb}
@@ -23,15 +23,11 @@ use Rattle.model.specs.World.{World}
 use Rattle.model.specs.Causes.{tailOn, retained, faultFrom}
 use Rattle.model.proofs.Decode.{ChangeAt, CloseAt, found-change, found-close}
 use Rattle.model.proofs.Restart.Gain.{length-span}
+use Rattle.model.proofs.Updates.{update-words-append}
 use Rattle.model.proofs.Scan.{scan-end, scan-step, scan-change, scan-close, scan-bad}
 use Rattle.log.specs.declared.newest.Newest.{Newest}
 use Rattle.log.specs.declared.newest.Newest.the-variants.{At, Broken}
 use Rattle.log.specs.Reading.{scanDisk, faultsFrom, isUpdateOf, newerOf, newestIn}
-
-pub update-words-append : (us vs : List Update) → updateWords (us ++ vs) ≡ updateWords us + updateWords vs
-unfolding updateWords
-update-words-append [] vs = sym (zero-add (updateWords vs))
-update-words-append (u ∷ us) vs = omega (arith, update-words-append us vs)
 
 -- an update of the transaction takes the place of what was found before, no other record does
 module _ (t p : ℕ) (sofar : Newest) {r : Decoded} {kind page slot number epoch width next : ℕ} {b : Bool}

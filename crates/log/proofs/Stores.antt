@@ -5,9 +5,8 @@ use mathlib.Core.Bool.{true, false}
 use Prim.Native.Nat.{ℕ, zero, suc, _+_, _-_, _*_, _%_, _≤_, _<_}
 use native.Mathlib.Omega.{arith}
 use native.Mathlib.Nat.{not-suc-le-zero, mod-add-mod}
-use native.Mathlib.Numerals.{add-one}
-use lib.ListN.{length, take, drop, set, getD, length-drop}
-use lib.Seq.{take-suc, take-take, getD-drop}
+use lib.ListN.{length, take, drop, set, getD}
+use lib.Seq.{take-take}
 use borrow.Author.Tests.{le-leb, lt-leb}
 use Rattle.model.specs.declared.Sizes.{Sizes}
 use Rattle.model.specs.declared.Logs.{Logs}
@@ -15,10 +14,12 @@ use Rattle.model.specs.Word.{part}
 use Rattle.model.specs.Sizes.{ringOf, diskAt, tailWord, ringWord}
 use Rattle.model.specs.World.{World, Action, store, logs, cost, act, perform, stores, covered, run, made, finishes, each}
 use Rattle.model.specs.Memory.{bufferOf}
-use Rattle.model.specs.Append.{storeLog, storeAll, flush}
+use Rattle.model.specs.Append.{storeLog, flush}
 use Rattle.model.proofs.Parts.{length-part}
 use Rattle.model.proofs.Run.{perform-append, each-append, covered-all}
+use Rattle.model.proofs.Flush.{store-some}
 use Rattle.model.proofs.Counts.{flush-empty, flush-stores}
+use Rattle.words.proofs.Laws.{part-more}
 use Rattle.device.specs.Ran.{Ran, withSlices}
 use Rattle.log.specs.Write.{Lent, Laid}
 
@@ -27,14 +28,6 @@ pub next-index : (tail i ring at next : ℕ) → at ≡ (tail + i) % ring → ne
 next-index tail i ring at next here step =
     let e : tail + i + 1 ≡ tail + (i + 1) = omega arith in
     step ∙ ap (λ (a : ℕ). (a + 1) % ring) here ∙ mod-add-mod (tail + i) ring 1 ∙ ap (λ (p : ℕ). p % ring) e
-
--- one word more of a part
-pub part-more : (at i : ℕ) (words : List ℕ) → at + i < length words
-    → part at (i + 1) words ≡ part at i words ++ getD words (at + i) 0 ∷ []
-unfolding part
-part-more at i words h =
-    let k : i < length (drop at words) = rw length-drop (omega arith) in
-    rw (add-one, take-suc (drop at words) i 0 k, getD-drop at words)
 
 pub laid-none : (first ring tail at : ℕ) (words before : List ℕ) → Laid first ring tail (part at 0 words) before before
 unfolding Laid part perform each
@@ -68,12 +61,6 @@ covered-short put one last c zero i (x ∷ xs) h = rw (one i x)
 covered-short put one last c (suc n) i (x ∷ xs) h =
     let less : suc n - 1 ≡ n = omega arith in
     rw (one i x, le-leb 1 (suc n) (omega arith), less, covered-short put one last c n (i + 1) xs (omega arith))
-
--- the stores of some words, and of the new tail
-store-some : (s : Sizes) (disk tail : ℕ) (xs : List ℕ) → 0 < length xs
-    → storeAll s disk tail xs ≡ each (storeLog s disk) tail xs ++ store logs (tailWord s disk) (tail + length xs) ∷ []
-store-some s disk tail [] h = absurd (not-suc-le-zero h)
-store-some s disk tail (x ∷ xs) h = refl
 
 -- A flush of disk `disk`, which has `fill` words in its buffer.
 module _ {s : Sizes} {l : Logs} {w : World} {disk ring buffer tail fill : ℕ} {before memory : List ℕ}

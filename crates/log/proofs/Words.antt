@@ -1,30 +1,20 @@
 -- Words set in a list one after the other, and the words of a record.
-use mathlib.Core.Path.{_≡_, refl, sym, ap, _∙_}
+use mathlib.Core.Path.{_≡_, refl, ap, _∙_}
 use mathlib.Core.List.{List, [], _∷_, _++_, append-assoc}
-use Prim.Native.Nat.{ℕ, suc, _+_, _≤_, _<_}
+use Prim.Native.Nat.{ℕ, _+_, _≤_}
 use native.Mathlib.Omega.{arith}
-use native.Mathlib.Nat.{add-zero}
-use native.Mathlib.Numerals.{add-one}
-use lib.ListN.{length, take, drop, set, getD}
-use lib.Seq.{take-suc, length-take-le, take-append-add, take-at, drop-at, sets, sets-eq}
+use lib.ListN.{length, take, drop}
+use lib.Seq.{take-length, length-take-le, take-append-add, take-at, drop-at, sets, sets-eq}
 use Rattle.model.specs.Word.{part}
 use Rattle.model.specs.Record.{change, close, header, encode}
 use Rattle.model.proofs.Parts.{length-part}
 use Rattle.log.specs.declared.write.Head.{Head}
 use Rattle.log.specs.Write.{changeOf}
 
-sets-last : (l : List ℕ) (i : ℕ) (vs : List ℕ) (v : ℕ) → sets l i (vs ++ v ∷ []) ≡ set (sets l i vs) (i + length vs) v
-sets-last l i [] v = rw add-zero
-sets-last l i (x ∷ vs) v =
-    let e : suc i + length vs ≡ i + suc (length vs) = omega arith in
-    sets-last (set l i x) (suc i) vs v ∙ ap (λ (n : ℕ). set (sets (set l i x) (suc i) vs) n v) e
-
--- one word more
-pub sets-more : (l : List ℕ) (at : ℕ) (words : List ℕ) (i : ℕ) → i < length words
-    → set (sets l at (take i words)) (at + i) (getD words i 0) ≡ sets l at (take (i + 1) words)
-sets-more l at words i h =
-    let e : length (take i words) ≡ i = length-take-le i words (omega arith) in
-    sym (rw (add-one, take-suc words i 0, sets-last, e))
+-- all words of a list are its part from 0 on
+pub put-all : (l : List ℕ) (at : ℕ) (words : List ℕ) {after : List ℕ} → after ≡ sets l at (part 0 (length words) words) → after ≡ sets l at words
+unfolding part
+put-all l at words e = e ∙ ap (sets l at) (take-length words)
 
 -- words that were set are the part that they make up
 pub part-set : (l : List ℕ) (at : ℕ) (words : List ℕ) → at + length words ≤ length l → part at (length words) (sets l at words) ≡ words

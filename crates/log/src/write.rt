@@ -1,4 +1,5 @@
 // Writing: a record's words into a disk's buffer, and a buffer's words into the ring.
+use words::copy_words;
 ghost use mathlib.Core.Path.{_≡_};
 ghost use mathlib.Core.List.{[], _∷_};
 ghost use Prim.Native.Nat.{_+_, _*_, _%_, _≤_, _<_};
@@ -103,11 +104,7 @@ pub fn put_record(work: &mut [u64], at: u64, words: &[u64])
     requires { ⌜ at + length (now words) ≤ length (now work) ⌝ }
     ensures { λ _. ⌜ now (work .exit) ≡ sets (now (work .entry)) at (now (words .entry)) ⌝ }
 {
-    let mut i = 0;
-    while i < words.len() {
-        work[at as usize + i] = words[i];
-        i += 1;
-    }
+    copy_words(work, at as usize, words, 0, words.len());
 }
 
 // What an append answers: whether all its stores were made, and the disk's tail and fill after it.

@@ -30,6 +30,7 @@ use Rattle.model.proofs.Lengths.{Lengths, lengths-right, length-buffer,
 use Rattle.model.proofs.Ring.{tail-ring-apart}
 use Rattle.model.proofs.Link.Words.{Arrays, below-eight, arrays-flushed, ring-positive, lengths-perform}
 use Rattle.model.proofs.Parts.{part-sets-end}
+use Rattle.model.proofs.Flush.{store-some}
 use Rattle.model.proofs.Growth.{fill-flushed, ends-flushed, fill-set}
 use Rattle.model.proofs.Store.Rows.{serving-sound}
 use Rattle.model.proofs.Store.Holding.{Holding}
@@ -42,12 +43,6 @@ every-each : (P : Action → Type 0) (put : ℕ → ℕ → Action) → ((i x : 
 unfolding each
 every-each P put one i [] = every-nil P
 every-each P put one i (x ∷ xs) = every-cons P (put i x) (each put (i + 1) xs) (one i x) (every-each P put one (i + 1) xs)
-
--- words stored, then the new tail
-store-all : (s : Sizes) (d tail : ℕ) (xs : List ℕ) → 0 < length xs
-    → storeAll s d tail xs ≡ each (storeLog s d) tail xs ++ store logs (tailWord s d) (tail + length xs) ∷ []
-store-all s d tail [] h = absurd (omega arith)
-store-all s d tail (x ∷ xs) h = refl
 
 -- Actions that store no tail of disk d above position p.
 module _ (s : Sizes) (d p : ℕ) (ring : 0 < ringOf s d) where
@@ -111,7 +106,7 @@ module _ (s : Sizes) (l : Logs) (w : World) (d : ℕ) (words : List ℕ) (a : Ar
   put-flush =
       let long = length-append old words in
       let stop : tailOf l d + length (old ++ words) ≡ p + length words = omega (arith, end-old) in
-      rw (fill-now, buffer-now, tail-now, store-all s d (tailOf l d) (old ++ words) (omega arith), each-append, stop, end-old)
+      rw (fill-now, buffer-now, tail-now, store-some s d (tailOf l d) (old ++ words) (omega arith), each-append, stop, end-old)
 
 -- A commit of transaction t, wherever its disk's log ends.
 module _ (c : Core) (w : World) (t : ℕ) (a : Arrays (c .sizes) (c .logs)) (right : Lengths (c .sizes) w)

@@ -19,6 +19,12 @@ use Rattle.model.proofs.Scan.{scan-cong}
 use Rattle.model.proofs.Ring.{lay-length, lay-keeps, lay-keeps-rings, lay-keeps-tails, lay-at, lay-after, tail-length, tail-here, tail-keeps-tails, tail-keeps-rings}
 use Rattle.model.proofs.RoundTrip.{AllWellFormed, scan-log}
 
+-- words stored, then the new tail
+pub store-some : (s : Sizes) (d tail : ℕ) (xs : List ℕ) → 0 < length xs
+    → storeAll s d tail xs ≡ each (storeLog s d) tail xs ++ store logs (tailWord s d) (tail + length xs) ∷ []
+store-some s d tail [] h = absurd (omega arith)
+store-some s d tail (x ∷ xs) h = refl
+
 -- Stores on the logs leave the anchor, the backups and both memories.
 pub record OnlyLogs (before after : World) : Type 0 where
   pub anchor-same : after .anchor ≡ before .anchor

@@ -9,6 +9,7 @@ pub mod Counts
 pub mod Storeless
 pub mod Verdict
 pub mod Meaning
+pub mod PerDisk
 pub mod Reading
 pub mod Faults
 pub mod Updates

@@ -5,15 +5,14 @@ use mathlib.Core.Bool.{Bool, true, false, true≢false, cond, _&&_, _||_}
 use Prim.Native.Nat.{ℕ, zero, suc, _≤_, _<_, min}
 use native.Mathlib.Omega.{arith}
 use lib.Dec.{leb, ltb, eqb}
-use lib.ListN.{getD, length}
-use borrow.Author.Tests.{leb-true, leb-false, ltb-true, ltb-false, eqb-true, eqb-false, lt-ltb}
-use Rattle.model.specs.declared.Sizes.{Sizes}
+use lib.ListN.{getD}
+use borrow.Author.Tests.{leb-true, leb-false, ltb-true, ltb-false, eqb-true, eqb-false}
 use Rattle.model.specs.declared.Table.{Table}
 use Rattle.model.specs.declared.Core.{Core}
 use Rattle.model.specs.State.{places, servedBy, hasUpdate, firstAt}
 use Rattle.model.specs.Room.{noDisk, hasRoom, loadOf, idlestBelow, idlest}
-use Rattle.model.specs.Checkpoint.{leastFirst, newStart, perDisk}
-use Rattle.model.proofs.Below.{below-suc, getD-list, length-list}
+use Rattle.model.specs.Checkpoint.{leastFirst, newStart}
+use Rattle.model.proofs.Below.{below-suc}
 
 -- "The disk with the fewest buffered words among those with log room; ties go to the lowest disk."
 pub record Idlest (eligible : ℕ → Bool) (load : ℕ → ℕ) (n disk : ℕ) : Type 0 where
@@ -153,13 +152,3 @@ least-first t disk remembered (suc n) = go (servedBy t disk n) (hasUpdate t n) r
 pub new-start : (c : Core) (disk : ℕ) → Start (c .table) disk (getD (c .checkpoint .ends) disk 0) places (newStart c disk)
 unfolding newStart
 new-start c disk = least-first (c .table) disk (getD (c .checkpoint .ends) disk 0) places
-
--- a number kept for each disk
-pub getD-per-disk : (s : Sizes) (f : ℕ → ℕ) (d : ℕ) → s .disks ≤ 8 → d < s .disks → getD (perDisk s f) d 0 ≡ f d
-unfolding perDisk
-getD-per-disk s f d h l =
-    getD-list (λ d. cond (ltb d (s .disks)) (f d) 0) 8 d 0 (omega arith) ∙ rw (lt-ltb d (s .disks) l)
-
-pub length-per-disk : (s : Sizes) (f : ℕ → ℕ) → length (perDisk s f) ≡ 8
-unfolding perDisk
-length-per-disk s f = length-list (λ d. cond (ltb d (s .disks)) (f d) 0) 8

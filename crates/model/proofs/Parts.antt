@@ -10,7 +10,9 @@ use lib.Dec.{leb, ltb}
 use lib.ListN.{length, getD, take, drop, set, length-append, length-take, length-drop, length-set}
 use lib.Seq.{sets, sets-eq, length-take-le, take-add, take-at, drop-at, take-set-le, drop-set-lt, drop-set-add, getD-set-same, getD-set-other, getD-take, getD-drop, ext-getD}
 use borrow.Author.Tests.{leb-true, leb-false, ltb-true, ltb-false, le-leb, lt-leb, lt-ltb, le-ltb}
+use Rattle.model.specs.Below.{listBelow}
 use Rattle.model.specs.Word.{part}
+use Rattle.model.proofs.Below.{length-list, getD-list}
 use Rattle.model.proofs.Booleans.{true-false, both}
 use Rattle.model.proofs.Ledger.Entry.{spanning}
 
@@ -51,6 +53,14 @@ length-part at n l h = simp (length-take, length-drop) (omega arith)
 pub getD-part : (at n : ℕ) (l : List ℕ) (i : ℕ) → i < n → getD (part at n l) i 0 ≡ getD l (at + i) 0
 unfolding part
 getD-part at n l i h = rw (getD-take, getD-drop)
+
+-- the first words of a list, one by one
+pub take-list : (n : ℕ) (l : List ℕ) → n ≤ length l → take n l ≡ listBelow (λ i. getD l i 0) n
+take-list n l h =
+    ext-getD 0 (take n l) (listBelow (λ i. getD l i 0) n) (length-take-le n l h ∙ sym (length-list (λ i. getD l i 0) n))
+    (λ i f.
+    let g : i < n = omega (arith, length-take-le n l h) in
+    rw (getD-take, getD-list (λ i. getD l i 0) n i 0 g))
 
 -- A run of words set: a word before it, behind it, outside it, and within it.
 pub getD-sets-before : (l : List ℕ) (i : ℕ) (vs : List ℕ) (j : ℕ) → j < i → getD (sets l i vs) j 0 ≡ getD l j 0

@@ -1,10 +1,11 @@
 -- A transaction's updates as an abort finds them: all of them, and the newest first.
-use mathlib.Core.Path.{_≡_, refl, ap}
+use mathlib.Core.Path.{_≡_, refl, sym, ap}
 use mathlib.Core.Logic.{_⊎_, inl, inr}
 use mathlib.Core.List.{List, [], _∷_, _++_, List·Memᴰ, List·Memᴰ·head, List·Memᴰ·tail, List·Memᴰ·not-nil, List·Memᴰ·cases-cons, append-nil, Memᴰ·append-left, Memᴰ·append-right}
 use mathlib.Core.Bool.{Bool, true, false, and-eq-true-iff, cond, _&&_}
-use Prim.Native.Nat.{ℕ, suc, _≤_, _<_, _-_}
+use Prim.Native.Nat.{ℕ, suc, _+_, _≤_, _<_, _-_}
 use native.Mathlib.Omega.{arith}
+use native.Mathlib.Nat.{zero-add}
 use lib.Dec.{eqb, ltb}
 use borrow.Author.Tests.{eqb-true, eq-eqb, ltb-false}
 use Rattle.model.specs.Causes.{faultRow}
@@ -148,6 +149,12 @@ module _ (number : ℕ) where
       go : (b : Bool) → Falls (updatesIn number rest) → Falls (updatesIn number rest ++ cond b (u ∷ []) [])
       go true f = falls-last (updatesIn number rest) u f (updates-above (suc p) rest (h .1))
       go false f = rw append-nil f
+
+-- the words of two lists of updates
+pub update-words-append : (us vs : List Update) → updateWords (us ++ vs) ≡ updateWords us + updateWords vs
+unfolding updateWords
+update-words-append [] vs = sym (zero-add (updateWords vs))
+update-words-append (u ∷ us) vs = omega (arith, update-words-append us vs)
 
 -- What an abort reads is a log from its transaction's first record on, or nothing.
 pub abort-reads : (P : Scan → Type 0) (c : Core) (w : World) (number : ℕ) → P end

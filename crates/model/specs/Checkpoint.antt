@@ -19,9 +19,13 @@ use Rattle.model.specs.Refusal.{Row, row, Task}
 use Rattle.model.specs.Causes.{whenOpen, whenCopying, stageForbids, anchorWrong, lengthsWrong, spent}
 use Rattle.model.specs.Append.{flush}
 
+-- eight numbers: f's below n, and 0 from there on
+unfoldable pub eightBelow : ℕ → (ℕ → ℕ) → List ℕ
+eightBelow n f = listBelow (λ d. cond (ltb d n) (f d) 0) 8
+
 -- a number for each of the eight disks, 0 from D on
 unfoldable pub perDisk : Sizes → (ℕ → ℕ) → List ℕ
-perDisk s f = listBelow (λ d. cond (ltb d (s .disks)) (f d) 0) 8
+perDisk s f = eightBelow (s .disks) f
 
 -- Begin (open): "number n = c + 1; each disk's end (tail plus buffered) is remembered".
 unfoldable pub checkpointBeginRows : Core → World → List Row

@@ -1,5 +1,5 @@
 -- Laws of the parts of a restart.
-pub mod Eights
+pub mod Rows
 pub mod Tails
 pub mod Taking
 pub mod Saving

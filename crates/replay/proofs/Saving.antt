@@ -1,41 +1,20 @@
 -- What restart end stores, as a list of actions.
-use mathlib.Core.Path.{_≡_, refl, ap, _∙_}
-use mathlib.Core.List.{List, [], _∷_, _++_}
+use mathlib.Core.Path.{_≡_}
+use mathlib.Core.List.{List}
 use mathlib.Core.Bool.{Bool, true, false}
-use Prim.Native.Nat.{ℕ, zero, suc, _+_, _*_, _%_, _≤_}
-use native.Mathlib.Omega.{arith}
-use native.Mathlib.Nat.{zero-add}
-use native.Mathlib.Numerals.{add-one}
-use lib.ListN.{length, getD, replicate}
-use lib.Seq.{sets, take-length}
+use Prim.Native.Nat.{ℕ, _≤_}
+use lib.ListN.{length, take}
+use lib.Seq.{take-length}
 use Rattle.model.specs.declared.Sizes.{Sizes}
-use Rattle.model.specs.Below.{joinBelow, listBelow}
 use Rattle.model.specs.Word.{part}
-use Rattle.model.specs.Sizes.{total}
-use Rattle.model.specs.Anchor.{rowsAt, epochWord, startWord, backupAt}
-use Rattle.model.specs.World.{World, Action, store, anchor, backups, each}
-use Rattle.model.specs.Memory.{bufferAt, epochAt}
-use Rattle.model.proofs.Parts.{length-part}
-use Rattle.model.proofs.Run.{each-append}
-use Rattle.device.specs.Ran.{Ran, Stored, withAnchor, withBackups}
+use Rattle.model.specs.Anchor.{backupAt}
+use Rattle.model.specs.World.{World, store, backups, each}
+use Rattle.device.specs.Ran.{Ran, Stored, withBackups}
 use Rattle.device.proofs.Ran.{ran-then, ran-cut}
-use Rattle.device.proofs.Runs.{anchor-ran, backups-ran}
-use Rattle.words.proofs.Laws.{part-more}
-use Rattle.replay.specs.Parts.{pagesAndRow, checkpointStores, freshWork}
-
--- the words of a list one after the other, by their places
-pub each-below : (put : ℕ → ℕ → Action) (at : ℕ) (words : List ℕ) (n : ℕ) → n ≤ length words
-    → each put at (part 0 n words) ≡ listBelow (λ d. put (at + d) (getD words d 0)) n
-unfolding each part listBelow joinBelow
-each-below put at words zero h = refl
-each-below put at words (suc n) h = one-more (rw (add-one, zero-add) at (part-more 0 n words (omega arith))) (each-below put at words n (omega arith))
-  where
-    one-more : part 0 (suc n) words ≡ part 0 n words ++ (getD words n 0 ∷ [])
-        → each put at (part 0 n words) ≡ listBelow (λ d. put (at + d) (getD words d 0)) n
-        → each put at (part 0 (suc n) words) ≡ listBelow (λ d. put (at + d) (getD words d 0)) n ++ (put (at + n) (getD words n 0) ∷ [])
-    one-more grown rest =
-        ap (each put at) grown ∙ each-append put at (part 0 n words) (getD words n 0 ∷ [])
-        ∙ rw (length-part 0 n words (omega arith), rest)
+use Rattle.device.proofs.Runs.{backups-ran}
+use Rattle.checkpoint.specs.Lent.{startsStored}
+use Rattle.checkpoint.proofs.Switches.{switch-listed}
+use Rattle.replay.specs.Parts.{checkpointStores}
 
 module _ (s : Sizes) (epoch : ℕ) (starts pages : List ℕ) (w : World) {budget rest at : ℕ} {after : List ℕ} {whole : Bool}
     (place : at ≡ backupAt s epoch)
@@ -45,40 +24,13 @@ module _ (s : Sizes) (epoch : ℕ) (starts pages : List ℕ) (w : World) {budget
   unfolding part
   pages-ran = rw (place, take-length) at (backups-ran w did)
 
-  pub pages-cut : whole ≡ false → Ran budget rest (pagesAndRow s epoch starts pages) w (withBackups w after) false
-  unfolding pagesAndRow
+  pub pages-cut : whole ≡ false → Ran budget rest (checkpointStores s epoch starts pages) w (withBackups w after) false
+  unfolding checkpointStores
   pages-cut cut = ran-cut pages-ran _ cut
 
-  -- then the row
-  pub pages-row : whole ≡ true → s .disks ≤ 8 → length starts ≡ 8 → {row-at last : ℕ} {row : List ℕ} {all : Bool}
-      → row-at ≡ rowsAt + 8 * (epoch % 2)
-      → Stored rest last row-at (part 0 (s .disks) starts) (w .anchor) row all
-      → Ran budget last (pagesAndRow s epoch starts pages) w (withAnchor (withBackups w after) row) all
-  unfolding pagesAndRow startWord
-  pages-row done few eight there stored =
-      ran-then pages-ran _ done
-      (rw (each-below (store anchor) (rowsAt + 8 * (epoch % 2)) starts (s .disks) (omega arith)) at (rw there at (anchor-ran (withBackups w after) stored)))
-
--- and the checkpoint number
-module _ (s : Sizes) (epoch : ℕ) (starts pages : List ℕ) {budget rest : ℕ} {w v : World} {whole : Bool}
-    (ran : Ran budget rest (pagesAndRow s epoch starts pages) w v whole) where
-  pub number-cut : whole ≡ false → Ran budget rest (checkpointStores s epoch starts pages) w v false
+  -- then the checkpoint made current
+  pub pages-switched : whole ≡ true → s .disks ≤ length starts → {last : ℕ} {v : World} {all : Bool}
+      → Ran rest last (startsStored epoch (take (s .disks) starts)) (withBackups w after) v all
+      → Ran budget last (checkpointStores s epoch starts pages) w v all
   unfolding checkpointStores
-  number-cut cut = ran-cut ran _ cut
-
-  pub number-stored : whole ≡ true → {last : ℕ} {after : List ℕ} {all : Bool}
-      → Stored rest last epochWord (epoch ∷ []) (v .anchor) after all
-      → Ran budget last (checkpointStores s epoch starts pages) w (withAnchor v after) all
-  unfolding checkpointStores each
-  number-stored done stored = ran-then ran _ done (anchor-ran v stored)
-
--- the words set in work memory
-pub fresh-set : (s : Sizes) (epoch : ℕ) (work : List ℕ) {words at : ℕ} {middle after : List ℕ} → words ≡ total s
-    → at ≡ words + 64 * s .disks → middle ≡ sets work 0 (replicate words 0) → after ≡ sets middle at (replicate 64 epoch)
-    → after ≡ freshWork s epoch work
-unfolding freshWork epochAt bufferAt
-fresh-set s epoch work {words} {at} {middle} count place owners epochs =
-    let there : at ≡ total s + 64 * s .disks + 0 = omega arith in
-    epochs ∙ ap (λ (m : List ℕ). sets m at (replicate 64 epoch)) owners
-    ∙ ap (λ (n : ℕ). sets (sets work 0 (replicate n 0)) at (replicate 64 epoch)) count
-    ∙ ap (λ (n : ℕ). sets (sets work 0 (replicate (total s) 0)) n (replicate 64 epoch)) there
+  pages-switched done few next = ran-then pages-ran _ done (rw (switch-listed epoch (s .disks) starts few) at next)

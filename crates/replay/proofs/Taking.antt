@@ -1,18 +1,15 @@
 -- The words of a log XORed into the pages one after the other.
 use mathlib.Core.Path.{_≡_, ap, _∙_}
 use mathlib.Core.List.{List}
-use Prim.Native.Nat.{ℕ, _+_, _*_, _≤_, _<_}
+use Prim.Native.Nat.{ℕ, _+_, _≤_, _<_}
 use native.Mathlib.Omega.{arith}
 use native.Mathlib.Nat.{zero-add}
 use lib.Bits.{bitXor}
 use lib.ListN.{length, getD, set}
 use lib.Seq.{take-all}
-use Rattle.model.specs.declared.Sizes.{Sizes}
 use Rattle.model.specs.Word.{part}
-use Rattle.model.specs.Sizes.{pageBase, pageWords, total}
 use Rattle.model.specs.Decode.{span}
 use Rattle.model.specs.Image.{xorAt}
-use Rattle.model.proofs.Geometry.{page-end}
 use Rattle.model.proofs.Restart.Gain.{length-span}
 use Rattle.model.proofs.Restart.Image.{getD-span}
 use Rattle.words.proofs.Laws.{xor-in-none, xor-in-more}
@@ -32,11 +29,3 @@ module _ (read : ℕ → ℕ) (p n at : ℕ) (l : List ℕ) where
   pub xor-all : (i : ℕ) {after : List ℕ} → i ≡ n → after ≡ xorAt at (part 0 i (span read p n)) l → after ≡ xorAt at (span read p n) l
   unfolding part
   xor-all i e done = done ∙ ap (λ (d : List ℕ). xorAt at d l) (take-all i (span read p n) (omega (arith, length-span read p n)))
-
--- a page lies within the page memory, and its copy within a backup
-module _ (s : Sizes) (page : ℕ) {base n : ℕ} (h : page < s .pages) (b : base ≡ pageBase s page) (e : n ≡ pageWords s page) where
-  pub page-fits : {words : ℕ} → words ≡ total s → base + n ≤ words
-  page-fits k = omega (arith, page-end s page h)
-
-  pub copy-fits : (at : ℕ) {words : ℕ} → at + total s ≤ 2 * total s → words ≡ 2 * total s → at + base + n ≤ words
-  copy-fits at k m = omega (arith, page-end s page h)

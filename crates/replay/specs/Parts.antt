@@ -2,15 +2,13 @@
 use Prim.Native.Nat.{ℕ, _+_}
 use mathlib.Core.List.{List, [], _∷_, _++_}
 use mathlib.Core.Bool.{Bool, cond, _||_}
-use lib.ListN.{length, getD, replicate}
+use lib.ListN.{length, getD}
 use lib.Dec.{ltb, eqb}
-use lib.Seq.{sets}
 use Rattle.model.specs.declared.Sizes.{Sizes}
 use Rattle.model.specs.Below.{listBelow}
-use Rattle.model.specs.Sizes.{total, sizesInBounds}
+use Rattle.model.specs.Sizes.{sizesInBounds}
 use Rattle.model.specs.Anchor.{anchorWords, epochWord, epochOn, sizesOn, startWord, backupAt}
 use Rattle.model.specs.World.{Action, store, anchor, backups, each}
-use Rattle.model.specs.Memory.{epochAt}
 use Rattle.model.specs.State.{limit}
 
 -- rows 2 to 4 of restart begin: the number of the first that applies, 0 where none does
@@ -22,19 +20,8 @@ anchorRefusal words =
 unfoldable pub tailOut : ℕ → ℕ → ℕ → Bool
 tailOut ring start tail = ltb tail start || ltb (start + ring) tail || ltb limit tail
 
--- eight numbers, f's below n and 0 from there on: model's `perDisk` of n disks
-unfoldable pub eightBelow : ℕ → (ℕ → ℕ) → List ℕ
-eightBelow n f = listBelow (λ d. cond (ltb d n) (f d) 0) 8
-
 -- the stores of restart end: all pages, the starts, and then the number of checkpoint `epoch`
-unfoldable pub pagesAndRow : Sizes → ℕ → List ℕ → List ℕ → List Action
-pagesAndRow s epoch starts pages =
-    each (store backups) (backupAt s epoch) pages
-    ++ listBelow (λ d. store anchor (startWord epoch d) (getD starts d 0)) (s .disks)
-
 unfoldable pub checkpointStores : Sizes → ℕ → List ℕ → List ℕ → List Action
-checkpointStores s epoch starts pages = pagesAndRow s epoch starts pages ++ store anchor epochWord epoch ∷ []
-
--- work memory made fresh: no owners, every page with this copy epoch
-unfoldable pub freshWork : Sizes → ℕ → List ℕ → List ℕ
-freshWork s epoch work = sets (sets work 0 (replicate (total s) 0)) (epochAt s 0) (replicate 64 epoch)
+checkpointStores s epoch starts pages =
+    each (store backups) (backupAt s epoch) pages
+    ++ (listBelow (λ d. store anchor (startWord epoch d) (getD starts d 0)) (s .disks) ++ store anchor epochWord epoch ∷ [])

@@ -12,8 +12,8 @@ ghost use lib.ListN.{length, getD};
 ghost use Rattle.model.specs.Below.{firstBelow};
 ghost use Rattle.model.specs.Sizes.{tailWord, sizesInBounds};
 ghost use Rattle.model.specs.Anchor.{anchorWords, sizesOn, startOn};
-ghost use Rattle.model.specs.Checkpoint.{perDisk};
-ghost use Rattle.replay.specs.Parts.{anchorRefusal, tailOut, eightBelow};
+ghost use Rattle.model.specs.Checkpoint.{eightBelow, perDisk};
+ghost use Rattle.replay.specs.Parts.{anchorRefusal, tailOut};
 
 // 2 for a wrong length, 3 for an unformatted anchor, 4 for sizes out of bounds, else 0.
 pub fn anchor_refusal(anchor: &[u64]) -> u64

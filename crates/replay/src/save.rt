@@ -1,10 +1,8 @@
-// What restart end stores, and the memory that it makes fresh.
-use crate::take::backup_at;
+// What restart end stores.
+use checkpoint::switch::switch_to;
 use device::store_copy;
-use device::store_word;
-use layout::places::total;
+use layout::backup::backup_at;
 use model::Sizes;
-use words::fill_words;
 ghost use mathlib.Core.Path.{_≡_};
 ghost use mathlib.Core.List.{List};
 ghost use mathlib.Core.Bool.{true};
@@ -13,32 +11,10 @@ ghost use lib.ListN.{length};
 ghost use Rattle.model.specs.Sizes.{total, sizesInBounds};
 ghost use Rattle.model.specs.Anchor.{anchorWords};
 ghost use Rattle.model.specs.World.{worldOf};
-ghost use Rattle.model.specs.Memory.{workWords};
 ghost use Rattle.device.specs.Ran.{Ran};
-ghost use Rattle.replay.specs.Parts.{pagesAndRow, checkpointStores, freshWork};
+ghost use Rattle.replay.specs.Parts.{checkpointStores};
 
-// Stores all pages in the backup of checkpoint `epoch`, then the starts in its row; true if all are stored.
-fn store_pages_and_row(
-    sizes: Sizes,
-    epoch: u64,
-    starts: [u64; 8],
-    anchor: &mut [u64],
-    pages: &[u64],
-    backups: &mut [u64],
-    budget: &mut u64,
-) -> bool
-    requires { ⌜ (sizesInBounds sizes ≡ true) × (length (now anchor) ≡ anchorWords) × (length (now pages) ≡ total sizes) × (length (now backups) ≡ 2 * total sizes) ⌝ }
-    ensures { λ r. ⌜ ((logs work : List ℕ) → Ran (now (budget .entry)) (now (budget .exit)) (pagesAndRow sizes epoch starts (now (pages .entry))) (worldOf (now (anchor .entry)) (now (pages .entry)) (now (backups .entry)) logs work) (worldOf (now (anchor .exit)) (now (pages .entry)) (now (backups .exit)) logs work) r) ⌝ }
-{
-    let at = backup_at(sizes, epoch) as usize;
-    if !store_copy(backups, at, pages, 0, pages.len(), budget) {
-        return false;
-    }
-    let row = (132 + 8 * (epoch % 2)) as usize;
-    store_copy(anchor, row, &starts, 0, sizes.disks as usize, budget)
-}
-
-// The same, then the checkpoint number: the stores of restart end.
+// Stores all pages in the backup of checkpoint `epoch`, then makes it current: the stores of restart end. True if all are stored.
 pub fn store_checkpoint(
     sizes: Sizes,
     epoch: u64,
@@ -51,19 +27,9 @@ pub fn store_checkpoint(
     requires { ⌜ (sizesInBounds sizes ≡ true) × (length (now anchor) ≡ anchorWords) × (length (now pages) ≡ total sizes) × (length (now backups) ≡ 2 * total sizes) ⌝ }
     ensures { λ r. ⌜ ((logs work : List ℕ) → Ran (now (budget .entry)) (now (budget .exit)) (checkpointStores sizes epoch starts (now (pages .entry))) (worldOf (now (anchor .entry)) (now (pages .entry)) (now (backups .entry)) logs work) (worldOf (now (anchor .exit)) (now (pages .entry)) (now (backups .exit)) logs work) r) ⌝ }
 {
-    if !store_pages_and_row(sizes, epoch, starts, anchor, pages, backups, budget) {
+    let at = backup_at(sizes, epoch) as usize;
+    if !store_copy(backups, at, pages, 0, pages.len(), budget) {
         return false;
     }
-    store_word(anchor, 3, epoch, budget)
-}
-
-// Work memory made fresh: no owners, every page with this copy epoch.
-pub fn fresh_work(work: &mut [u64], sizes: Sizes, epoch: u64)
-    requires { ⌜ (sizesInBounds sizes ≡ true) × (length (now work) ≡ workWords sizes) ⌝ }
-    ensures { λ _. ⌜ now (work .exit) ≡ freshWork sizes epoch (now (work .entry)) ⌝ }
-{
-    let words = total(sizes) as usize;
-    let epochs = words + 64 * (sizes.disks as usize);
-    fill_words(work, 0, words, 0);
-    fill_words(work, epochs, 64, epoch);
+    switch_to(anchor, epoch, sizes.disks, starts, budget)
 }

@@ -1,7 +1,7 @@
 // What a restart step XORs into the pages: a record's difference, a page of the backup.
+use layout::backup::backup_at;
 use layout::places::page_base;
 use layout::places::page_words;
-use layout::places::total;
 use log::read::read_word;
 use model::Sizes;
 use words::xor_in;
@@ -59,18 +59,6 @@ pub fn replay_span(
     if replays {
         xor_span(pages, at, sizes, logs, disk, tail, from, n);
     }
-}
-
-// Where checkpoint `epoch` keeps the pages.
-pub fn backup_at(sizes: Sizes, epoch: u64) -> u64
-    requires { ⌜ sizes .pages ≤ 64 ⌝ }
-    ensures { λ r. ⌜ (r ≡ backupAt sizes epoch) × (r + total sizes ≤ 2 * total sizes) ⌝ }
-{
-    let words = total(sizes);
-    if epoch % 2 == 0 {
-        return 0;
-    }
-    words
 }
 
 // XORs a page of the current backup into the pages.

@@ -8,8 +8,7 @@ use lib.Dec.{ltb, eqb}
 use lib.ListN.{length, getD, replicate}
 use lib.Seq.{sets}
 use borrow.Author.Tests.{lt-ltb, le-ltb, ltb-false, le-leb, lt-leb, eqb-true, eq-eqb, ne-eqb}
-use Rattle.model.specs.declared.Stage.{Stage}
-use Rattle.model.specs.declared.Stage.the-variants.{Shut, Replaying, Open, Copying}
+use Rattle.model.specs.declared.Stage.the-variants.{Shut}
 use Rattle.model.specs.declared.Sizes.{Sizes}
 use Rattle.model.specs.declared.Core.{Core}
 use Rattle.model.specs.declared.Fault.{Fault}
@@ -27,8 +26,9 @@ use Rattle.model.specs.Checkpoint.{perDisk}
 use Rattle.model.specs.Restart.{imageRows, restartBeginRows, restartBeginTask}
 use Rattle.model.specs.Call.{Gives, resultOf, restartBegin}
 use Rattle.model.proofs.Below.{first-cong, first-before}
-use Rattle.model.proofs.Booleans.{true-false, or-none}
-use Rattle.model.proofs.Meaning.{getD-per-disk}
+use Rattle.model.proofs.Booleans.{or-none}
+use Rattle.model.proofs.PerDisk.{getD-per-disk}
+use Rattle.model.proofs.Store.Checks.{shut-stage}
 use Rattle.model.proofs.Run.{perform-pages}
 use Rattle.model.proofs.Storeless.{storeless-finishes}
 use Rattle.model.proofs.Restart.Words.{withPages}
@@ -53,12 +53,6 @@ anchor-passed anchor = go (eqb (length anchor) anchorWords) (eqb (epochOn anchor
     go true false false p q z = absurd (omega (arith, z))
     go false b d p q z = absurd (omega (arith, z))
 
-is-shut : (g : Stage) → whenShut g ≡ true → g ≡ Shut
-is-shut Shut e = refl
-is-shut Replaying e = true-false refl (sym e)
-is-shut Open e = true-false refl (sym e)
-is-shut Copying e = true-false refl (sym e)
-
 module _ (c : Core) (w : World) where
   pub begin-stage : whenShut (c .stage) ≡ false → Gives restartBegin c w (refusedWith c 1 0 0) 0 w
   unfolding restartBeginRows verdict stageForbids
@@ -70,7 +64,7 @@ module _ (c : Core) (w : World) where
         ≡ cond (eqb n 0) (verdict (row 5 (lengthsWrong (sizesOn (w .anchor)) w) ∷ beginRest w)) (refused n 0 0)
     unfolding restartBeginRows imageRows beginRest verdict stageForbids anchorWrong unformatted sizesWrong anchorRefusal
     begin-verdict =
-        rw (refusal, shut, sound-at c Shut (is-shut (c .stage) shut))
+        rw (refusal, shut, sound-at c Shut (shut-stage (c .stage) shut))
         (go (eqb (length (w .anchor)) anchorWords) (eqb (epochOn (w .anchor)) 0) (sizesInBounds (sizesOn (w .anchor))))
       where
         go : (a b d : Bool)

@@ -4,15 +4,12 @@ use mathlib.Core.Bool.{Bool, true, false, not}
 use mathlib.Core.List.{List, [], _∷_, _++_, append-assoc}
 use Prim.Native.Nat.{ℕ, _+_}
 use lib.Dec.{eqb}
-use lib.ListN.{length, replicate}
-use lib.Seq.{sets}
-use Rattle.model.specs.declared.Sizes.{Sizes}
+use lib.ListN.{length}
 use Rattle.model.specs.declared.Core.{Core}
 use Rattle.model.specs.declared.Reply.{Reply}
 use Rattle.model.specs.Below.{allBelow}
-use Rattle.model.specs.Sizes.{total}
-use Rattle.model.specs.World.{World, write, pages, work, each}
-use Rattle.model.specs.Memory.{epochAt}
+use Rattle.model.specs.World.{World, pages, work}
+use Rattle.model.specs.Memory.{freshWork}
 use Rattle.model.specs.State.{openCore, tailOf}
 use Rattle.model.specs.Refusal.{Row, row, verdict}
 use Rattle.model.specs.Causes.{whenReplaying}
@@ -21,29 +18,20 @@ use Rattle.model.specs.Restart.{remaining, restartEndRows, restartEndTask}
 use Rattle.model.specs.Call.{Gives, restartEnd}
 use Rattle.model.proofs.Booleans.{true-false}
 use Rattle.device.specs.Ran.{Ran, withWork}
-use Rattle.device.proofs.Memory.{work-written}
+use Rattle.device.proofs.Memory.{fresh-written}
 use Rattle.device.proofs.Ran.{ran-then, ran-cut}
 use Rattle.frame.specs.Checks.{firstRefusal}
 use Rattle.frame.specs.Settle.{refusedWith, settled, Concludes}
 use Rattle.frame.proofs.Verdicts.{first-refused, first-accepted, refusal-given, task-given, task-settled}
-use Rattle.replay.specs.Parts.{pagesAndRow, checkpointStores, freshWork}
-
--- memory made fresh takes nothing of a budget
-memory-ran : (s : Sizes) (epoch budget : ℕ) (w : World)
-    → Ran budget budget (freshMemory s epoch) w (withWork w (freshWork s epoch (w .work))) true
-unfolding freshMemory freshWork
-memory-ran s epoch budget w =
-    let owners : World = withWork w (sets (w .work) 0 (replicate (total s) 0)) in
-    ran-then (work-written budget 0 (replicate (total s) 0) w) (each (write work) (epochAt s 0) (replicate 64 epoch)) refl
-    (work-written budget (epochAt s 0) (replicate 64 epoch) owners)
+use Rattle.replay.specs.Parts.{checkpointStores}
 
 module _ (c : Core) (w : World) {budget rest : ℕ} {v : World} {whole : Bool}
     (ran : Ran budget rest (checkpointStores (c .sizes) (c .epoch + 1) (c .logs .tails) (w .pages)) w v whole) where
   -- the stores, and then the memory
   listed : restartEndTask c w .actions
       ≡ checkpointStores (c .sizes) (c .epoch + 1) (c .logs .tails) (w .pages) ++ freshMemory (c .sizes) (c .epoch + 1)
-  unfolding restartEndTask checkpointStores pagesAndRow tailOf
-  listed = rw (append-assoc, append-assoc)
+  unfolding restartEndTask checkpointStores tailOf
+  listed = simp append-assoc
 
   pub end-cut : whole ≡ false → (k : Core) {r : Reply} → r ≡ settled false budget rest (c .epoch + 1) k
       → Concludes budget rest (restartEndTask c w) w v r
@@ -58,7 +46,7 @@ module _ (c : Core) (w : World) {budget rest : ℕ} {v : World} {whole : Bool}
   unfolding restartEndTask
   end-whole done fresh opened e =
       task-settled {whole = true} (restartEndTask c w)
-      (rw (listed, fresh) (ran-then ran (freshMemory (c .sizes) (c .epoch + 1)) done (memory-ran (c .sizes) (c .epoch + 1) rest v))) e (λ z. opened)
+      (rw (listed, fresh) (ran-then ran (freshMemory (c .sizes) (c .epoch + 1)) done (fresh-written rest (c .sizes) (c .epoch + 1) v))) e (λ z. opened)
 
 -- row 15
 abbrev lastRow : Core → List Row

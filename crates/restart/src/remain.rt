@@ -1,21 +1,12 @@
 // What remains of a restart's sources: words of the logs, pages of the backup.
 use model::Core;
+use words::saturating_sub;
 ghost use mathlib.Core.Path.{_≡_};
 ghost use Prim.Native.Nat.{_+_, _-_, _≤_};
 ghost use lib.Dec.{eqb};
 ghost use lib.ListN.{getD};
 ghost use Rattle.model.specs.Below.{allBelow};
 ghost use Rattle.model.specs.Restart.{remaining};
-
-// How far it is to the end, 0 from there on.
-fn left(end: u64, at: u64) -> u64
-    ensures { λ r. ⌜ r ≡ end - at ⌝ }
-{
-    if end < at {
-        return 0;
-    }
-    end - at
-}
 
 // Of any state: a state that no call made may name more than eight disks.
 pub fn remaining(core: Core, source: u64) -> u64
@@ -29,10 +20,10 @@ pub fn remaining(core: Core, source: u64) -> u64
             return 0;
         }
         let d = source as usize;
-        return left(logs.tails[d], replay.positions[d]);
+        return saturating_sub(logs.tails[d], replay.positions[d]);
     }
     if source == disks {
-        return left(core.sizes.pages, replay.page);
+        return saturating_sub(core.sizes.pages, replay.page);
     }
     0
 }

@@ -1,10 +1,17 @@
-// Leaf functions on slices of words: exclusive or, copy, fill, and the difference of a slot. One loop each.
+// Leaf functions on words: a difference that stops at 0; and on slices, exclusive or, copy, fill, and the difference of a slot, one loop each.
 ghost use mathlib.Core.Path.{_≡_};
-ghost use Prim.Native.Nat.{_+_, _≤_};
+ghost use Prim.Native.Nat.{_+_, _-_, _≤_};
 ghost use lib.ListN.{length, replicate};
 ghost use lib.Seq.{sets};
 ghost use Rattle.model.specs.Word.{xors, part};
 ghost use Rattle.model.specs.Image.{xorAt};
+
+// a less b, and 0 where b is more.
+pub fn saturating_sub(a: u64, b: u64) -> u64
+    ensures { λ r. ⌜ r ≡ a - b ⌝ }
+{
+    if a < b { 0 } else { a - b }
+}
 
 // XORs the n words of source that start at `from` into target at `at`.
 // XOR is its own inverse, so this both redoes a difference and takes it back (a compensation).

@@ -40,7 +40,7 @@ use Rattle.model.proofs.Restart.Taken.{Taken, taken-call}
 use Rattle.model.proofs.Booleans.{or-none}
 use Rattle.model.proofs.Parts.{getD-sets-in}
 use Rattle.model.proofs.Verdict.{row-passed}
-use Rattle.model.proofs.Meaning.{getD-per-disk, length-per-disk}
+use Rattle.model.proofs.PerDisk.{getD-per-disk, length-per-disk}
 
 -- the rest of a disk's log: from the next position up to the tail
 unfoldable pub logLeft : Core → World → ℕ → Scan

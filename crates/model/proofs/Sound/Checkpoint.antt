@@ -14,7 +14,8 @@ use Rattle.model.specs.Refusal.{accepted, verdict}
 use Rattle.model.specs.Causes.{whenOpen, whenCopying, spent}
 use Rattle.model.specs.Checkpoint.{perDisk, checkpointBeginRows, checkpointBeginTask, toCopy, lowestToCopy, checkpointStepRows, checkpointStepTask, newStart, checkpointEndRows, checkpointEndTask}
 use Rattle.model.proofs.Below.{first-passes}
-use Rattle.model.proofs.Meaning.{Holds, new-start, getD-per-disk, length-per-disk}
+use Rattle.model.proofs.Meaning.{Holds, new-start}
+use Rattle.model.proofs.PerDisk.{getD-per-disk, length-per-disk}
 use Rattle.model.proofs.Store.Rows.{stage-row, open-serving, copying-serving, serving-sound, sizes-sound, disk-sound, place-sound, checkpoint-sound}
 use Rattle.model.proofs.Sound.Test.{Sized, Passing, serving-test, copying-test}
 use Rattle.model.proofs.Growth.{tail-end}

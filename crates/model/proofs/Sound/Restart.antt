@@ -29,7 +29,7 @@ use Rattle.model.proofs.Store.Rows.{stage-row}
 use Rattle.model.proofs.Sound.Test.{Sized, Passing, serving-test, ReplaySound, replay-sound, replaying-test}
 use Rattle.model.proofs.Booleans.{or-none}
 use Rattle.model.proofs.Verdict.{row-passed}
-use Rattle.model.proofs.Meaning.{getD-per-disk, length-per-disk}
+use Rattle.model.proofs.PerDisk.{getD-per-disk, length-per-disk}
 use Rattle.model.proofs.Growth.{none-buffered}
 
 -- An open state with no transaction and empty logs.

@@ -11,7 +11,7 @@ use Rattle.model.specs.declared.Core.{Core}
 use Rattle.model.specs.declared.Fault.{Fault}
 use Rattle.model.specs.declared.Fault.the-variants.{Sound}
 use Rattle.model.specs.Record.{encode}
-use Rattle.model.specs.Scan.{Scan, faultIn, Update, updatesIn, updateWords}
+use Rattle.model.specs.Scan.{Scan, faultIn, updatesIn, updateWords}
 use Rattle.model.specs.World.{World}
 use Rattle.model.specs.State.{placeOf, isOpen, reservedAt, hasUpdate}
 use Rattle.model.specs.Transaction.{diskOf}
@@ -19,6 +19,7 @@ use Rattle.model.specs.Abort.{abortScan, updatesLeft, abortFault}
 use Rattle.model.specs.Reference.{Reference}
 use Rattle.model.specs.History.{Put}
 use Rattle.model.proofs.Places.{open-place}
+use Rattle.model.proofs.Updates.{update-words-append}
 use Rattle.model.proofs.Ledger.Entry.{Entry, recordOf, isClose, All}
 use Rattle.model.proofs.Ledger.Order.{sizeOf, on, entriesScan}
 use Rattle.model.proofs.Ledger.Sums.{all-map}
@@ -27,11 +28,6 @@ use Rattle.model.proofs.Store.View.{wordsFor, Serving, Served}
 use Rattle.model.proofs.Store.Left.{from, all-there, all-from, early, away, scanned}
 use Rattle.model.proofs.Booleans.{true-false}
 use Rattle.model.proofs.Store.WordsFor.{words-for-picked}
-
-update-words-append : (us vs : List Update) → updateWords (us ++ vs) ≡ updateWords us + updateWords vs
-unfolding updateWords
-update-words-append [] vs = sym (zero-add (updateWords vs))
-update-words-append (u ∷ us) vs = omega (arith, update-words-append us vs)
 
 -- the updates of a transaction have the words of its entries, if all of these are updates
 pub update-words : (t : ℕ) (l : List Entry) → All (λ q. q .number ≡ t → q .kind ≡ 0) l → updateWords (updatesIn t (entriesScan l)) ≡ wordsFor t l
@@ -61,7 +57,7 @@ unfolding abortFault
 none-bad c w t clean fits = clean _ ∙ rw (le-ltb _ _ fits)
 
 -- a transaction that is not open, or has no update: nothing is read
-nothing-bad : (c : Core) (w : World) (t : ℕ) → isOpen (c .table) t && hasUpdate (c .table) (placeOf (c .table) t) ≡ false → abortFault c w t ≡ Sound
+pub nothing-bad : (c : Core) (w : World) (t : ℕ) → isOpen (c .table) t && hasUpdate (c .table) (placeOf (c .table) t) ≡ false → abortFault c w t ≡ Sound
 unfolding abortScan updatesLeft updatesIn updateWords faultIn
 nothing-bad c w t none = none-bad c w t (λ rest. rw none) (rw none (omega arith))
 

@@ -6,17 +6,17 @@ use Prim.Native.Nat.{ℕ, _+_, _-_, _≤_, _<_}
 use native.Mathlib.Omega.{arith}
 use lib.Dec.{ltb}
 use borrow.Author.Tests.{leb-false, ltb-true, ltb-false}
-use Rattle.model.specs.declared.Sizes.{Sizes}
 use Rattle.model.specs.declared.Core.{Core}
 use Rattle.model.specs.Anchor.{epochOn, epochWord}
 use Rattle.model.specs.World.{World, Action, store, anchor, perform, stores, run, finishes}
 use Rattle.model.specs.State.{endOf, withLog}
 use Rattle.model.specs.Refusal.{accepted, verdict}
 use Rattle.model.specs.Causes.{whenCopying}
-use Rattle.model.specs.Checkpoint.{perDisk, toCopy, lowestToCopy, newStart, checkpointEndRows, checkpointEndTask}
+use Rattle.model.specs.Checkpoint.{toCopy, lowestToCopy, newStart, checkpointEndRows, checkpointEndTask}
 use Rattle.model.specs.Reference.{Reference}
 use Rattle.model.specs.History.{Put}
-use Rattle.model.proofs.Below.{first-before, list-cong}
+use Rattle.model.proofs.Below.{first-before}
+use Rattle.model.proofs.PerDisk.{per-disk-cong}
 use Rattle.model.proofs.Run.{perform-append, stores-append, run-append, run-cut, perform-lengths}
 use Rattle.model.proofs.Ledger.Entry.{pick}
 use Rattle.model.proofs.Ledger.Ordered.{keptFrom}
@@ -26,13 +26,7 @@ use Rattle.model.proofs.Store.Crash.{kept}
 use Rattle.model.proofs.Store.FlushAll.{flushes, Emptied, none-buffered, flush-below}
 use Rattle.model.proofs.Store.Starts.{Moved, startStores, endStores, end-moved, end-cut}
 use Rattle.model.proofs.Store.Switch.{switchedCore, switch-serving}
-use Rattle.model.proofs.Booleans.{cond-cong}
 use Rattle.model.proofs.Verdict.{row-passed}
-
--- Numbers for each disk that agree on the disks agree.
-per-disk-cong : (s : Sizes) (f h : ℕ → ℕ) → ((d : ℕ) → d < s .disks → f d ≡ h d) → perDisk s f ≡ perDisk s h
-unfolding perDisk
-per-disk-cong s f h same = list-cong _ _ 8 (λ d l. cond-cong (ltb d (s .disks)) (λ e. same d (ltb-true _ _ e)) (λ e. refl))
 
 -- What an accepted end finds: stage copying, every page copied.
 record Accepted (c : Core) : Type 0 where

@@ -37,7 +37,7 @@ use Rattle.model.proofs.Store.Steady.{kept-aside}
 use Rattle.model.proofs.Booleans.{true-false}
 use Rattle.model.proofs.Parts.{spanning-true, spanning-in}
 use Rattle.model.proofs.Verdict.{row-passed}
-use Rattle.model.proofs.Meaning.{getD-per-disk}
+use Rattle.model.proofs.PerDisk.{getD-per-disk}
 
 -- ---- checkpoint begin
 

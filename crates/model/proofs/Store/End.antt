@@ -16,7 +16,7 @@ use Rattle.model.specs.Below.{allBelow, listBelow}
 use Rattle.model.specs.Sizes.{total, sizesInBounds}
 use Rattle.model.specs.Anchor.{anchorWords, epochWord, epochOn, sizesOn, startWord, startOn, backupAt}
 use Rattle.model.specs.World.{World, Action, store, write, anchor, backups, work, cost, act, perform, stores, run, finishes, each}
-use Rattle.model.specs.Memory.{epochAt}
+use Rattle.model.specs.Memory.{epochAt, freshWork}
 use Rattle.model.specs.State.{limit, tailOf, replaySound, soundIn, sound}
 use Rattle.model.specs.Refusal.{accepted, verdict}
 use Rattle.model.specs.Causes.{whenReplaying, anchorWrong, lengthsWrong, tailOn}
@@ -37,7 +37,7 @@ use Rattle.model.proofs.Restart.Aside.{Aside, aside-append, aside-backu
 use Rattle.model.proofs.Store.Rows.{stage-row}
 use Rattle.model.proofs.Store.View.{Kept, Served}
 use Rattle.model.proofs.Store.Steady.{kept-aside}
-use Rattle.model.proofs.Store.Puts.{setEach, length-set-each, set-each-other, set-each-in, perform-each-start, run-before, lengths-made, freshWork, fresh-epoch, fresh-owner}
+use Rattle.model.proofs.Store.Puts.{setEach, length-set-each, set-each-other, set-each-in, perform-each-start, run-before, lengths-made, fresh-epoch, fresh-owner}
 use Rattle.model.proofs.Store.Anchor.{sizes-same}
 use Rattle.model.proofs.Store.Fresh.{Freshly, fresh-serving}
 use Rattle.model.proofs.Booleans.{true-false, all-four}

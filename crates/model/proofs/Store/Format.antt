@@ -14,7 +14,7 @@ use Rattle.model.specs.Word.{part}
 use Rattle.model.specs.Sizes.{total, tailWord, sizesInBounds}
 use Rattle.model.specs.Anchor.{epochWord, slotsAt, widthsAt, rowsAt, epochOn, sizesOn, startWord, startOn, backupAt}
 use Rattle.model.specs.World.{World, store, write, anchor, backups, logs, pages, work, act, perform, each}
-use Rattle.model.specs.Memory.{epochAt, lengthsRight}
+use Rattle.model.specs.Memory.{epochAt, lengthsRight, freshWork}
 use Rattle.model.specs.Refusal.{accepted, verdict}
 use Rattle.model.specs.Causes.{anchorWrong, sizesWrong, lengthsWrong, tailOn}
 use Rattle.model.specs.Format.{formatRows, formatStores, freshMemory, formatTask}
@@ -27,7 +27,7 @@ use Rattle.model.proofs.Slots.{blank-shaped, blank-words}
 use Rattle.model.proofs.Restart.Image.{backup-within}
 use Rattle.model.proofs.Link.Words.{lengths-perform}
 use Rattle.model.proofs.Store.View.{Served}
-use Rattle.model.proofs.Store.Puts.{setEach, set-each-in, perform-each-log, lengths-made, freshWork, same-word, fresh-epoch, fresh-owner}
+use Rattle.model.proofs.Store.Puts.{setEach, set-each-in, perform-each-log, lengths-made, same-word, fresh-epoch, fresh-owner}
 use Rattle.model.proofs.Store.Anchor.{laidAnchor, Laid, laid-anchor}
 use Rattle.model.proofs.Store.Fresh.{Freshly, fresh-serving}
 use Rattle.model.proofs.Parts.{length-part, getD-part}

@@ -13,7 +13,7 @@ use Rattle.model.specs.declared.Sizes.{Sizes}
 use Rattle.model.specs.Below.{joinBelow, listBelow}
 use Rattle.model.specs.Sizes.{total}
 use Rattle.model.specs.World.{World, Device, Action, store, anchor, logs, cost, act, perform, stores, covered, run}
-use Rattle.model.specs.Memory.{bufferAt, epochAt, workWords, epochOf, lengthsRight}
+use Rattle.model.specs.Memory.{bufferAt, epochAt, workWords, epochOf, freshWork, lengthsRight}
 use Rattle.model.proofs.Below.{below-suc}
 use Rattle.model.proofs.Run.{perform-append, covered-append, covered-cut, covered-all}
 use Rattle.model.proofs.Lengths.{Lengths}
@@ -71,10 +71,6 @@ module _ (at word : ℕ → ℕ) where
 pub lengths-made : (s : Sizes) (w : World) → Lengths s w → lengthsRight s w ≡ true
 unfolding lengthsRight
 lengths-made s w h = rw (eq-eqb _ _ (h .pages), eq-eqb _ _ (h .backups), eq-eqb _ _ (h .logs), eq-eqb _ _ (h .work))
-
--- the work memory made fresh
-unfoldable pub freshWork : Sizes → ℕ → List ℕ → List ℕ
-freshWork s epoch l = sets (sets l 0 (replicate (total s) 0)) (epochAt s 0) (replicate 64 epoch)
 
 -- a run from the first word on
 pub first-word : (l xs : List ℕ) (k : ℕ) → length xs ≤ length l → k < length xs → getD (sets l 0 xs) k 0 ≡ getD xs k 0

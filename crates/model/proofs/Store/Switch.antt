@@ -39,7 +39,7 @@ use Rattle.model.proofs.Store.Flush.{lengths-same}
 use Rattle.model.proofs.Store.NewStarts.{firstOf, boundary-later, since-later, first-boundary, new-boundary, start-early, first-stays, reserved-stays, placed, page-copied, may}
 use Rattle.model.proofs.Store.Starts.{Moved, backup-back}
 use Rattle.model.proofs.Booleans.{true-false}
-use Rattle.model.proofs.Meaning.{getD-per-disk, length-per-disk}
+use Rattle.model.proofs.PerDisk.{getD-per-disk, length-per-disk}
 
 -- the state that a checkpoint's end leaves
 abbrev pub switchedCore : Core → Core

@@ -1,7 +1,6 @@
 -- `abort::window::window_of` meets its contract: two entries of the logs, and a place in the work memory. Assumes nothing.
 use mathlib.Core.Path.{refl}
 use native.Mathlib.Omega.{arith}
-use Rattle.model.specs.Memory.{bufferAt}
 use Rattle.model.specs.State.{tailOf, fillOf, endOf}
 use Rattle.abort.specs.Undo.{windowOf}
 use borrow.Author.Needs.{needs}
@@ -20,30 +19,20 @@ mul-fill c = search needs
 element-copy-out-fill : tie.Need-element-copy-out-fill
 element-copy-out-fill c = search needs
 
-total-requires : tie.Need-total-requires
-total-requires c κs = search needs
-
-mul-start : tie.Need-mul-start
-mul-start c = search needs
-
-add-start : tie.Need-add-start
-add-start c = search needs
+buffer-at-requires : tie.Need-buffer-at-requires
+buffer-at-requires c κs = search needs
 
 add-t12 : tie.Need-add-t12
 unfolding endOf tailOf fillOf
-add-t12 c =
-    let pre = c .before .before .before .pre in
-    omega (arith, pre .2)
+add-t12 c = omega (arith, c .before .before .before .pre .2)
 
 add-t15 : tie.Need-add-t15
 unfolding endOf tailOf fillOf
-add-t15 c =
-    let pre = c .before .before .before .pre in
-    omega (arith, pre .2)
+add-t15 c = omega (arith, c .before .before .before .pre .2)
 
 returns : tie.Need-returns
-unfolding windowOf endOf tailOf fillOf bufferAt
-returns c = rw (c .total .ensures .0) refl
+unfolding windowOf endOf tailOf fillOf
+returns c = rw (c .buffer-at .ensures .0) refl
 
 pub window-of-spec : {M : Type 1} → statement M
 window-of-spec =
@@ -53,9 +42,7 @@ window-of-spec =
     element-copy-out-tail
     mul-fill
     element-copy-out-fill
-    total-requires
-    mul-start
-    add-start
+    buffer-at-requires
     add-t12
     add-t15
     returns)

@@ -1,9 +1,10 @@
 -- `checkpoint::copy::copy_page` meets its contract: the copy number is set once the page is stored. Assumes nothing.
 use native.Mathlib.Omega.{arith}
+use borrow.Author.Needs.{needs}
 use borrow.Author.Tests.{not-true, not-false}
 use Rattle.model.proofs.Bounds.{bounded}
-use Rattle.checkpoint.proofs.Copies.{page-places, copy-cut, copy-whole}
-use borrow.Author.Needs.{needs}
+use Rattle.layout.proofs.Pages.{page-fits, copy-fits, epoch-fits}
+use Rattle.checkpoint.proofs.Copies.{copy-cut, copy-whole}
 use Rattle.checkpoint.proofs.copy.copy_page.Statement.{statement}
 use Rattle.checkpoint.proofs.copy.copy_page.Tie as tie
 
@@ -13,57 +14,44 @@ page-base-requires c κs = let pre = c .before .before .before .pre in omega (ar
 page-words-requires : tie.Need-page-words-requires
 page-words-requires c κs = let pre = c .before .before .before .before .pre in omega (arith, pre .page-below, bounded _ (pre .sizes) .pages-max)
 
-total-requires : tie.Need-total-requires
-total-requires c κs = let pre = c .before .before .before .before .before .pre in omega (arith, pre .page-below, bounded _ (pre .sizes) .pages-max)
+backup-at-requires : tie.Need-backup-at-requires
+backup-at-requires c κs = bounded _ (c .before .before .before .before .before .pre .sizes) .pages-max
 
-mul-at : tie.Need-mul-at
-mul-at c = let start = c .before .before .before .before .before .before in
-    let places = page-places (start .args .sizes) (start .args .number) (start .args .page) (start .pre) (c .before .before .page-base .ensures .0) (c .before .page-words .ensures .0) (c .total .ensures .0) in
-    omega (arith, places .row-small)
-
-add-at : tie.Need-add-at
-add-at c = let start = c .before .before .before .before .before .before in
-    let places = page-places (start .args .sizes) (start .args .number) (start .args .page) (start .pre) (c .before .before .page-base .ensures .0) (c .before .page-words .ensures .0) (c .total .ensures .0) in
-    omega (arith, places .row-small, places .base-small)
+add-store-copy : tie.Need-add-store-copy
+add-store-copy c = search needs
 
 store-copy-requires : tie.Need-store-copy-requires
-store-copy-requires c κs = let start = c .before .before .before .before .before .before .before .before in
-    let places = page-places (start .args .sizes) (start .args .number) (start .args .page) (start .pre) (c .before .before .before .before .page-base .ensures .0) (c .before .before .before .page-words .ensures .0) (c .before .before .total .ensures .0) in
-    (places .backup-fits, places .page-fits)
+store-copy-requires c κs =
+    let at-backup-at = c .before .before in
+    let base = at-backup-at .before .before .page-base .ensures .0 in
+    let words = at-backup-at .before .page-words .ensures .0 in
+    let pre = at-backup-at .before .before .before .before .before .before .pre in
+    (copy-fits _ _ (pre .page-below) base words _ (at-backup-at .backup-at .ensures .1) (pre .backup-words), page-fits _ _ (pre .page-below) base words (pre .page-words))
 
 same-length : tie.Need-same-length
 same-length c = search needs
 
 returns : tie.Need-returns
-returns c = let start = c .before .before .before .before .before .before .before .before .before .before .before .before in
+returns c =
+    let at-store-copy = c .before .before .before in
+    let at-backup-at = at-store-copy .before .before .before in
     λ anchor logs.
-    copy-cut (start .args .sizes) (start .args .number) (start .args .page) (start .pre) (c .before .before .before .before .before .before .before .before .page-base .ensures .0) (c .before .before .before .before .before .before .before .page-words .ensures .0) (c .before .before .before .before .before .before .total .ensures .0)
-    (c .before .before .before .store-copy .ensures) anchor logs (not-true _ (c .if1 .taken))
+    copy-cut _ _ _ (at-backup-at .before .before .page-base .ensures .0) (at-backup-at .before .page-words .ensures .0) (at-backup-at .backup-at .ensures .0)
+    (at-store-copy .store-copy .ensures) anchor logs (not-true _ (c .if1 .taken))
+
+epoch-at-requires : tie.Need-epoch-at-requires
+epoch-at-requires c κs =
+    let pre = c .before .before .before .before .before .before .before .before .before .before .before .before .pre in
+    let b = bounded _ (pre .sizes) in
+    (b .pages-max, b .disks-max, omega (arith, pre .page-below, b .pages-max))
 
 mul-work : tie.Need-mul-work
-mul-work c = let start = c .before .before .before .before .before .before .before .before .before .before .before .before .before in
-    let places = page-places (start .args .sizes) (start .args .number) (start .args .page) (start .pre) (c .before .before .before .before .before .before .before .before .before .page-base .ensures .0) (c .before .before .before .before .before .before .before .before .page-words .ensures .0) (c .before .before .before .before .before .before .before .total .ensures .0) in
-    omega (arith, places .disks-small)
-
-add-work : tie.Need-add-work
-add-work c = let start = c .before .before .before .before .before .before .before .before .before .before .before .before .before in
-    let places = page-places (start .args .sizes) (start .args .number) (start .args .page) (start .pre) (c .before .before .before .before .before .before .before .before .before .page-base .ensures .0) (c .before .before .before .before .before .before .before .before .page-words .ensures .0) (c .before .before .before .before .before .before .before .total .ensures .0) in
-    omega (arith, places .disks-small, places .all-small)
-
-add-work-2 : tie.Need-add-work-2
-add-work-2 c = let start = c .before .before .before .before .before .before .before .before .before .before .before .before .before in
-    let places = page-places (start .args .sizes) (start .args .number) (start .args .page) (start .pre) (c .before .before .before .before .before .before .before .before .before .page-base .ensures .0) (c .before .before .before .before .before .before .before .before .page-words .ensures .0) (c .before .before .before .before .before .before .before .total .ensures .0) in
-    omega (arith, places .disks-small, places .all-small, places .page-small)
-
-mul-work-2 : tie.Need-mul-work-2
-mul-work-2 c = let start = c .before .before .before .before .before .before .before .before .before .before .before .before .before in
-    let places = page-places (start .args .sizes) (start .args .number) (start .args .page) (start .pre) (c .before .before .before .before .before .before .before .before .before .page-base .ensures .0) (c .before .before .before .before .before .before .before .before .page-words .ensures .0) (c .before .before .before .before .before .before .before .total .ensures .0) in
-    omega (arith, places .disks-small, places .all-small, places .page-small)
+mul-work c = search needs
 
 slice-write-work : tie.Need-slice-write-work
-slice-write-work c = let start = c .before .before .before .before .before .before .before .before .before .before .before .before .before in
-    let places = page-places (start .args .sizes) (start .args .number) (start .args .page) (start .pre) (c .before .before .before .before .before .before .before .before .before .page-base .ensures .0) (c .before .before .before .before .before .before .before .before .page-words .ensures .0) (c .before .before .before .before .before .before .before .total .ensures .0) in
-    omega (arith, places .epoch-fits)
+slice-write-work c =
+    let pre = c .before .before .before .before .before .before .before .before .before .before .before .before .before .pre in
+    epoch-fits _ _ (omega (arith, pre .page-below, bounded _ (pre .sizes) .pages-max)) (c .epoch-at .ensures .0) (pre .work-words)
 
 same-length-2 : tie.Need-same-length-2
 same-length-2 c = search needs
@@ -72,10 +60,13 @@ same-length-3 : tie.Need-same-length-3
 same-length-3 c = search needs
 
 returns-2 : tie.Need-returns-2
-returns-2 c = let start = c .before .before .before .before .before .before .before .before .before .before .before .before .before in
+returns-2 c =
+    let at-if1 = c .before in
+    let at-store-copy = at-if1 .before .before .before in
+    let at-backup-at = at-store-copy .before .before .before in
     λ anchor logs.
-    copy-whole (start .args .sizes) (start .args .number) (start .args .page) (start .pre) (c .before .before .before .before .before .before .before .before .before .page-base .ensures .0) (c .before .before .before .before .before .before .before .before .page-words .ensures .0) (c .before .before .before .before .before .before .before .total .ensures .0)
-    (c .before .before .before .before .store-copy .ensures) anchor logs (not-false _ (c .before .if1 .left))
+    copy-whole _ _ _ (at-backup-at .before .before .page-base .ensures .0) (at-backup-at .before .page-words .ensures .0) (at-backup-at .backup-at .ensures .0)
+    (at-store-copy .store-copy .ensures) anchor logs (not-false _ (at-if1 .if1 .left)) (c .epoch-at .ensures .0)
 
 pub copy-page-spec : {M : Type 1} → statement M
 copy-page-spec =
@@ -83,16 +74,13 @@ copy-page-spec =
     (tie.spec
     page-base-requires
     page-words-requires
-    total-requires
-    mul-at
-    add-at
+    backup-at-requires
+    add-store-copy
     store-copy-requires
     same-length
     returns
+    epoch-at-requires
     mul-work
-    add-work
-    add-work-2
-    mul-work-2
     slice-write-work
     same-length-2
     same-length-3

@@ -4,20 +4,20 @@ use Prim.Native.Nat.{_-_, _≤_}
 use mathlib.Core.Path.{_≡_, _∙_}
 use lib.ListN.{getD}
 use Rattle.model.specs.State.{places}
-use Rattle.model.specs.Checkpoint.{leastFirst, newStart}
-use Rattle.checkpoint.proofs.PerDisk.{filled, filled-none, filled-more, per-disk}
+use Rattle.model.specs.Checkpoint.{eightBelow, leastFirst, newStart}
+use Rattle.model.proofs.PerDisk.{eight-none, eight-more, eight-per-disk}
 use borrow.Author.Needs.{needs}
 use Rattle.checkpoint.proofs.starts.new_starts.Statement.{statement}
 use Rattle.checkpoint.proofs.starts.new_starts.Tie as tie
 
 abbrev Inv-loop : tie.InvT-loop
-Inv-loop disks table checkpoint starts₀ d₀ starts d = (d ≤ disks) × (disks ≤ 8) × (starts ≡ filled (λ i. leastFirst table i (getD (checkpoint .ends) i 0) places) d)
+Inv-loop disks table checkpoint starts₀ d₀ starts d = (d ≤ disks) × (disks ≤ 8) × (starts ≡ eightBelow d (λ i. leastFirst table i (getD (checkpoint .ends) i 0) places))
 
 abbrev μ-loop : tie.MeasureT-loop
 μ-loop disks table checkpoint starts₀ d₀ starts d = disks - d
 
 loop-holds : tie.Need-loop-holds Inv-loop μ-loop
-loop-holds c = (omega arith, c .before .before .pre, filled-none _)
+loop-holds c = (omega arith, c .before .before .pre, eight-none _)
 
 mul-least-first : tie.Need-mul-least-first Inv-loop μ-loop
 mul-least-first c = search needs
@@ -41,11 +41,11 @@ loop-less : tie.Need-loop-less Inv-loop μ-loop
 loop-less c = search needs
 
 loop-again : tie.Need-loop-again Inv-loop μ-loop
-loop-again c = (omega arith, omega arith, rw (c .before .before .before .loop .inv .2, c .least-first .ensures) (filled-more _ (c .before .before .before .loop .d) (omega arith)))
+loop-again c = (omega arith, omega arith, rw (c .before .before .before .loop .inv .2) (eight-more _ (c .before .before .before .loop .d) _ (omega arith) (c .least-first .ensures)))
 
 returns : tie.Need-returns Inv-loop μ-loop
 unfolding newStart
-returns c = c .before .loop .inv .2 ∙ per-disk _ _ _ (omega arith)
+returns c = c .before .loop .inv .2 ∙ eight-per-disk _ _ _ (omega arith)
 
 pub new-starts-spec : {M : Type 1} → statement M
 new-starts-spec =

@@ -1,6 +1,4 @@
--- `format::memory::make_fresh` meets its contract: three runs of words. Assumes nothing.
-use native.Mathlib.Omega.{arith}
-use Rattle.model.specs.Memory.{bufferAt, epochAt, workWords}
+-- `format::memory::make_fresh` meets its contract: the pages, then the work memory. Assumes nothing.
 use Rattle.model.proofs.Bounds.{bounded}
 use Rattle.format.proofs.Joined.{fresh-ran}
 use borrow.Author.Needs.{needs}
@@ -13,19 +11,8 @@ total-requires c κs = bounded _ (c .before .before .pre .sizes) .pages-max
 fill-words-requires : tie.Need-fill-words-requires
 fill-words-requires c κs = search needs
 
-fill-words-requires-2 : tie.Need-fill-words-requires-2
-unfolding workWords epochAt bufferAt
-fill-words-requires-2 c κs = omega (arith, c .before .before .before .before .before .total .ensures .0, c .before .before .before .before .before .before .before .before .pre .work-words)
-
-mul-fill-words : tie.Need-mul-fill-words
-mul-fill-words c = omega (arith, bounded _ (c .before .before .before .before .before .before .before .before .before .before .before .before .pre .sizes) .disks-max)
-
-add-fill-words : tie.Need-add-fill-words
-add-fill-words c = omega (arith, bounded _ (c .before .before .before .before .before .before .before .before .before .before .before .before .pre .sizes) .disks-max, c .before .before .before .before .before .before .before .before .before .total .ensures .1)
-
-fill-words-requires-3 : tie.Need-fill-words-requires-3
-unfolding workWords epochAt bufferAt
-fill-words-requires-3 c κs = omega (arith, c .before .before .before .before .before .before .before .before .before .total .ensures .0, c .before .before .before .before .before .before .before .before .before .before .before .before .pre .work-words)
+fresh-work-requires : tie.Need-fresh-work-requires
+fresh-work-requires c κs = search needs
 
 same-length : tie.Need-same-length
 same-length c = search needs
@@ -35,10 +22,13 @@ same-length-2 c = search needs
 
 returns : tie.Need-returns
 returns c =
-    let start = c .before .before .before .before .before .before .before .before .before .before .before .before .before .before .before in
+    let at-fresh-work = c .before .before in
+    let at-fill-words = at-fresh-work .before .before .before .before in
+    let at-total = at-fill-words .before .before in
+    let start = at-total .before .before .before in
     λ budget anchor backups logs.
-    rw (c .before .before .before .before .before .before .before .before .before .before .fill-words .ensures, c .before .before .fill-words3 .ensures, c .before .before .before .before .before .before .fill-words2 .ensures)
-    (fresh-ran (start .args .sizes) budget _ anchor backups logs (start .args .pages .now) (start .args .work .now) (c .before .before .before .before .before .before .before .before .before .before .before .before .total .ensures .0))
+    rw (at-fill-words .fill-words .ensures, at-fresh-work .fresh-work .ensures)
+    (fresh-ran (start .args .sizes) budget _ anchor backups logs (start .args .pages .now) (start .args .work .now) (at-total .total .ensures .0))
 
 pub make-fresh-spec : {M : Type 1} → statement M
 make-fresh-spec =
@@ -46,10 +36,7 @@ make-fresh-spec =
     (tie.spec
     total-requires
     fill-words-requires
-    fill-words-requires-2
-    mul-fill-words
-    add-fill-words
-    fill-words-requires-3
+    fresh-work-requires
     same-length
     same-length-2
     returns)

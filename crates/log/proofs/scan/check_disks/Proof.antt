@@ -8,11 +8,12 @@ use native.Mathlib.Nat.{sub-zero}
 use borrow.Author.Needs.{needs}
 use denote.Ref.{now}
 use Rattle.model.specs.declared.Fault.the-variants.{Sound}
-use Rattle.model.specs.Sizes.{diskAt, tailWord}
+use Rattle.model.specs.Sizes.{ringOf, diskAt, tailWord, logWords}
 use Rattle.model.specs.Decode.{readLog}
 use Rattle.model.specs.Scan.{scan, faultIn}
+use Rattle.model.proofs.Ring.{disk-within}
 use Rattle.log.specs.Reading.{faultsFrom}
-use Rattle.log.proofs.Scanning.{got-change, got-close, disk-within, fault-end, fault-change, fault-close, fault-bad, faults-step, faults-done}
+use Rattle.log.proofs.Scanning.{got-change, got-close, fault-end, fault-change, fault-close, fault-bad, faults-step, faults-done}
 use Rattle.log.proofs.scan.check_disks.Statement.{statement}
 use Rattle.log.proofs.scan.check_disks.Tie as tie
 
@@ -46,9 +47,10 @@ disks-holds : tie.Need-disks-holds Inv-loop μ-loop Inv-disks μ-disks
 disks-holds c = (omega arith, refl, simp sub-zero)
 
 tail-of-requires : tie.Need-tail-of-requires Inv-loop μ-loop Inv-disks μ-disks
+unfolding diskAt ringOf logWords
 tail-of-requires c κs =
     let s = c .before .before .before .before .args .sizes in
-    omega (arith, disk-within (c .before .disks .d) (s .disks) (s .ring) (c .disks-test .taken))
+    omega (arith, disk-within s (c .before .disks .d) (c .disks-test .taken))
 
 mul-p : tie.Need-mul-p Inv-loop μ-loop Inv-disks μ-disks
 mul-p c = omega arith
@@ -64,7 +66,7 @@ loop-holds c =
     (inv .1, rw (c .tail-of .ensures (a .sizes) refl) (sym step ∙ inv .2))
 
 decode-at-requires : tie.Need-decode-at-requires Inv-loop μ-loop Inv-disks μ-disks
-unfolding tailWord diskAt
+unfolding tailWord diskAt ringOf logWords
 decode-at-requires c κs =
     let s = c .before .before .before .before .before .before .before .args .sizes in
     let d = c .before .before .before .before .disks .d in
@@ -72,7 +74,7 @@ decode-at-requires c κs =
     let tail = c .before .before .tail-of .ensures s refl in (
       record {
         ring-pos = c .before .before .before .before .before .before .before .pre .ring-pos;
-        disk-fits = omega (arith, disk-within d (s .disks) (s .ring) h);
+        disk-fits = omega (arith, disk-within s d h);
         stop-le = omega arith;
         stop-low = omega (arith, c .before .before .before .before .before .before .before .pre .tails-low d h);
       },

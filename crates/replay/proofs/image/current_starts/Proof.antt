@@ -1,10 +1,11 @@
 -- `replay::image::current_starts` meets its contract: the row that the checkpoint number names. Assumes nothing.
-use mathlib.Core.Path.{_∙_}
+use mathlib.Core.Path.{sym, _∙_}
 use Prim.Native.Nat.{_≤_}
 use native.Mathlib.Omega.{arith}
 use borrow.Author.Needs.{needs}
 use Rattle.model.specs.Anchor.{epochOn}
-use Rattle.replay.proofs.Eights.{current-row, eight-per-disk}
+use Rattle.model.proofs.PerDisk.{per-disk-cong, eight-per-disk}
+use Rattle.replay.proofs.Rows.{current-row}
 use Rattle.replay.proofs.image.current_starts.Statement.{statement}
 use Rattle.replay.proofs.image.current_starts.Tie as tie
 
@@ -28,8 +29,8 @@ unfolding epochOn
 returns c =
     λ s e.
     let few : s .disks ≤ 8 = omega (arith, c .before .before .before .before .before .pre .0) in
-    rw (← e) at (c .keep-below .ensures)
-    ∙ eight-per-disk s _ _ few (λ d h. current-row _ (c .before .before .before .read-rows .ensures) d (omega arith))
+    c .keep-below .ensures ∙ eight-per-disk s _ _ (sym e)
+    ∙ per-disk-cong s _ _ (λ d h. current-row _ (c .before .before .before .read-rows .ensures) d (omega arith))
 
 pub current-starts-spec : {M : Type 1} → statement M
 current-starts-spec =

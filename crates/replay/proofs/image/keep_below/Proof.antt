@@ -4,8 +4,8 @@ use mathlib.Core.Path.{_≡_, refl}
 use lib.ListN.{getD}
 use native.Mathlib.Omega.{arith}
 use borrow.Author.Needs.{needs}
-use Rattle.replay.specs.Parts.{eightBelow}
-use Rattle.replay.proofs.Eights.{eight-none, eight-more}
+use Rattle.model.specs.Checkpoint.{eightBelow}
+use Rattle.model.proofs.PerDisk.{eight-none, eight-more}
 use Rattle.replay.proofs.image.keep_below.Statement.{statement}
 use Rattle.replay.proofs.image.keep_below.Tie as tie
 

@@ -4,10 +4,10 @@ use mathlib.Core.Path.{_≡_, refl, _∙_}
 use lib.ListN.{getD}
 use native.Mathlib.Omega.{arith}
 use borrow.Author.Needs.{needs}
-use Rattle.model.specs.Sizes.{diskAt, tailWord}
-use Rattle.log.proofs.Scanning.{disk-within}
-use Rattle.replay.specs.Parts.{eightBelow}
-use Rattle.replay.proofs.Eights.{eight-none, eight-more, eight-per-disk}
+use Rattle.model.specs.Sizes.{ringOf, diskAt, tailWord, logWords}
+use Rattle.model.specs.Checkpoint.{eightBelow}
+use Rattle.model.proofs.PerDisk.{eight-none, eight-more, eight-per-disk}
+use Rattle.model.proofs.Ring.{disk-within}
 use Rattle.replay.proofs.image.tails_on.Statement.{statement}
 use Rattle.replay.proofs.image.tails_on.Tie as tie
 
@@ -24,20 +24,23 @@ add-at : tie.Need-add-at Inv-loop μ-loop
 add-at c = search needs
 
 mul-at : tie.Need-mul-at Inv-loop μ-loop
+unfolding diskAt ringOf logWords
 mul-at c =
     let start = c .before .before in
-    omega (arith, disk-within (c .before .loop .d) (start .args .sizes .disks) (start .args .sizes .ring) (c .loop-test .taken))
+    omega (arith, disk-within (start .args .sizes) (c .before .loop .d) (c .loop-test .taken))
 
 mul-tails : tie.Need-mul-tails Inv-loop μ-loop
+unfolding diskAt ringOf logWords
 mul-tails c =
     let start = c .before .before in
-    omega (arith, disk-within (c .before .loop .d) (start .args .sizes .disks) (start .args .sizes .ring) (c .loop-test .taken))
+    omega (arith, disk-within (start .args .sizes) (c .before .loop .d) (c .loop-test .taken))
 
 shared-slice-read-tails : tie.Need-shared-slice-read-tails Inv-loop μ-loop
+unfolding diskAt ringOf logWords
 shared-slice-read-tails c =
     let at-loop = c .before .before in
     let start = at-loop .before in
-    omega (arith, disk-within (at-loop .loop .d) (start .args .sizes .disks) (start .args .sizes .ring) (c .before .loop-test .taken))
+    omega (arith, disk-within (start .args .sizes) (at-loop .loop .d) (c .before .loop-test .taken))
 
 mul-tails-2 : tie.Need-mul-tails-2 Inv-loop μ-loop
 mul-tails-2 c = search needs
@@ -56,9 +59,7 @@ loop-again c = (omega arith, rw (c .before .before .loop .inv .1) (eight-more _ 
 
 returns : tie.Need-returns Inv-loop μ-loop
 unfolding tailWord diskAt
-returns c =
-    let last : c .before .loop .d ≡ c .before .before .args .sizes .disks = omega arith in
-    rw last at (c .before .loop .inv .1) ∙ eight-per-disk (c .before .before .args .sizes) _ _ (omega arith) (λ d h. refl)
+returns c = c .before .loop .inv .1 ∙ eight-per-disk (c .before .before .args .sizes) _ _ (omega arith)
 
 pub tails-on-spec : {M : Type 1} → statement M
 tails-on-spec =

@@ -1,49 +1,59 @@
--- `replay::save::store_checkpoint` meets its contract: the number follows once pages and starts are stored. Assumes nothing.
-use borrow.Author.Tests.{not-true, not-false}
+-- `replay::save::store_checkpoint` meets its contract: the checkpoint is made current once all pages are stored. Assumes nothing.
+use native.Mathlib.Omega.{arith}
 use borrow.Author.Needs.{needs}
-use Rattle.replay.proofs.Saving.{number-cut, number-stored}
+use borrow.Author.Tests.{not-true, not-false}
+use Rattle.model.proofs.Bounds.{bounded}
+use Rattle.replay.proofs.Saving.{pages-cut, pages-switched}
 use Rattle.replay.proofs.save.store_checkpoint.Statement.{statement}
 use Rattle.replay.proofs.save.store_checkpoint.Tie as tie
 
-store-pages-and-row-requires : tie.Need-store-pages-and-row-requires
-store-pages-and-row-requires c κs = search needs
+backup-at-requires : tie.Need-backup-at-requires
+backup-at-requires c κs = bounded _ (c .before .before .before .pre .0) .pages-max
+
+store-copy-requires : tie.Need-store-copy-requires
+store-copy-requires c κs = search needs
 
 same-length : tie.Need-same-length
 same-length c = search needs
 
-same-length-2 : tie.Need-same-length-2
-same-length-2 c = search needs
-
 returns : tie.Need-returns
 returns c =
-    let at-store-pages-and-row = c .before .before .before .before .before in
-    λ logs work. number-cut _ _ _ _ (at-store-pages-and-row .store-pages-and-row .ensures logs work) (not-true _ (c .if1 .taken))
+    let at-store-copy = c .before .before .before in
+    let at-backup-at = at-store-copy .before .before .before in
+    λ logs work. pages-cut _ _ _ _ _ (at-backup-at .backup-at .ensures .0) (at-store-copy .store-copy .ensures) (not-true _ (c .if1 .taken))
 
-store-word-requires : tie.Need-store-word-requires
-store-word-requires c κs = search needs
+switch-to-requires : tie.Need-switch-to-requires
+switch-to-requires c κs =
+    let start = c .before .before .before .before .before .before .before .before .before .before .before .before in
+    (search (needs, start .pre), bounded _ (start .pre .0) .disks-max)
+
+same-length-2 : tie.Need-same-length-2
+same-length-2 c = search needs
 
 same-length-3 : tie.Need-same-length-3
 same-length-3 c = search needs
 
-same-length-4 : tie.Need-same-length-4
-same-length-4 c = search needs
-
 returns-2 : tie.Need-returns-2
 returns-2 c =
-    let at-store-word = c .before .before in
-    let at-if1 = at-store-word .before .before .before in
-    let at-store-pages-and-row = at-if1 .before .before .before .before .before in
-    λ logs work. number-stored _ _ _ _ (at-store-pages-and-row .store-pages-and-row .ensures logs work) (not-false _ (at-if1 .if1 .left)) (at-store-word .store-word .ensures)
+    let at-switch-to = c .before .before in
+    let at-if1 = at-switch-to .before .before .before in
+    let at-store-copy = at-if1 .before .before .before in
+    let at-backup-at = at-store-copy .before .before .before in
+    let start = at-backup-at .before .before .before .before in
+    let few = bounded _ (start .pre .0) .disks-max in
+    λ logs work.
+    pages-switched _ _ _ _ _ (at-backup-at .backup-at .ensures .0) (at-store-copy .store-copy .ensures) (not-false _ (at-if1 .if1 .left))
+    (omega (arith, few, start .good .1 .1 .0)) (at-switch-to .switch-to .ensures _ _ logs work)
 
 pub store-checkpoint-spec : {M : Type 1} → statement M
 store-checkpoint-spec =
     tie.close
     (tie.spec
-    store-pages-and-row-requires
+    backup-at-requires
+    store-copy-requires
     same-length
-    same-length-2
     returns
-    store-word-requires
+    switch-to-requires
+    same-length-2
     same-length-3
-    same-length-4
     returns-2)

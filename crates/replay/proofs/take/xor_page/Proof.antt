@@ -2,7 +2,7 @@
 use native.Mathlib.Omega.{arith}
 use borrow.Author.Needs.{needs}
 use Rattle.model.proofs.Bounds.{bounded}
-use Rattle.replay.proofs.Taking.{page-fits, copy-fits}
+use Rattle.layout.proofs.Pages.{page-fits, copy-fits}
 use Rattle.replay.proofs.take.xor_page.Statement.{statement}
 use Rattle.replay.proofs.take.xor_page.Tie as tie
 

@@ -1,13 +1,13 @@
 -- `restart::remain::logs_done` meets its contract: of the logs passed nothing remains. Assumes nothing.
 use Prim.Native.Nat.{_-_, _≤_}
-use mathlib.Core.Path.{_≡_, refl}
+use mathlib.Core.Path.{_≡_}
 use mathlib.Core.Bool.{true}
 use lib.Dec.{eqb}
 use lib.ListN.{getD}
 use native.Mathlib.Omega.{arith}
 use borrow.Author.Needs.{needs}
 use Rattle.model.specs.Below.{allBelow}
-use Rattle.table.proofs.Tests.{all-more, all-stop, all-done}
+use Rattle.model.proofs.Below.{all-none, all-more, all-stop, all-done}
 use Rattle.restart.proofs.Remaining.{left-none, left-some}
 use Rattle.restart.proofs.remain.logs_done.Statement.{statement}
 use Rattle.restart.proofs.remain.logs_done.Tie as tie
@@ -19,8 +19,7 @@ abbrev μ-loop : tie.MeasureT-loop
 μ-loop disks tails positions d₀ d = disks - d
 
 loop-holds : tie.Need-loop-holds Inv-loop μ-loop
-unfolding allBelow
-loop-holds c = (omega arith, refl)
+loop-holds c = (omega arith, all-none _)
 
 mul-if1 : tie.Need-mul-if1 Inv-loop μ-loop
 mul-if1 c = search needs

@@ -1,12 +1,12 @@
--- `replay::take::backup_at` meets its contract: the current backup is the first or the second. Assumes nothing.
+-- `layout::backup::backup_at` meets its contract: the current backup is the first or the second. Assumes nothing.
 use mathlib.Core.Path.{_≡_}
 use Prim.Native.Nat.{_%_}
 use native.Mathlib.Nat.{zero-mul, one-mul}
 use native.Mathlib.Omega.{arith}
 use borrow.Author.Needs.{needs}
 use Rattle.model.specs.Anchor.{backupAt}
-use Rattle.replay.proofs.take.backup_at.Statement.{statement}
-use Rattle.replay.proofs.take.backup_at.Tie as tie
+use Rattle.layout.proofs.backup.backup_at.Statement.{statement}
+use Rattle.layout.proofs.backup.backup_at.Tie as tie
 
 total-requires : tie.Need-total-requires
 total-requires c κs = search needs

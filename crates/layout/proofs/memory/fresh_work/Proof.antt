@@ -1,21 +1,19 @@
--- `replay::save::fresh_work` meets its contract: owners are the first words, copy epochs the last 64. Assumes nothing.
-use mathlib.Core.Path.{refl}
+-- `layout::memory::fresh_work` meets its contract: owners are the first words, copy epochs the last 64.
 use native.Mathlib.Omega.{arith}
 use borrow.Author.Needs.{needs}
 use Rattle.model.specs.Memory.{bufferAt, epochAt, workWords}
 use Rattle.model.proofs.Bounds.{bounded}
-use Rattle.replay.proofs.Saving.{fresh-set}
-use Rattle.replay.proofs.save.fresh_work.Statement.{statement}
-use Rattle.replay.proofs.save.fresh_work.Tie as tie
+use Rattle.layout.proofs.Laws.{fresh-set}
+use Rattle.layout.proofs.memory.fresh_work.Statement.{statement}
+use Rattle.layout.proofs.memory.fresh_work.Tie as tie
 
 total-requires : tie.Need-total-requires
 total-requires c κs = bounded _ (c .before .pre .0) .pages-max
 
-mul-epochs : tie.Need-mul-epochs
-mul-epochs c = omega (arith, bounded _ (c .before .before .pre .0) .disks-max)
-
-add-epochs : tie.Need-add-epochs
-add-epochs c = omega (arith, bounded _ (c .before .before .pre .0) .disks-max)
+epoch-at-requires : tie.Need-epoch-at-requires
+epoch-at-requires c κs =
+    let b = bounded _ (c .before .before .pre .0) in
+    (b .pages-max, b .disks-max, omega arith)
 
 fill-words-requires : tie.Need-fill-words-requires
 unfolding workWords epochAt bufferAt
@@ -32,16 +30,16 @@ returns : tie.Need-returns
 returns c =
     let at-fill-words2 = c .before .before in
     let at-fill-words = at-fill-words2 .before .before .before .before in
-    let at-total = at-fill-words .before .before in
-    fresh-set _ _ _ (at-total .total .ensures .0) refl (at-fill-words .fill-words .ensures) (at-fill-words2 .fill-words2 .ensures)
+    let at-epoch-at = at-fill-words .before .before in
+    fresh-set _ _ _ (at-epoch-at .before .total .ensures .0) (at-epoch-at .epoch-at .ensures .0) (at-fill-words .fill-words .ensures)
+    (at-fill-words2 .fill-words2 .ensures)
 
 pub fresh-work-spec : {M : Type 1} → statement M
 fresh-work-spec =
     tie.close
     (tie.spec
     total-requires
-    mul-epochs
-    add-epochs
+    epoch-at-requires
     fill-words-requires
     fill-words-requires-2
     same-length
