@@ -2,6 +2,7 @@
 use model::Core;
 use model::Logs;
 use model::Table;
+use words::saturating_sub;
 ghost use mathlib.Core.Path.{_≡_};
 ghost use mathlib.Core.Bool.{cond, not, _&&_};
 ghost use Prim.Native.Nat.{_+_, _-_, _≤_, _<_, min};
@@ -61,12 +62,6 @@ pub fn reserved_on(table: Table, disk: u64) -> u64
     reserved_capped(&table.numbers, &table.disks, &table.reserved, disk)
 }
 
-fn beyond(end: u64, start: u64) -> u64
-    ensures { λ r. ⌜ r ≡ end - start ⌝ }
-{
-    if end < start { 0 } else { end - start }
-}
-
 // The room rule for any numbers: what is above LIMIT is refused before it is added.
 pub fn room_for(start: u64, tail: u64, fill: u64, reserved: u64, ring: u64, need: u64) -> bool
     ensures { λ r. ⌜ r ≡ roomFor start (tail + fill) reserved ring need ⌝ }
@@ -91,7 +86,7 @@ pub fn room_for(start: u64, tail: u64, fill: u64, reserved: u64, ring: u64, need
     if LIMIT < whole {
         return false;
     }
-    let used = beyond(end, start);
+    let used = saturating_sub(end, start);
     used + reserved + need <= ring
 }
 
