@@ -1,5 +1,5 @@
 // A disk of a serving state: the numbers that the functions of `log` are lent.
-use layout::places::total;
+use layout::memory::buffer_at;
 use model::Core;
 use model::Logs;
 use table::place::place_of;
@@ -28,7 +28,7 @@ pub fn home_of(core: Core, disk: u64) -> Home
     let sizes = core.sizes;
     let logs = core.logs;
     let d = disk as usize;
-    let buffer = total(sizes) + 64 * disk;
+    let buffer = buffer_at(sizes, disk);
     Home {
         disk,
         ring: sizes.ring,

@@ -1,9 +1,9 @@
 // The work of an update: its record appended, the slot changed, its owner set.
-use crate::slots::page_epoch;
 use frame::home::Home;
 use frame::home::home_of_transaction;
 use frame::home::with_disk;
 use frame::settle::settle;
+use layout::memory::page_epoch;
 use layout::places::slot_base;
 use log::write::Head;
 use log::write::Logged;
