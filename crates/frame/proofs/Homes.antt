@@ -6,16 +6,16 @@ use native.Mathlib.Omega.{arith}
 use lib.ListN.{length}
 use Rattle.model.specs.declared.Sizes.{Sizes}
 use Rattle.model.specs.declared.Core.{Core}
-use Rattle.model.specs.Sizes.{diskAt, logWords}
+use Rattle.model.specs.Sizes.{ringOf, diskAt, logWords}
 use Rattle.model.specs.World.{World}
 use Rattle.model.specs.Memory.{bufferAt, epochAt, workWords}
 use Rattle.model.specs.State.{endOf}
 use Rattle.model.specs.Causes.{whenServing}
 use Rattle.model.proofs.Bounds.{bounded}
 use Rattle.model.proofs.Lengths.{lengths-right}
+use Rattle.model.proofs.Ring.{disk-within}
 use Rattle.model.proofs.Store.Rows.{serving-sound, sizes-sound, disk-sound}
 use Rattle.log.specs.Write.{Within, Lent}
-use Rattle.log.proofs.Scanning.{disk-within}
 use Rattle.frame.specs.declared.home.Home.{Home}
 use Rattle.frame.specs.Home.{Serves, homeOf}
 use Rattle.frame.proofs.Verdicts.{Passed}
@@ -34,13 +34,13 @@ home-lent c w disk =
 
 pub home-within : (c : Core) (logs work : List ℕ) (disk : ℕ) → Serves c logs work → disk < c .sizes .disks
     → Within disk (homeOf c disk .ring) (homeOf c disk .buffer) (homeOf c disk .tail) (homeOf c disk .fill) logs work
-unfolding homeOf logWords diskAt workWords epochAt bufferAt endOf
+unfolding homeOf logWords diskAt ringOf workWords epochAt bufferAt endOf
 home-within c logs work disk serves below =
     let b = bounded (c .sizes) (sizes-sound c (serves .state)) in
     let d = disk-sound c disk (serves .state) below in
     record {
       some-ring = omega (arith, b .ring-min);
-      disk-within = omega (arith, disk-within disk (c .sizes .disks) (c .sizes .ring) below, serves .log-words);
+      disk-within = omega (arith, disk-within (c .sizes) disk below, serves .log-words);
       buffer-within = omega (arith, serves .work-words);
       fill-small = d .fill;
       end-small = omega (arith, d .limit);

@@ -13,7 +13,11 @@ use Rattle.table.proofs.HasRoom.{and-true}
 use Rattle.table.proofs.Tests.{replay-split}
 
 -- the test of each stage
--- the test of a state, stage by stage, as it is made
+pub sound-at : (c : Core) (g : Stage) → c .stage ≡ g → sound c ≡ soundIn g c
+unfolding sound
+sound-at c g e = rw e refl
+
+-- the same, stage by stage, as it is made
 pub sound-by-stage : (c : Core)
     → sound c
     ≡ cond (whenShut (c .stage)) true

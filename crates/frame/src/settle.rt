@@ -8,6 +8,7 @@ use model::Reply;
 use model::Sizes;
 use model::Stage;
 use model::Table;
+use words::saturating_sub;
 ghost use mathlib.Core.Path.{_≡_};
 ghost use Prim.Native.Nat.{_-_};
 ghost use Rattle.model.specs.State.{noTable, noCheckpoint, noReplay, emptyLogs, newCore, openCore};
@@ -112,17 +113,11 @@ pub fn refuse(core: Core, number: u64) -> Reply
     refuse_at(core, number, 0, 0)
 }
 
-fn spent(budget: u64, rest: u64) -> u64
-    ensures { λ r. ⌜ r ≡ budget - rest ⌝ }
-{
-    if budget < rest { 0 } else { budget - rest }
-}
-
 // A call whose stores took a budget down to `rest`: it is finished if all were made, and else cut.
 pub fn settle(whole: bool, budget: u64, rest: u64, value: u64, core: Core) -> Reply
     ensures { λ r. ⌜ r ≡ settled whole budget rest value core ⌝ }
 {
-    let stores = spent(budget, rest);
+    let stores = saturating_sub(budget, rest);
     if whole {
         return Reply {
             answer: Answer::Finished { stores, value },

@@ -16,17 +16,11 @@ use Rattle.model.specs.Below.{within, allBelow}
 use Rattle.model.specs.Sizes.{slotsIn, widthIn, pageWords, usedEntry, unusedEntry, entryInBounds, sizesInBounds, total}
 use Rattle.model.specs.Memory.{epochAt, freshWork}
 use Rattle.model.proofs.Below.{all-stop}
-use Rattle.model.proofs.Booleans.{in-range}
 use Rattle.model.proofs.Bounds.{bounded}
 use Rattle.model.proofs.Parts.{length-part, getD-part}
--- beside these, the loops over the entries need
-pub use Rattle.model.proofs.Below.{all-none, all-more}
 
 pub product-max : (a b m n : ℕ) → a ≤ m → b ≤ n → a * b ≤ m * n
 product-max a b m n h k = le-trans (mul-le-mul-left a k) (mul-le-mul-right n h)
-
-pub within-max : (low high n : ℕ) → within low high n ≡ true → n ≤ high
-within-max low high n e = in-range low high n e .1
 
 -- An array that is filled from another list: the first i words are done, then one more.
 pub fill-more : (out source : List ℕ) (i v : ℕ) → i < length out → i < length source → v ≡ getD source i 0

@@ -25,12 +25,12 @@ pub fn epoch_at(sizes: Sizes, page: u64) -> u64
     buffer_at(sizes, sizes.disks) + page
 }
 
-// The copy epoch of a page.
+// The copy epoch of a page. They are the last 64 words, so that the pages need not be summed up.
 pub fn page_epoch(sizes: Sizes, work: &[u64], page: u64) -> u64
-    requires { ⌜ (sizes .pages ≤ 64) × (sizes .disks ≤ 8) × (page < 64) × (length (now work) ≡ workWords sizes) ⌝ }
+    requires { ⌜ (page < 64) × (length (now work) ≡ workWords sizes) ⌝ }
     ensures { λ r. ⌜ r ≡ epochOf sizes (now (work .entry)) page ⌝ }
 {
-    let at = epoch_at(sizes, page) as usize;
+    let at = work.len() - 64 + page as usize;
     work[at]
 }
 

@@ -1,10 +1,9 @@
 -- A loop over a log, by what is decoded at its position: the answer from there is the answer from the next position.
-use Prim.Native.Nat.{ℕ, zero, suc, _+_, _-_, _*_, _≤_, _<_}
+use Prim.Native.Nat.{ℕ, zero, suc, _+_, _-_, _≤_, _<_}
 use mathlib.Core.Path.{_≡_, refl, sym, ap, _∙_}
 use mathlib.Core.List.{List, [], _∷_}
 use mathlib.Core.Bool.{Bool, true, false, cond, _&&_}
 use native.Mathlib.Omega.{arith}
-use native.Mathlib.Nat.{mul-le-mul-right, add-mul, one-mul}
 use native.Mathlib.Decide.{decLt}
 use lib.ListN.{getD}
 use lib.Dec.{eqb}
@@ -173,12 +172,6 @@ module _ (s : Sizes) (read : ℕ → ℕ) (stop : ℕ) where
     pub words-bad : {n sum : ℕ} → r ≡ Malformed → n + updateWords (updatesIn t (scan s read stop p)) ≡ sum → n ≡ sum
     unfolding updatesIn updateWords
     words-bad e u = omega (arith, ap (λ (x : Scan). updateWords (updatesIn t x)) (scan-bad s read stop h (sym is ∙ e)))
-
--- disk d lies within the logs of all disks
-pub disk-within : (d disks ring : ℕ) → d < disks → d * (ring + 1) + (ring + 1) ≤ disks * (ring + 1)
-disk-within d disks ring h =
-    let e : (d + 1) * (ring + 1) ≤ disks * (ring + 1) = mul-le-mul-right (ring + 1) (omega arith) in
-    rw (add-mul, one-mul) at e
 
 -- the check of all disks, a disk at a time
 module _ (s : Sizes) (logs starts : List ℕ) where

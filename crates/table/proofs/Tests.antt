@@ -1,9 +1,8 @@
 -- Tests of every disk and every place, and the parts of a state that they read.
-use mathlib.Core.Path.{_≡_, refl, sym, _∙_}
-use mathlib.Core.Bool.{Bool, true, false, true≢false, _&&_}
+use mathlib.Core.Path.{_≡_, refl, sym}
+use mathlib.Core.Bool.{Bool, true, false, _&&_}
 use Prim.Native.Nat.{ℕ, _+_, _-_, _≤_, _<_, min}
 use native.Mathlib.Omega.{arith}
-use native.Mathlib.Numerals.{add-one}
 use lib.Dec.{leb, ltb}
 use lib.ListN.{getD}
 use borrow.Author.Tests.{leb-true, leb-false, le-leb, lt-leb}
@@ -13,26 +12,9 @@ use Rattle.model.specs.declared.Table.{Table}
 use Rattle.model.specs.Below.{within, allBelow}
 use Rattle.model.specs.Sizes.{ringOf, sizesInBounds}
 use Rattle.model.specs.State.{limit, places, startOf, tailOf, fillOf, endOf, numberAt, diskAtPlace, firstAt, reservedAt, hasUpdate, reservedOn, diskSound, placeSound, servingSound, checkpointSound, replaySound}
-use Rattle.model.proofs.Below.{all-each}
 use Rattle.table.specs.Parts.{cap, tableOf, coreOf, roomFor, entrySound, endWithin, positionWithin}
 use Rattle.table.proofs.Places.{reserved-parts}
 use Rattle.table.proofs.HasRoom.{room-capped}
-
--- A loop that tests every number below n: it goes on, stops at one that fails, or ends.
-module _ (f : ℕ → Bool) where
-  pub all-more : (n : ℕ) → allBelow f n ≡ true → f n ≡ true → allBelow f (n + 1) ≡ true
-  unfolding allBelow
-  all-more n e h = rw (add-one n, e, h)
-
-  pub all-stop : (n i : ℕ) → i < n → f i ≡ false → false ≡ allBelow f n
-  all-stop n i l e = go (allBelow f n) refl
-    where
-      go : (b : Bool) → allBelow f n ≡ b → false ≡ b
-      go true q = absurd (true≢false (sym (all-each f n q i l) ∙ e))
-      go false q = refl
-
-  pub all-done : (n i : ℕ) → i ≤ n → n ≤ i → allBelow f i ≡ true → true ≡ allBelow f n
-  all-done n i a b e = let same : n ≡ i = omega arith in rw same (sym e)
 
 pub and-assoc : (a b c : Bool) → (a && (b && c)) ≡ (a && b && c)
 and-assoc true b c = refl

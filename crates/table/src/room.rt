@@ -2,10 +2,11 @@
 use model::Core;
 use model::Logs;
 use model::Table;
+use words::saturating_sub;
 ghost use mathlib.Core.Path.{_≡_};
 ghost use mathlib.Core.Bool.{cond, not, _&&_};
 ghost use Prim.Native.Nat.{ℕ, _+_, _-_, _≤_, _<_, min};
-ghost use lib.ListN.{getD};
+ghost use lib.ListN.{length, getD};
 ghost use lib.Dec.{eqb};
 ghost use Rattle.model.specs.State.{reservedOn};
 ghost use Rattle.model.specs.Room.{hasRoom, better, idlest};
@@ -25,21 +26,19 @@ fn capped(a: u64, b: u64) -> u64
     if b <= CAP - a { a + b } else { CAP }
 }
 
-// The sums with what one place adds to them.
-fn add_place(sums: [u64; 8], number: u64, disk: u64, words: u64) -> [u64; 8]
-    requires { ⌜ ((d : ℕ) → d < 8 → getD sums d 0 ≤ cap) ⌝ }
-    ensures { λ r. ⌜ ((d : ℕ) → d < 8 → getD r d 0 ≡ min cap (getD sums d 0 + cond (not (eqb number 0) && eqb disk d) words 0)) ⌝ }
+// Adds what one place reserves to the sum of its disk.
+fn add_place(sums: &mut [u64], number: u64, disk: u64, words: u64)
+    requires { ⌜ (length (now sums) ≡ 8) × ((d : ℕ) → d < 8 → getD (now sums) d 0 ≤ cap) ⌝ }
+    ensures { λ _. ⌜ ((d : ℕ) → d < 8 → getD (now (sums .exit)) d 0 ≡ min cap (getD (now (sums .entry)) d 0 + cond (not (eqb number 0) && eqb disk d) words 0)) ⌝ }
 {
     if number == 0 {
-        return sums;
+        return;
     }
     if disk >= 8 {
-        return sums;
+        return;
     }
-    let mut next = sums;
     let d = disk as usize;
-    next[d] = capped(sums[d], words);
-    next
+    sums[d] = capped(sums[d], words);
 }
 
 // The words reserved on each disk, at most CAP: a table that no call made may hold any numbers.
@@ -53,17 +52,10 @@ pub fn reserved_each<'a>(
     let mut sums = [0u64; 8];
     let mut i: usize = 0;
     while i < 16 {
-        let next = add_place(sums, numbers[i], disks[i], reserved[i]);
-        sums = next;
+        add_place(&mut sums, numbers[i], disks[i], reserved[i]);
         i += 1;
     }
     sums
-}
-
-fn beyond(end: u64, start: u64) -> u64
-    ensures { λ r. ⌜ r ≡ end - start ⌝ }
-{
-    if end < start { 0 } else { end - start }
 }
 
 // The room rule for any numbers: what is above LIMIT is refused before it is added.
@@ -90,7 +82,7 @@ pub fn room_for(start: u64, tail: u64, fill: u64, reserved: u64, ring: u64, need
     if LIMIT < whole {
         return false;
     }
-    let used = beyond(end, start);
+    let used = saturating_sub(end, start);
     used + reserved + need <= ring
 }
 

@@ -35,7 +35,7 @@ use Rattle.frame.specs.declared.home.Home.{Home}
 use Rattle.frame.specs.Home.{homeOf, withDisk}
 use Rattle.frame.specs.Settle.{settled, Concludes}
 use Rattle.frame.proofs.Verdicts.{first-refused, first-accepted, task-settled}
-use Rattle.txn.specs.Tasks.{Changes, replacing, Replaced}
+use Rattle.txn.specs.Tasks.{grown, Changes, replacing, Replaced}
 use Rattle.txn.proofs.SlotBounds.{There, slot-there}
 use Rattle.txn.proofs.Differences.{difference-length}
 
@@ -130,6 +130,12 @@ module _ (c : Core) (number : ℕ) (ok : servingSound c ≡ true) (opened : isOp
 
   pub reserved-low : reservedAt (c .table) (placeOf (c .table) number) ≤ limit
   reserved-low = omega (arith, open-entry c number ok opened .on, disk-sound c (diskOf c number) ok (open-below c number ok opened) .limit)
+
+  -- the table that the code makes is that of the update
+  pub grown-updated : {h : Home} {t : Table} (words : ℕ) → h ≡ homeOf c (diskOf c number)
+      → t ≡ grown (c .table) number (h .disk) (h .tail + h .fill) words → t ≡ updated c number words
+  unfolding grown updated homeOf endOf
+  grown-updated words e q = rw (q, e) refl
 
 -- The task of an update, settled.
 pub update-settled : (c : Core) (w v : World) (number page slot : ℕ) (value : List ℕ) {h : Home} {head : Head} {at budget rest : ℕ} {r : Logged}

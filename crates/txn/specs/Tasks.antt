@@ -1,17 +1,18 @@
 -- The part of a task that a function does, where it is lent a part of the state.
 use mathlib.Core.Path.{_≡_}
 use mathlib.Core.List.{List, [], _∷_, _++_}
-use mathlib.Core.Bool.{true, false}
-use Prim.Native.Nat.{ℕ, _*_}
+use mathlib.Core.Bool.{true, false, cond}
+use Prim.Native.Nat.{ℕ, _+_, _*_}
 use lib.ListN.{length}
 use Rattle.model.specs.declared.Sizes.{Sizes}
 use Rattle.model.specs.declared.Logs.{Logs}
+use Rattle.model.specs.declared.Table.{Table}
 use Rattle.model.specs.declared.Core.{Core}
 use Rattle.model.specs.Word.{xors, part}
 use Rattle.model.specs.Sizes.{widthIn, total}
 use Rattle.model.specs.Record.{encode, close, wordsOf, updateKind, commitKind}
 use Rattle.model.specs.World.{World, Action, write, pages, work, each, perform}
-use Rattle.model.specs.State.{isOpen}
+use Rattle.model.specs.State.{placeOf, firstAt, reservedAt, hasUpdate, isOpen, withPlace}
 use Rattle.model.specs.Room.{hasRoom}
 use Rattle.model.specs.Causes.{slotMissing}
 use Rattle.model.specs.Append.{Appended, append, flush}
@@ -31,6 +32,13 @@ closing s l w disk number =
 -- the world with other pages, logs and work memory
 abbrev pub withMemory : World → List ℕ → List ℕ → List ℕ → World
 withMemory w p l k = record { anchor = w .anchor; pages = p; backups = w .backups; logs = l; work = k }
+
+-- the table with an update of so many words more, on a disk whose log ends at `end`
+unfoldable pub grown : Table → ℕ → ℕ → ℕ → ℕ → Table
+grown t number disk end words =
+    withPlace t (placeOf t number) number disk
+    (cond (hasUpdate t (placeOf t number)) (firstAt t (placeOf t number)) end)
+    (reservedAt t (placeOf t number) + words)
 
 -- What the checks of an update leave to its work.
 pub record Changes (c : Core) (number page slot : ℕ) (value p l k : List ℕ) : Type 0 where

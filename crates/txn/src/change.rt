@@ -1,9 +1,9 @@
 // The work of an update: its record appended, the slot changed, its owner set.
-use crate::slots::page_epoch;
 use frame::home::Home;
 use frame::home::home_of_transaction;
 use frame::home::with_disk;
 use frame::settle::settle;
+use layout::memory::page_epoch;
 use layout::places::slot_base;
 use log::write::Head;
 use log::write::Logged;
@@ -16,7 +16,7 @@ use table::place::put_place;
 use words::copy_words;
 use words::difference;
 ghost use mathlib.Core.Path.{_≡_};
-ghost use mathlib.Core.Bool.{true, cond};
+ghost use mathlib.Core.Bool.{cond};
 ghost use Prim.Native.Nat.{_+_, _≤_, _<_};
 ghost use lib.Dec.{ltb};
 ghost use lib.ListN.{length, set};
@@ -27,13 +27,12 @@ ghost use Rattle.model.specs.Word.{xors, part};
 ghost use Rattle.model.specs.Record.{encode};
 ghost use Rattle.model.specs.World.{World};
 ghost use Rattle.model.specs.Memory.{epochOf, workWords};
-ghost use Rattle.model.specs.State.{isOpen, servingSound};
-ghost use Rattle.model.specs.Transaction.{diskOf, updated, updateTask};
+ghost use Rattle.model.specs.State.{limit, places, placeOf, reservedAt};
+ghost use Rattle.model.specs.Transaction.{updateTask};
 ghost use Rattle.device.specs.Ran.{withSlices};
 ghost use Rattle.log.specs.Write.{Within, Encodable, changeOf, Lent, Appends, Ends};
-ghost use Rattle.frame.specs.Home.{homeOf};
 ghost use Rattle.frame.specs.Settle.{Concludes};
-ghost use Rattle.txn.specs.Tasks.{withMemory, Changes, Replaced};
+ghost use Rattle.txn.specs.Tasks.{withMemory, grown, Changes, Replaced};
 
 // Appends a change whose difference is that of the slot at `at` in the page memory to its new value.
 fn log_change(
@@ -110,12 +109,11 @@ fn first_position(reserved: u64, first: u64, end: u64) -> u64
     if 2 < reserved { first } else { end }
 }
 
-// The table with the words of one more update of a transaction.
-fn updated_table(core: Core, number: u64, home: Home, words: u64) -> Table
-    requires { ⌜ (servingSound core ≡ true) × (isOpen (core .table) number ≡ true) × (words ≤ 64) × (home ≡ homeOf core (diskOf core number)) ⌝ }
-    ensures { λ r. ⌜ r ≡ updated core number words ⌝ }
+// The table with the words of one more update of a transaction, whose disk is `home`.
+fn updated_table(table: Table, number: u64, home: Home, words: u64) -> Table
+    requires { ⌜ (placeOf table number < places) × (reservedAt table (placeOf table number) ≤ limit) × (home .tail + home .fill ≤ limit) × (words ≤ 64) ⌝ }
+    ensures { λ r. ⌜ r ≡ grown table number (home .disk) (home .tail + home .fill) words ⌝ }
 {
-    let table = core.table;
     let place = place_of(table, number);
     let reserved = table.reserved[place];
     let first = first_position(reserved, table.firsts[place], home.tail + home.fill);
@@ -159,7 +157,7 @@ pub fn change_slot(
     let added = log_and_set(home, head, at, value, pages, logs, work, budget);
     let next = Core {
         logs: with_disk(core.logs, home.disk, added.tail, added.fill),
-        table: updated_table(core, number, home, 3 + value.len() as u64),
+        table: updated_table(core.table, number, home, 3 + value.len() as u64),
         ..core
     };
     settle(added.finished, before, *budget, 0, next)

@@ -11,7 +11,7 @@ ghost use lib.Dec.{eqb};
 ghost use lib.ListN.{length};
 ghost use Rattle.model.specs.Word.{part};
 ghost use Rattle.model.specs.Sizes.{widthIn, slotBase};
-ghost use Rattle.model.specs.Memory.{ownerOf, epochOf, workWords};
+ghost use Rattle.model.specs.Memory.{ownerOf};
 ghost use Rattle.model.specs.State.{inTable, isOpen};
 ghost use Rattle.model.specs.Causes.{slotMissing};
 
@@ -74,13 +74,4 @@ pub fn slot_part<'a>(sizes: Sizes, page: u64, slot: u64, pages: &'a [u64]) -> &'
     let at = slot_base(sizes, page, slot) as usize;
     let width = slot_width(sizes, page);
     &pages[at..at + width]
-}
-
-// The copy epoch of a page: they are the last 64 words.
-pub fn page_epoch(sizes: Sizes, work: &[u64], page: u64) -> u64
-    requires { ⌜ (page < 64) × (length (now work) ≡ workWords sizes) ⌝ }
-    ensures { λ r. ⌜ r ≡ epochOf sizes (now (work .entry)) page ⌝ }
-{
-    let at = work.len() - 64 + page as usize;
-    work[at]
 }

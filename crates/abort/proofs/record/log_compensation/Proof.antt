@@ -12,7 +12,7 @@ page-epoch-requires : tie.Need-page-epoch-requires
 page-epoch-requires c κs =
     let pre = c .before .before .before .before .before .pre in
     let b = small (pre .0) in
-    (b .pages, b .disks, omega (arith, b .pages, pre .1 .page-in), pre .0 .work-words)
+    (omega (arith, b .pages, pre .1 .page-in), pre .0 .work-words)
 
 append-change-requires : tie.Need-append-change-requires
 append-change-requires c κs =

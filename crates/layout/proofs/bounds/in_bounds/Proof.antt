@@ -7,7 +7,8 @@ use borrow.Author.Needs.{needs}
 use borrow.Author.Tests.{not-true, not-false}
 use Rattle.model.specs.Below.{allBelow}
 use Rattle.model.specs.Sizes.{slotsIn, widthIn, pageWords, usedEntry, unusedEntry, entryInBounds}
-use Rattle.layout.proofs.Laws.{entriesOf, all-none, all-more, counts-out, entry-out, all-in}
+use Rattle.model.proofs.Below.{all-none, all-more}
+use Rattle.layout.proofs.Laws.{entriesOf, counts-out, entry-out, all-in}
 use Rattle.layout.proofs.bounds.in_bounds.Statement.{statement}
 use Rattle.layout.proofs.bounds.in_bounds.Tie as tie
 

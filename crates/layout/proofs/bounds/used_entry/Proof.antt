@@ -3,7 +3,8 @@ use mathlib.Core.Path.{sym, _∙_}
 use native.Mathlib.Omega.{arith}
 use borrow.Author.Needs.{needs}
 use borrow.Author.Tests.{not-true, not-false}
-use Rattle.layout.proofs.Laws.{product-max, within-max}
+use Rattle.model.proofs.Booleans.{in-range}
+use Rattle.layout.proofs.Laws.{product-max}
 use Rattle.layout.proofs.bounds.used_entry.Statement.{statement}
 use Rattle.layout.proofs.bounds.used_entry.Tie as tie
 
@@ -27,8 +28,8 @@ mul-result : tie.Need-mul-result
 mul-result c =
     let slots = c .before .before .before .before .args .slots in
     let width = c .before .before .before .before .args .width in
-    let first = within-max 1 128 slots (sym (c .before .before .before .is-within .ensures) ∙ not-false _ (c .before .before .if1 .left)) in
-    let second = within-max 1 32 width (sym (c .before .is-within2 .ensures) ∙ not-false _ (c .if2 .left)) in
+    let first = in-range 1 128 slots (sym (c .before .before .before .is-within .ensures) ∙ not-false _ (c .before .before .if1 .left)) .1 in
+    let second = in-range 1 32 width (sym (c .before .is-within2 .ensures) ∙ not-false _ (c .if2 .left)) .1 in
     record { fits = omega (arith, product-max slots width 128 32 first second) }
 
 returns-3 : tie.Need-returns-3

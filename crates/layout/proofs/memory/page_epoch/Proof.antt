@@ -1,25 +1,33 @@
--- `layout::memory::page_epoch` meets its contract: the word at its place.
-use mathlib.Core.Path.{refl}
+-- `layout::memory::page_epoch` meets its contract: its place counted from the end of the work memory.
+use mathlib.Core.Path.{_≡_, refl}
+use Prim.Native.Nat.{_+_, _-_}
 use native.Mathlib.Omega.{arith}
-use borrow.Author.Needs.{needs}
+use lib.ListN.{length}
 use Rattle.model.specs.Memory.{epochAt, workWords, epochOf}
+use borrow.Author.Needs.{needs}
 use Rattle.layout.proofs.memory.page_epoch.Statement.{statement}
 use Rattle.layout.proofs.memory.page_epoch.Tie as tie
 
-epoch-at-requires : tie.Need-epoch-at-requires
-epoch-at-requires c κs = search needs
+sub-at : tie.Need-sub-at
+unfolding workWords epochAt
+sub-at c = omega arith
+
+add-at : tie.Need-add-at
+add-at c = search needs
 
 mul-result : tie.Need-mul-result
 mul-result c = search needs
 
 shared-slice-read-result : tie.Need-shared-slice-read-result
 unfolding workWords epochAt
-shared-slice-read-result c = omega arith
+shared-slice-read-result c = search needs
 
 returns : tie.Need-returns
-unfolding epochOf
-returns c = rw (c .before .epoch-at .ensures .0) refl
+unfolding epochOf epochAt workWords
+returns c =
+    let x = c .before .args in
+    let same : length (x .work .now) - 64 + x .page ≡ epochAt (x .sizes) (x .page) = omega arith in
+    rw same refl
 
 pub page-epoch-spec : {M : Type 1} → statement M
-page-epoch-spec =
-    tie.close (tie.spec epoch-at-requires mul-result shared-slice-read-result returns)
+page-epoch-spec = tie.close (tie.spec sub-at add-at mul-result shared-slice-read-result returns)

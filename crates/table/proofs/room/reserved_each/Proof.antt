@@ -2,7 +2,7 @@
 use Prim.Native.Nat.{ℕ, _-_, _≤_, _<_, min}
 use mathlib.Core.Path.{_≡_, refl, ap, _∙_}
 use native.Mathlib.Omega.{arith}
-use lib.ListN.{getD, getD-replicate}
+use lib.ListN.{length, getD, getD-replicate}
 use borrow.Author.Needs.{needs}
 use Rattle.model.specs.Below.{sumBelow}
 use Rattle.model.proofs.Reserved.{reservedBy}
@@ -13,14 +13,17 @@ use Rattle.table.proofs.room.reserved_each.Tie as tie
 
 abbrev Inv-loop : tie.InvT-loop
 Inv-loop numbers disks reserved sums₀ i₀ sums i =
-    (i ≤ 16) × ((d : ℕ) → d < 8 → getD sums d 0 ≡ min cap (sumBelow (reservedBy (tableOf numbers disks reserved) d) i))
+    (i ≤ 16) × (length sums ≡ 8) × ((d : ℕ) → d < 8 → getD sums d 0 ≡ min cap (sumBelow (reservedBy (tableOf numbers disks reserved) d) i))
 
 abbrev μ-loop : tie.MeasureT-loop
 μ-loop numbers disks reserved sums₀ i₀ sums i = 16 - i
 
 loop-holds : tie.Need-loop-holds Inv-loop μ-loop
 unfolding sumBelow
-loop-holds c = (search needs, λ d h. getD-replicate 8 d 0 0 h)
+loop-holds c = (search needs, search needs, λ d h. getD-replicate 8 d 0 0 h)
+
+slice-aggregate-add-place : tie.Need-slice-aggregate-add-place Inv-loop μ-loop
+slice-aggregate-add-place c = search needs
 
 mul-add-place : tie.Need-mul-add-place Inv-loop μ-loop
 mul-add-place c = search needs
@@ -41,7 +44,7 @@ element-copy-out-add-place-3 : tie.Need-element-copy-out-add-place-3 Inv-loop μ
 element-copy-out-add-place-3 c = search needs
 
 add-place-requires : tie.Need-add-place-requires Inv-loop μ-loop
-add-place-requires c κs d h = omega (arith, c .before .before .before .before .loop .inv .1 d h)
+add-place-requires c κs = (c .before .before .before .before .before .loop .inv .1, λ d h. omega (arith, c .before .before .before .before .before .loop .inv .2 d h))
 
 add-i : tie.Need-add-i Inv-loop μ-loop
 add-i c = search needs
@@ -52,14 +55,15 @@ loop-less c = search needs
 loop-again : tie.Need-loop-again Inv-loop μ-loop
 loop-again c = (
   search needs,
-  λ d h. reserved-more _ _ _ d _ _ _ _ _ (c .before .before .before .before .before .loop .inv .1 d h) refl (c .add-place .ensures d h),
+  search needs,
+  λ d h. reserved-more _ _ _ d _ _ _ _ _ (c .before .before .before .before .before .before .before .loop .inv .2 d h) refl (c .before .add-place .ensures d h),
 )
 
 returns : tie.Need-returns Inv-loop μ-loop
 returns c d h =
     let e : c .before .loop .i ≡ 16 = omega arith in
     let a = c .before .before .args in
-    let sum = rw e at (c .before .loop .inv .1 d h) in
+    let sum = rw e at (c .before .loop .inv .2 d h) in
     sum ∙ ap (min cap) (reserved-all (a .numbers .now) (a .disks .now) (a .reserved .now) d)
 
 pub reserved-each-spec : {M : Type 1} → statement M
@@ -69,6 +73,7 @@ reserved-each-spec =
     Inv-loop
     μ-loop
     loop-holds
+    slice-aggregate-add-place
     mul-add-place
     element-copy-out-add-place
     mul-add-place-2

@@ -32,8 +32,8 @@ add-whole-2 c = search needs
 returns-6 : tie.Need-returns-6
 returns-6 c = no-room _ _ _ _ _ (omega arith)
 
-beyond-requires : tie.Need-beyond-requires
-beyond-requires c κs = search needs
+saturating-sub-requires : tie.Need-saturating-sub-requires
+saturating-sub-requires c κs = search needs
 
 add-result : tie.Need-add-result
 add-result c = search needs
@@ -42,7 +42,7 @@ add-result-2 : tie.Need-add-result-2
 add-result-2 c = search needs
 
 returns-7 : tie.Need-returns-7
-returns-7 c = rw (c .beyond .ensures) (room-by-ring _ _ _ _ _ (omega arith))
+returns-7 c = rw (c .saturating-sub .ensures) (room-by-ring _ _ _ _ _ (omega arith))
 
 pub room-for-spec : {M : Type 1} → statement M
 room-for-spec =
@@ -57,7 +57,7 @@ room-for-spec =
     add-whole
     add-whole-2
     returns-6
-    beyond-requires
+    saturating-sub-requires
     add-result
     add-result-2
     returns-7)

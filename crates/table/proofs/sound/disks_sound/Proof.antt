@@ -9,7 +9,8 @@ use Rattle.model.specs.declared.Table.{Table}
 use Rattle.model.specs.Below.{allBelow}
 use Rattle.model.specs.State.{diskSound}
 use Rattle.table.specs.Parts.{coreOf}
-use Rattle.table.proofs.Tests.{all-more, all-stop, all-done, disk-computed}
+use Rattle.model.proofs.Below.{all-more, all-stop, all-done}
+use Rattle.table.proofs.Tests.{disk-computed}
 use Rattle.table.proofs.Sums.{SumsOf}
 use Rattle.table.proofs.sound.disks_sound.Statement.{statement}
 use Rattle.table.proofs.sound.disks_sound.Tie as tie

@@ -8,7 +8,7 @@ use borrow.Author.Needs.{needs}
 use Rattle.model.specs.Below.{allBelow}
 use Rattle.model.specs.State.{startOf, tailOf, fillOf, endOf}
 use Rattle.table.specs.Parts.{endWithin}
-use Rattle.table.proofs.Tests.{all-more, all-stop, all-done}
+use Rattle.model.proofs.Below.{all-more, all-stop, all-done}
 use Rattle.table.proofs.sound.ends_sound.Statement.{statement}
 use Rattle.table.proofs.sound.ends_sound.Tie as tie
 

@@ -8,7 +8,8 @@ use borrow.Author.Needs.{needs}
 use Rattle.model.specs.Below.{allBelow}
 use Rattle.model.specs.State.{placeSound}
 use Rattle.table.specs.Parts.{coreOf}
-use Rattle.table.proofs.Tests.{all-more, all-stop, all-done, place-computed}
+use Rattle.model.proofs.Below.{all-more, all-stop, all-done}
+use Rattle.table.proofs.Tests.{place-computed}
 use Rattle.table.proofs.sound.places_sound.Statement.{statement}
 use Rattle.table.proofs.sound.places_sound.Tie as tie
 

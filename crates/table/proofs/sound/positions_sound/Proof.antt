@@ -7,7 +7,7 @@ use borrow.Author.Tests.{not-true, not-false}
 use borrow.Author.Needs.{needs}
 use Rattle.model.specs.Below.{allBelow}
 use Rattle.table.specs.Parts.{positionWithin}
-use Rattle.table.proofs.Tests.{all-more, all-stop, all-done}
+use Rattle.model.proofs.Below.{all-more, all-stop, all-done}
 use Rattle.table.proofs.sound.positions_sound.Statement.{statement}
 use Rattle.table.proofs.sound.positions_sound.Tie as tie
 

@@ -1,12 +1,12 @@
 -- `txn::change::change_slot` meets its contract: the record and the slot, settled. Assumes nothing.
+use Prim.Native.Nat.{_+_}
 use native.Mathlib.Omega.{arith}
+use lib.ListN.{length}
 use Rattle.model.specs.State.{withLog}
 use Rattle.model.specs.Transaction.{diskOf}
-use Rattle.model.proofs.Bounds.{bounded}
-use Rattle.model.proofs.Store.Rows.{sizes-sound}
-use Rattle.model.proofs.Store.Accepted.{disks-max, open-below}
+use Rattle.model.proofs.Store.Accepted.{disks-max, open-entry, open-below}
 use Rattle.frame.proofs.Homes.{lent-there, within-there, disk-there}
-use Rattle.txn.proofs.Updating.{changes-slot, changes-encodable, changes-pages, changes-owner, update-settled}
+use Rattle.txn.proofs.Updating.{changes-slot, changes-encodable, changes-pages, changes-owner, home-low, reserved-low, grown-updated, update-settled}
 use borrow.Author.Needs.{needs}
 use Rattle.txn.proofs.change.change_slot.Statement.{statement}
 use Rattle.txn.proofs.change.change_slot.Tie as tie
@@ -54,8 +54,12 @@ add-updated-table c =
 updated-table-requires : tie.Need-updated-table-requires
 updated-table-requires c κs =
     let x = c .before .before .before .before .before .before .before .before .before .before .before .before .before .before .before .before .before .before .before .before .before .args in
-    let ok = c .before .before .before .before .before .before .before .before .before .before .before .before .before .before .before .before .before .before .before .before .before .pre in
-    ((ok .serves .state), ok .opened, omega (arith, changes-slot ok .width-max, ok .width), c .before .before .before .before .before .before .before .before .before .before .before .before .before .before .before .home-of-transaction .ensures .0)
+    let ok = c .before .before .before .before .before .before .before .before .before .before .before .before .before .before .before .before .before .before .before .before .before .pre in (
+      open-entry (x .core) (x .number) (ok .serves .state) (ok .opened) .at,
+      reserved-low (x .core) (x .number) (ok .serves .state) (ok .opened),
+      home-low (x .core) (x .number) (ok .serves .state) (ok .opened) (c .before .before .before .before .before .before .before .before .before .before .before .before .before .before .before .home-of-transaction .ensures .0),
+      omega (arith, changes-slot ok .width-max, ok .width),
+    )
 
 settle-requires : tie.Need-settle-requires
 settle-requires c κs = search needs
@@ -78,7 +82,7 @@ returns c = λ w pages logs work.
     update-settled (x .core) w _ (x .number) (x .page) (x .slot) (x .value .now) (ok .width) (rw pages (changes-pages ok)) h
     (rw work (c .before .before .before .before .before .before .before .before .before .before .before .before .before .before .before .before .before .before .head-of .ensures)) (c .before .before .before .before .before .before .before .before .before .before .before .before .before .before .before .before .before .slot-base .ensures .0)
     (c .before .before .before .before .before .before .before .before .before .before .before .before .log-and-set .ensures (x .core .sizes) (x .core .logs) w (lent-there (x .core) (diskOf (x .core) (x .number)) h w logs work) pages)
-    (c .before .before .before .before .before .with-disk .ensures) (c .before .before .before .before .updated-table .ensures) (c .settle .ensures)
+    (c .before .before .before .before .before .with-disk .ensures) (grown-updated (x .core) (x .number) (ok .serves .state) (ok .opened) (3 + length (x .value .now)) h (c .before .before .before .before .updated-table .ensures)) (c .settle .ensures)
 
 pub change-slot-spec : {M : Type 1} → statement M
 change-slot-spec =

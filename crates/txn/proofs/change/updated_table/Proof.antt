@@ -1,12 +1,9 @@
--- `txn::change::updated_table` meets its contract: an open transaction has a place, and its words stay below the bound. Assumes nothing.
+-- `txn::change::updated_table` meets its contract: the entry at the transaction's place. Assumes nothing.
 use mathlib.Core.Path.{refl}
 use Prim.Native.Nat.{_<_}
 use native.Mathlib.Omega.{arith}
-use Rattle.model.specs.State.{endOf, firstAt, reservedAt, hasUpdate}
-use Rattle.model.specs.Transaction.{updated}
-use Rattle.model.proofs.Store.Accepted.{open-entry}
-use Rattle.frame.specs.Home.{homeOf}
-use Rattle.txn.proofs.Updating.{home-low, reserved-low}
+use Rattle.model.specs.State.{firstAt, reservedAt, hasUpdate}
+use Rattle.txn.specs.Tasks.{grown}
 use borrow.Author.Needs.{needs}
 use Rattle.txn.proofs.change.updated_table.Statement.{statement}
 use Rattle.txn.proofs.change.updated_table.Tie as tie
@@ -16,54 +13,40 @@ place-of-requires c κs = search needs
 
 mul-reserved : tie.Need-mul-reserved
 mul-reserved c =
-    let x = c .before .before .args in
-    let at : c .place-of .result < 16 = omega (arith, c .place-of .ensures, open-entry (x .core) (x .number) (c .before .before .pre .0) (c .before .before .pre .1) .at) in
+    let at : c .place-of .result < 16 = omega (arith, c .place-of .ensures) in
     search (needs, at)
 
 element-copy-out-reserved : tie.Need-element-copy-out-reserved
 element-copy-out-reserved c =
-    let x = c .before .before .args in
-    let at : c .place-of .result < 16 = omega (arith, c .place-of .ensures, open-entry (x .core) (x .number) (c .before .before .pre .0) (c .before .before .pre .1) .at) in
+    let at : c .place-of .result < 16 = omega (arith, c .place-of .ensures) in
     search (needs, at)
 
 mul-first-position : tie.Need-mul-first-position
 mul-first-position c =
-    let x = c .before .before .before .args in
-    let at : c .before .place-of .result < 16 = omega (arith, c .before .place-of .ensures, open-entry (x .core) (x .number) (c .before .before .before .pre .0) (c .before .before .before .pre .1) .at) in
+    let at : c .before .place-of .result < 16 = omega (arith, c .before .place-of .ensures) in
     search (needs, at)
 
 element-copy-out-first-position : tie.Need-element-copy-out-first-position
 element-copy-out-first-position c =
-    let x = c .before .before .before .args in
-    let at : c .before .place-of .result < 16 = omega (arith, c .before .place-of .ensures, open-entry (x .core) (x .number) (c .before .before .before .pre .0) (c .before .before .before .pre .1) .at) in
+    let at : c .before .place-of .result < 16 = omega (arith, c .before .place-of .ensures) in
     search (needs, at)
 
 add-first-position : tie.Need-add-first-position
-add-first-position c =
-    let x = c .before .before .before .before .before .args in
-    let low = home-low (x .core) (x .number) (c .before .before .before .before .before .pre .0) (c .before .before .before .before .before .pre .1) (c .before .before .before .before .before .pre .3) in
-    search (needs, low)
+add-first-position c = search needs
 
 first-position-requires : tie.Need-first-position-requires
 first-position-requires c κs = search needs
 
 add-put-place : tie.Need-add-put-place
 unfolding reservedAt
-add-put-place c =
-    let x = c .before .before .before .before .before .before .args in
-    let low = reserved-low (x .core) (x .number) (c .before .before .before .before .before .before .pre .0) (c .before .before .before .before .before .before .pre .1) in
-    let same = c .before .before .before .before .place-of .ensures in
-    let few = c .before .before .before .before .before .before .pre .2 in
-    record { fits = rw same (omega (arith, low, few)) }
+add-put-place c = record { fits = rw (c .before .before .before .before .place-of .ensures) (omega arith) }
 
 put-place-requires : tie.Need-put-place-requires
-put-place-requires c κs =
-    let x = c .before .before .before .before .before .before .args in
-    omega (arith, c .before .before .before .before .place-of .ensures, open-entry (x .core) (x .number) (c .before .before .before .before .before .before .pre .0) (c .before .before .before .before .before .before .pre .1) .at)
+put-place-requires c κs = omega (arith, c .before .before .before .before .place-of .ensures)
 
 returns : tie.Need-returns
-unfolding updated hasUpdate firstAt reservedAt endOf homeOf
-returns c = rw (c .put-place .ensures, c .before .first-position .ensures, c .before .before .before .before .before .place-of .ensures, c .before .before .before .before .before .before .before .pre .3) refl
+unfolding grown hasUpdate firstAt reservedAt
+returns c = rw (c .put-place .ensures, c .before .first-position .ensures, c .before .before .before .before .before .place-of .ensures) refl
 
 pub updated-table-spec : {M : Type 1} → statement M
 updated-table-spec =
