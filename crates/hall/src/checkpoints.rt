@@ -1,7 +1,10 @@
 // The three commands of a checkpoint.
 use crate::outcome::Done;
-use crate::outcome::shown;
+use crate::outcome::settled;
 use store::State;
+ghost use Rattle.model.specs.World.{worldOf};
+ghost use Rattle.model.specs.Call.{checkpointBegin, checkpointStep, checkpointEnd};
+ghost use Rattle.hall.specs.Shown.{Shows};
 
 pub fn run_mark(
     state: State,
@@ -10,12 +13,11 @@ pub fn run_mark(
     backups: &[u64],
     logs: &[u64],
     work: &[u64],
-) -> Done {
+) -> Done
+    ensures { λ r. ⌜ Shows checkpointBegin (state .core) (worldOf (now (anchor .entry)) (now (pages .entry)) (now (backups .entry)) (now (logs .entry)) (now (work .entry))) 0 (r .outcome) (r .state .core) (worldOf (now (anchor .entry)) (now (pages .entry)) (now (backups .entry)) (now (logs .entry)) (now (work .entry))) ⌝ }
+{
     let called = store::checkpoints::checkpoint_begin(state, anchor, pages, backups, logs, work);
-    let answer = called.answer;
-    let state = called.state;
-    let outcome = shown(answer, 0);
-    Done { outcome, state }
+    settled(called, 0)
 }
 
 pub fn run_copy(
@@ -25,7 +27,9 @@ pub fn run_copy(
     backups: &mut [u64],
     logs: &[u64],
     work: &mut [u64],
-) -> Done {
+) -> Done
+    ensures { λ r. ⌜ Shows (checkpointStep 18446744073709551615) (state .core) (worldOf (now (anchor .entry)) (now (pages .entry)) (now (backups .entry)) (now (logs .entry)) (now (work .entry))) 0 (r .outcome) (r .state .core) (worldOf (now (anchor .entry)) (now (pages .entry)) (now (backups .exit)) (now (logs .entry)) (now (work .exit))) ⌝ }
+{
     let mut budget = u64::MAX;
     let called = store::checkpoints::checkpoint_step(
         state,
@@ -36,10 +40,7 @@ pub fn run_copy(
         work,
         &mut budget,
     );
-    let answer = called.answer;
-    let state = called.state;
-    let outcome = shown(answer, 0);
-    Done { outcome, state }
+    settled(called, 0)
 }
 
 pub fn run_close(
@@ -49,7 +50,9 @@ pub fn run_close(
     backups: &[u64],
     logs: &mut [u64],
     work: &[u64],
-) -> Done {
+) -> Done
+    ensures { λ r. ⌜ Shows (checkpointEnd 18446744073709551615) (state .core) (worldOf (now (anchor .entry)) (now (pages .entry)) (now (backups .entry)) (now (logs .entry)) (now (work .entry))) 0 (r .outcome) (r .state .core) (worldOf (now (anchor .exit)) (now (pages .entry)) (now (backups .entry)) (now (logs .exit)) (now (work .entry))) ⌝ }
+{
     let mut budget = u64::MAX;
     let called = store::checkpoints::checkpoint_end(
         state,
@@ -60,8 +63,5 @@ pub fn run_close(
         work,
         &mut budget,
     );
-    let answer = called.answer;
-    let state = called.state;
-    let outcome = shown(answer, 0);
-    Done { outcome, state }
+    settled(called, 0)
 }

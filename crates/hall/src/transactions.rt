@@ -1,8 +1,15 @@
 // The commands of a transaction, and get.
 use crate::outcome::Done;
+use crate::outcome::settled;
 use crate::outcome::shown;
 use crate::outcome::value_of;
 use store::State;
+ghost use mathlib.Core.Path.{_≡_};
+ghost use mathlib.Core.List.{[], _∷_};
+ghost use lib.Bits.{bitXor};
+ghost use Rattle.model.specs.World.{worldOf};
+ghost use Rattle.model.specs.Call.{begin, update, read, commit, abort, resultOf};
+ghost use Rattle.hall.specs.Shown.{valueIn, slotWord, Shows};
 
 pub fn run_begin(
     state: State,
@@ -11,12 +18,13 @@ pub fn run_begin(
     backups: &[u64],
     logs: &[u64],
     work: &[u64],
-) -> Done {
+) -> Done
+    ensures { λ r. ⌜ Shows begin (state .core) (worldOf (now (anchor .entry)) (now (pages .entry)) (now (backups .entry)) (now (logs .entry)) (now (work .entry))) (valueIn (resultOf begin (state .core) (worldOf (now (anchor .entry)) (now (pages .entry)) (now (backups .entry)) (now (logs .entry)) (now (work .entry))) .answer)) (r .outcome) (r .state .core) (worldOf (now (anchor .entry)) (now (pages .entry)) (now (backups .entry)) (now (logs .entry)) (now (work .entry))) ⌝ }
+{
     let called = store::transactions::begin(state, anchor, pages, backups, logs, work);
     let answer = called.answer;
-    let state = called.state;
-    let outcome = shown(answer, value_of(answer));
-    Done { outcome, state }
+    let value = value_of(answer);
+    settled(called, value)
 }
 
 // The word of a one-word slot as its reader sees it; 0 where the read is refused.
@@ -30,7 +38,9 @@ fn slot_word(
     backups: &[u64],
     logs: &[u64],
     work: &[u64],
-) -> u64 {
+) -> u64
+    ensures { λ r. ⌜ r ≡ slotWord (state .core) (worldOf (now (anchor .entry)) (now (pages .entry)) (now (backups .entry)) (now (logs .entry)) (now (work .entry))) reader page slot ⌝ }
+{
     let words = store::transactions::read(
         state,
         reader,
@@ -60,7 +70,9 @@ pub fn run_set(
     backups: &[u64],
     logs: &mut [u64],
     work: &mut [u64],
-) -> Done {
+) -> Done
+    ensures { λ r. ⌜ Shows (update number page slot (value ∷ []) 18446744073709551615) (state .core) (worldOf (now (anchor .entry)) (now (pages .entry)) (now (backups .entry)) (now (logs .entry)) (now (work .entry))) (bitXor (slotWord (state .core) (worldOf (now (anchor .entry)) (now (pages .entry)) (now (backups .entry)) (now (logs .entry)) (now (work .entry))) number page slot) value) (r .outcome) (r .state .core) (worldOf (now (anchor .entry)) (now (pages .exit)) (now (backups .entry)) (now (logs .exit)) (now (work .exit))) ⌝ }
+{
     let before = slot_word(
         state,
         number,
@@ -87,10 +99,7 @@ pub fn run_set(
         work,
         &mut budget,
     );
-    let answer = called.answer;
-    let state = called.state;
-    let outcome = shown(answer, before ^ value);
-    Done { outcome, state }
+    settled(called, before ^ value)
 }
 
 pub fn run_commit(
@@ -102,7 +111,9 @@ pub fn run_commit(
     backups: &[u64],
     logs: &mut [u64],
     work: &mut [u64],
-) -> Done {
+) -> Done
+    ensures { λ r. ⌜ Shows (commit number allowance) (state .core) (worldOf (now (anchor .entry)) (now (pages .entry)) (now (backups .entry)) (now (logs .entry)) (now (work .entry))) 0 (r .outcome) (r .state .core) (worldOf (now (anchor .entry)) (now (pages .entry)) (now (backups .entry)) (now (logs .exit)) (now (work .exit))) ⌝ }
+{
     let mut budget = allowance;
     let called = store::transactions::commit(
         state,
@@ -114,10 +125,7 @@ pub fn run_commit(
         work,
         &mut budget,
     );
-    let answer = called.answer;
-    let state = called.state;
-    let outcome = shown(answer, 0);
-    Done { outcome, state }
+    settled(called, 0)
 }
 
 pub fn run_abort(
@@ -128,7 +136,9 @@ pub fn run_abort(
     backups: &[u64],
     logs: &mut [u64],
     work: &mut [u64],
-) -> Done {
+) -> Done
+    ensures { λ r. ⌜ Shows (abort number 18446744073709551615) (state .core) (worldOf (now (anchor .entry)) (now (pages .entry)) (now (backups .entry)) (now (logs .entry)) (now (work .entry))) 0 (r .outcome) (r .state .core) (worldOf (now (anchor .entry)) (now (pages .exit)) (now (backups .entry)) (now (logs .exit)) (now (work .exit))) ⌝ }
+{
     let mut budget = u64::MAX;
     let called = store::transactions::abort(
         state,
@@ -140,10 +150,7 @@ pub fn run_abort(
         work,
         &mut budget,
     );
-    let answer = called.answer;
-    let state = called.state;
-    let outcome = shown(answer, 0);
-    Done { outcome, state }
+    settled(called, 0)
 }
 
 // Reader 0 has no transaction.
@@ -156,7 +163,9 @@ pub fn run_get(
     backups: &[u64],
     logs: &[u64],
     work: &[u64],
-) -> Done {
+) -> Done
+    ensures { λ r. ⌜ Shows (read 0 page slot) (state .core) (worldOf (now (anchor .entry)) (now (pages .entry)) (now (backups .entry)) (now (logs .entry)) (now (work .entry))) (slotWord (state .core) (worldOf (now (anchor .entry)) (now (pages .entry)) (now (backups .entry)) (now (logs .entry)) (now (work .entry))) 0 page slot) (r .outcome) (r .state .core) (worldOf (now (anchor .entry)) (now (pages .entry)) (now (backups .entry)) (now (logs .entry)) (now (work .entry))) ⌝ }
+{
     let word = slot_word(state, 0, page, slot, anchor, pages, backups, logs, work);
     let answer = store::transactions::read_answer(
         state,
