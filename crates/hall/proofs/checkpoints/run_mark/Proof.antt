@@ -1,0 +1,17 @@
+-- `hall::checkpoints::run_mark` meets its contract: the line shows what the call gives.
+use borrow.Author.Needs.{needs}
+use Rattle.hall.proofs.Showing.{shows}
+use Rattle.hall.proofs.checkpoints.run_mark.Statement.{statement}
+use Rattle.hall.proofs.checkpoints.run_mark.Tie as tie
+
+checkpoint-begin-requires : tie.Need-checkpoint-begin-requires
+checkpoint-begin-requires c κs = search needs
+
+settled-requires : tie.Need-settled-requires
+settled-requires c κs = search needs
+
+returns : tie.Need-returns
+returns c = shows _ _ _ _ _ _ _ (c .before .checkpoint-begin .ensures .0) (c .settled .ensures .1) 0 (c .settled .ensures .0)
+
+pub run-mark-spec : {M : Type 1} → statement M
+run-mark-spec = tie.close (tie.spec checkpoint-begin-requires settled-requires returns)

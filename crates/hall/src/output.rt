@@ -1,0 +1,68 @@
+// The output: lines gather in a buffer, which is written when the next line might not fit.
+use crate::outcome::OTHER;
+use crate::outcome::Outcome;
+use libc::STDOUT_FILENO;
+use lines::text::put_line;
+use lines::text::put_other;
+ghost use mathlib.Core.Path.{_≡_};
+ghost use Prim.Native.Nat.{_≤_};
+ghost use lib.ListN.{length};
+
+// The bytes of a line in a buffer are at most these.
+pub const LINE: usize = 84;
+
+// Writes out what has gathered.
+pub fn flush(out: &[u8], fill: usize) {
+    if fill <= out.len() {
+        io::write_all(STDOUT_FILENO, &out[..fill]);
+    }
+}
+
+// Adds a text, if it fits; answers the new fill.
+pub fn add(out: &mut [u8], fill: usize, text: &[u8]) -> usize {
+    let room = out.len();
+    if room < fill {
+        return fill;
+    }
+    if room - fill < text.len() {
+        return fill;
+    }
+    let n = text.len();
+    let mut i = 0;
+    while i < n {
+        out[fill + i] = text[i];
+        i += 1;
+    }
+    fill + n
+}
+
+// Makes room for a line.
+fn with_room(out: &[u8], fill: usize) -> usize {
+    if fill <= out.len() {
+        if LINE <= out.len() - fill {
+            return fill;
+        }
+    }
+    flush(out, fill);
+    0
+}
+
+// The line as text, at the end of the array.
+fn text_of(text: &mut [u8], line: u64, outcome: Outcome) -> usize
+    requires { ⌜ 84 ≤ length (now text) ⌝ }
+    ensures { λ r. ⌜ r ≤ length (now (text .entry)) ⌝ }
+{
+    let answer = outcome.answer;
+    if answer == OTHER {
+        return put_other(text, line);
+    }
+    put_line(text, line, answer, outcome.stores, outcome.value)
+}
+
+// Adds an outcome's line; answers the new fill.
+pub fn add_line(out: &mut [u8], fill: usize, line: u64, outcome: Outcome) -> usize {
+    let mut text = [0u8; 84];
+    let at = text_of(&mut text, line, outcome);
+    let free = with_room(out, fill);
+    add(out, free, &text[at..])
+}
