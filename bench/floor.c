@@ -11,6 +11,7 @@ static uint64_t anchor[148], backups[2 * WORDS], logs[DISKS * (RING + 1)];
 
 // The memory, which it takes.
 static uint64_t memory[WORDS], owners[WORDS], buffers[DISKS][BUFFER], copies[PAGES];
+static uint64_t heads[DISKS];  // the tails, as indices of the rings
 static uint64_t starts[DISKS], tails[DISKS], fills[DISKS], ends[DISKS], reserved[DISKS];
 static uint64_t epoch, next_number, stores;
 
@@ -25,12 +26,24 @@ static uint64_t pages, slots, width, disks, ring, page_words, all_words;
 
 static inline uint64_t *disk_of(uint64_t disk) { return logs + disk * (ring + 1); }
 
+// The index in the ring n words after `at`.
+static inline uint64_t after(uint64_t at, uint64_t n) { return at + n < ring ? at + n : at + n - ring; }
+
+// The words of the record at an index, in one piece.
+static inline const uint64_t *record_at(const uint64_t *words, uint64_t at, uint64_t *piece) {
+    uint64_t n = 3 + width;
+    if (at + n <= ring) return words + at;
+    for (uint64_t k = 0; k < n; k++) piece[k] = words[after(at, k)];
+    return piece;
+}
+
 static void flush(uint64_t disk) {
     uint64_t n = fills[disk], *tail = disk_of(disk), *words = tail + 1;
     if (n == 0) return;
-    uint64_t at = tails[disk] % ring, before = ring - at < n ? ring - at : n;
+    uint64_t at = heads[disk], before = ring - at < n ? ring - at : n;
     memcpy(words + at, buffers[disk], before * 8);
-    memcpy(words, buffers[disk] + before, (n - before) * 8);
+    if (before < n) memcpy(words, buffers[disk] + before, (n - before) * 8);
+    heads[disk] = after(at, n);
     tails[disk] += n;
     *tail = tails[disk];
     fills[disk] = 0;
@@ -165,50 +178,54 @@ static void checkpoint(void) {
     stores += all_words + disks + 1;
 }
 
+static inline uint64_t words_of(uint64_t head_word) { return head_word % 8 < COMMIT ? 3 + width : 2; }
+
 // Is a transaction closed from a position on? `until` is where its close was found.
-static bool closed_from(uint64_t disk, uint64_t p, uint64_t number, uint64_t *until) {
+static bool closed_from(uint64_t disk, uint64_t p, uint64_t at, uint64_t number, uint64_t *until) {
     const uint64_t *words = disk_of(disk) + 1;
-    for (; p < tails[disk]; p += words[p % ring] % 8 < COMMIT ? 3 + width : 2)
-        if (words[p % ring] % 8 >= COMMIT && words[(p + 1) % ring] == number) return *until = p, true;
+    for (uint64_t n; p < tails[disk]; p += n, at = after(at, n)) {
+        uint64_t w = words[at];
+        n = words_of(w);
+        if (w % 8 >= COMMIT && words[after(at, 1)] == number) return *until = p, true;
+    }
     return false;
 }
 
 // Replays a disk's retained log; answers its records. What was found of a transaction holds for its next records too, up to its close.
 static uint64_t replay_log(uint64_t disk) {
     const uint64_t *words = disk_of(disk) + 1;
-    uint64_t records = 0, known = 0, until = 0;
+    uint64_t records = 0, known = 0, until = 0, at = starts[disk] % ring, piece[35];
     bool closed = false;
-    for (uint64_t p = starts[disk], step; p < tails[disk]; p += step, records++) {
-        uint64_t at = p % ring, w = words[at];
-        step = 2;
+    for (uint64_t p = starts[disk], n; p < tails[disk]; p += n, at = after(at, n), records++) {
+        const uint64_t *r = record_at(words, at, piece);
+        uint64_t w = r[0], number = r[1];
+        n = words_of(w);
         if (w % 8 >= COMMIT) continue;
-        step = 3 + width;
-        uint64_t number = words[(p + 1) % ring], copy = words[(p + 2) % ring];
         if (number != known || p > until) {
-            closed = closed_from(disk, p + step, number, &until);
+            closed = closed_from(disk, p + n, after(at, n), number, &until);
             if (!closed) until = tails[disk];
             known = number;
         }
-        if (closed == (copy < epoch)) continue;
+        if (closed == (r[2] < epoch)) continue;
         uint64_t *target = memory + w / 8 % 64 * page_words + w / 512 % 128 * width;
-        if (at + step <= ring)
-            for (uint64_t k = 0; k < width; k++) target[k] ^= words[at + 3 + k];
-        else
-            for (uint64_t k = 0; k < width; k++) target[k] ^= words[(p + 3 + k) % ring];
+        for (uint64_t k = 0; k < width; k++) target[k] ^= r[3 + k];
     }
     return records;
+}
+
+static bool well_formed(uint64_t w, uint64_t number) {
+    if (w % 8 > ABORT || number == 0) return false;
+    if (w % 8 >= COMMIT) return w / 8 == 0;
+    return w / 8 % 64 < pages && w / 512 % 128 < slots && w / 65536 == width;
 }
 
 // Every retained record is well formed: what restart begin checks.
 static void check_log(uint64_t disk) {
     const uint64_t *words = disk_of(disk) + 1;
-    uint64_t p = starts[disk];
-    while (p < tails[disk]) {
-        uint64_t w = words[p % ring], kind = w % 8;
-        if (kind > ABORT || words[(p + 1) % ring] == 0) die("malformed record");
-        if (kind < COMMIT && (w / 8 % 64 >= pages || w / 512 % 128 >= slots || w / 65536 != width)) die("malformed record");
-        if (kind >= COMMIT && w / 8) die("malformed record");
-        p += kind < COMMIT ? 3 + width : 2;
+    uint64_t p = starts[disk], at = p % ring, n;
+    for (; p < tails[disk]; p += n, at = after(at, n)) {
+        n = words_of(words[at]);
+        if (!well_formed(words[at], words[after(at, 1)])) die("malformed record");
     }
     if (p != tails[disk]) die("malformed record");
 }
@@ -242,6 +259,7 @@ int main(void) {
     plan p = read_plan();
     pages = p.pages, slots = p.slots, width = p.width, disks = p.disks, ring = p.ring;
     page_words = slots * width, all_words = pages * page_words;
+    memset(logs, 1, sizeof logs);  // all of the devices is there from the start, as in the proved store's program
     format();
     stores = 0;
     uint64_t r = SEED, aborts = 0, checkpoints = 0, value[32];

@@ -85,5 +85,6 @@ int main(int count, char **argument) {
     }
     if (p.restarts) line("after", digest(memory, p.pages * p.slots * p.width));
     mdb_env_close(env);
+    line("file", file_bytes(argument[1]));
     unlink(argument[1]);
 }

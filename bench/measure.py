@@ -137,6 +137,14 @@ def peak_kilobytes(name, n=20_000):
     return int(said(name, n, before=["/usr/bin/time", "-f", "%M"]).split()[-1])
 
 
+def device_kilobytes(name, results):
+    """What would have to lie on devices: anchor, backups and logs, or the file."""
+    if name in LOGGING:
+        words = SIZES["pages"] * SIZES["slots"] * SIZES["width"]
+        return 8 * (148 + 2 * words + SIZES["disks"] * (SIZES["ring"] + 1)) / 1024
+    return results[name]["file"] / 1024
+
+
 def stores(name, results):
     """Words stored for a transaction: by the devices' own count, or by what the process wrote to its file."""
     numbers = results[name]
@@ -185,6 +193,8 @@ def main_table():
     transaction, results = transaction_times(ALL, TRANSACTIONS, ROUNDS)
     restart, restarted = restart_times(ALL, RETAINED, ROUNDS)
     numbers, records = results["proved"], restarted["proved"]["records"]
+    peak = {name: peak_kilobytes(name) for name in ALL}
+    devices = {name: device_kilobytes(name, results) for name in ALL}  # in memory, but for SQLite's file, which is not mapped
     updates, width = 3 * numbers["transactions"], SIZES["width"]
     print(f"{numbers['transactions']:,} transactions, of which {numbers['aborts']:,} aborted, {numbers['checkpoints']:,} checkpoints; "
           f"a restart takes {records:,} records and {SIZES['pages']} pages. Contents equal in all runs.\n")
@@ -195,7 +205,9 @@ def main_table():
         figure("a restart, µs", {name: t * 1e6 for name, (t, _) in restart.items()}),
         figure("stores for a transaction, words", {name: stores(name, results) for name in ALL}),
         figure("bytes copied for a call", {name: copied_bytes(name) for name in ALL}),
-        figure("peak memory, KB", {name: peak_kilobytes(name) for name in ALL}),
+        figure("peak memory, KB", peak),
+        figure("devices or file, KB", devices),
+        figure("peak memory without these, KB", {name: peak[name] - (name != "SQLite") * devices[name] for name in ALL}),
         ["spread of transaction runs", *(percent(transaction[name][1]) for name in ALL), "", "", ""],
         ["spread of restart runs", *(percent(restart[name][1]) for name in ALL), "", "", ""],
     ])

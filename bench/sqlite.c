@@ -95,5 +95,6 @@ int main(int count, char **argument) {
     }
     if (p.restarts) line("after", digest(memory, p.pages * p.slots * p.width));
     close_store();
+    line("file", file_bytes(argument[1]));
     unlink(argument[1]);
 }

@@ -7,6 +7,7 @@
 #include <stdint.h>
 #include <stdio.h>
 #include <stdlib.h>
+#include <sys/stat.h>
 
 #define SEED UINT64_C(88172645463325252)
 
@@ -68,5 +69,11 @@ static inline uint64_t written_bytes(void) {
         if (name[0] == 'w' && name[1] == 'c') found = number;
     fclose(f);
     return found;
+}
+
+// Bytes that a file takes up.
+static inline uint64_t file_bytes(const char *path) {
+    struct stat s;
+    return stat(path, &s) ? 0 : (uint64_t)s.st_blocks * 512;
 }
 #endif
