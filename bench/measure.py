@@ -1,10 +1,12 @@
 """Runs the contestants by turns, compares what they print, and prints tables of medians and ratios.
 
 A time is processor time, user and system, of a whole process; a transaction's is the difference between a run with many and a run
-with none, a restart's that between a run with many restarts and a run with one. `--quick` makes fewer and shorter runs."""
+with none, a restart's that between a run with many restarts and a run with one. `--quick` makes fewer and shorter runs; `--write`
+puts the tables into docs/BENCHMARK.md too."""
 import os
 import platform
 import re
+import shutil
 import statistics
 import subprocess
 import sys
@@ -28,6 +30,14 @@ COMMANDS = {
 }
 ALL = list(COMMANDS)
 LOGGING = ["proved", "C"]  # the two that have 01's devices, and so must agree in every count
+
+
+SAID = []
+
+
+def say(line):
+    SAID.append(line)
+    print(line, flush=True)
 
 
 def stdin_of(sizes, transactions, restarts):
@@ -133,6 +143,18 @@ def instructions(name, n=2_000):
     return (count(n) - count(0)) / n
 
 
+def hot_functions(transactions, restarts, most=8):
+    """The functions that take most of the proved store's instructions, each with its own share."""
+    with tempfile.TemporaryDirectory() as folder:
+        profile = folder + "/profile"
+        tool = ["valgrind", "--tool=callgrind", "--callgrind-out-file=" + profile, "--main-stacksize=8388608"]
+        subprocess.run([*tool, *COMMANDS["proved"]], input=stdin_of(SIZES, transactions, restarts), capture_output=True, text=True,
+                       check=True)
+        text = subprocess.run(["callgrind_annotate", profile], capture_output=True, text=True, check=True).stdout
+    rows = re.findall(r"^ *[\d,]+ \( *([\d.]+)%\)  [^:\n]*:(\S+)", text, re.M)
+    return [[function, f"{float(share):.0f} %"] for share, function in rows[:most]]
+
+
 def peak_kilobytes(name, n=20_000):
     return int(said(name, n, before=["/usr/bin/time", "-f", "%M"]).split()[-1])
 
@@ -171,11 +193,11 @@ def shown(number):
 
 
 def table(heading, rows):
-    print("| " + " | ".join(heading) + " |")
-    print("|---|" + "---:|" * (len(heading) - 1))
+    say("| " + " | ".join(heading) + " |")
+    say("|---|" + "---:|" * (len(heading) - 1))
     for row in rows:
-        print("| " + " | ".join(cell if isinstance(cell, str) else shown(cell) for cell in row) + " |")
-    print()
+        say("| " + " | ".join(cell if isinstance(cell, str) else shown(cell) for cell in row) + " |")
+    say("")
 
 
 def figure(label, values):
@@ -196,7 +218,7 @@ def main_table():
     peak = {name: peak_kilobytes(name) for name in ALL}
     devices = {name: device_kilobytes(name, results) for name in ALL}  # in memory, but for SQLite's file, which is not mapped
     updates, width = 3 * numbers["transactions"], SIZES["width"]
-    print(f"{numbers['transactions']:,} transactions, of which {numbers['aborts']:,} aborted, {numbers['checkpoints']:,} checkpoints; "
+    say(f"{numbers['transactions']:,} transactions, of which {numbers['aborts']:,} aborted, {numbers['checkpoints']:,} checkpoints; "
           f"a restart takes {records:,} records and {SIZES['pages']} pages. Contents equal in all runs.\n")
     table(["Figure", *ALL, *(f"proved / {name}" for name in ALL[1:])], [
         figure("a transaction, ns", {name: t * 1e9 for name, (t, _) in transaction.items()}),
@@ -229,7 +251,7 @@ def width_series():
         updates = 3 * SERIES_TRANSACTIONS
         rows.append([str(width), *(transaction[name][0] * 1e9 for name in ALL), *record, results["proved"]["words"] / updates,
                      physical_words(results["proved"], width) / updates])
-    print("By the length of a slot (pages of 128 words):\n")
+    say("By the length of a slot (pages of 128 words):\n")
     table(["words in a slot", *(f"{name}, ns a transaction" for name in ALL), *(f"{name}, ns a restarted record" for name in LOGGING),
            "log words an update", "with images"], rows)
 
@@ -239,7 +261,7 @@ def disk_series():
     for disks in [1, 2, 4, 8]:
         transaction, _ = transaction_times(LOGGING, SERIES_TRANSACTIONS, SERIES_ROUNDS, {**SIZES, "disks": disks})
         rows.append([str(disks), *(transaction[name][0] * 1e9 for name in LOGGING)])
-    print("By the number of disks:\n")
+    say("By the number of disks:\n")
     table(["disks", *(f"{name}, ns a transaction" for name in LOGGING)], rows)
 
 
@@ -250,9 +272,24 @@ def log_series():
         records = restarted["proved"]["records"]
         rows.append([f"{restarted['proved']['words']:,}", f"{records:,}", *(restart[name][0] * 1e6 for name in LOGGING),
                      *(restart[name][0] / records * 1e9 for name in LOGGING)])
-    print("By the length of the retained log at the restart:\n")
+    say("By the length of the retained log at the restart:\n")
     table(["words retained", "records", *(f"{name}, µs a restart" for name in LOGGING),
            *(f"{name}, ns a record" for name in LOGGING)], rows)
+
+
+def profile():
+    say("Where the proved store's instructions go, by function: a run of transactions, and a run with many restarts.\n")
+    table(["transactions", "share"], hot_functions(4_000, 0))
+    table(["restarts", "share"], hot_functions(RETAINED, 10))
+
+
+def write(path="docs/BENCHMARK.md"):
+    """Puts what was said between the two marks of the page."""
+    first, last = "<!-- the output of bench/run -->\n", "<!-- end of the output -->"
+    text = open(path).read()
+    before, rest = text.split(first)
+    _, after = rest.split(last)
+    open(path, "w").write(before + first + "\n" + "\n".join(SAID).strip() + "\n\n" + last + after)
 
 
 def processor():
@@ -260,9 +297,18 @@ def processor():
     return found.group(1) if found else platform.machine()
 
 
-print(f"{processor()}, {os.cpu_count()} processors; medians of {ROUNDS} runs by turns (series: {SERIES_ROUNDS}).\n")
-main_table()
-width_series()
-disk_series()
-log_series()
-os.rmdir(ROOM)
+def main():
+    try:
+        say(f"{processor()}, {os.cpu_count()} processors; medians of {ROUNDS} runs by turns (series: {SERIES_ROUNDS}).\n")
+        main_table()
+        width_series()
+        disk_series()
+        log_series()
+        profile()
+    finally:
+        shutil.rmtree(ROOM)
+    if "--write" in sys.argv:
+        write()
+
+
+main()

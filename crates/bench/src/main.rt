@@ -1,9 +1,12 @@
 // The benchmark's program: a stream of transactions on a formatted store, a power failure, restarts. It reads its sizes from standard
 // input and prints counts and digests; it has no clock, bench/run times it.
+mod answers;
+mod copying;
 mod input;
 mod measure;
 mod restarts;
 mod serve;
+mod setup;
 mod stream;
 
 use crate::input::Plan;
@@ -13,8 +16,8 @@ use crate::measure::line;
 use crate::measure::log_words;
 use crate::restarts::restarted;
 use crate::serve::Tally;
-use crate::serve::formatted;
 use crate::serve::served;
+use crate::setup::formatted;
 ghost use Prim.Native.Nat.{_≤_};
 
 // A formatted store, and the transactions on it.

@@ -1,6 +1,6 @@
 // The restarts after a power failure.
+use crate::answers::is_refused;
 use crate::input::Plan;
-use crate::serve::is_refused;
 use std::num::wrapping_add_u64;
 use store::State;
 use store::restarts::restart_begin;

@@ -1,4 +1,7 @@
 // The transactions of the stream, with a checkpoint when a disk has no room.
+use crate::answers::is_refused;
+use crate::answers::value_of;
+use crate::copying::checkpointed;
 use crate::input::Plan;
 use crate::stream::SEED;
 use crate::stream::Turn;
@@ -12,130 +15,10 @@ use std::num::wrapping_add_u64;
 use std::num::wrapping_sub_u64;
 use store::Called;
 use store::State;
-use store::checkpoints::checkpoint_begin;
-use store::checkpoints::checkpoint_end;
-use store::checkpoints::checkpoint_step;
 use store::transactions::abort;
 use store::transactions::begin;
 use store::transactions::commit;
 use store::transactions::update;
-
-pub fn formatted(
-    plan: Plan,
-    anchor: &mut [u64],
-    pages: &mut [u64],
-    backups: &mut [u64],
-    logs: &mut [u64],
-    work: &mut [u64],
-) -> State {
-    let mut slots = [0u64; 64];
-    let mut widths = [0u64; 64];
-    set_entries(&mut slots, plan.pages, plan.slots);
-    set_entries(&mut widths, plan.pages, plan.width);
-    let mut budget: u64 = 18446744073709551615;
-    let done = store::formats::format(
-        store::new_state(),
-        plan.pages,
-        plan.disks,
-        plan.ring,
-        slots,
-        widths,
-        anchor,
-        pages,
-        backups,
-        logs,
-        work,
-        &mut budget,
-    );
-    done.state
-}
-
-fn entry(page: usize, pages: u64, value: u64) -> u64 {
-    if (page as u64) < pages { value } else { 0 }
-}
-
-// An entry for each page; 0 from the number of pages on.
-fn set_entries(entries: &mut [u64], pages: u64, value: u64) {
-    let mut i = 0;
-    while i < entries.len() {
-        entries[i] = entry(i, pages, value);
-        i += 1;
-    }
-}
-
-fn value_of(answer: Answer) -> u64 {
-    match answer {
-        Answer::Finished { stores: _, value } => value,
-        Answer::Refused {
-            number: _,
-            first: _,
-            second: _,
-        } => 0,
-        Answer::Interrupted { stores: _ } => 0,
-    }
-}
-
-pub fn is_refused(answer: Answer) -> bool {
-    match answer {
-        Answer::Finished {
-            stores: _,
-            value: _,
-        } => false,
-        Answer::Refused {
-            number: _,
-            first: _,
-            second: _,
-        } => true,
-        Answer::Interrupted { stores: _ } => true,
-    }
-}
-
-// Every page copied.
-fn copied(
-    state: State,
-    count: u64,
-    anchor: &[u64],
-    pages: &[u64],
-    backups: &mut [u64],
-    logs: &[u64],
-    work: &mut [u64],
-    budget: &mut u64,
-) -> State {
-    let mut s = state;
-    let mut i: u64 = 0;
-    while i < count {
-        i += 1;
-        let done = checkpoint_step(s, anchor, pages, backups, logs, work, budget);
-        s = done.state;
-    }
-    s
-}
-
-// A checkpoint.
-fn checkpointed(
-    state: State,
-    count: u64,
-    anchor: &mut [u64],
-    pages: &[u64],
-    backups: &mut [u64],
-    logs: &mut [u64],
-    work: &mut [u64],
-    budget: &mut u64,
-) -> State {
-    let begun = checkpoint_begin(state, anchor, pages, backups, logs, work);
-    let s = copied(
-        begun.state,
-        count,
-        anchor,
-        pages,
-        backups,
-        logs,
-        work,
-        budget,
-    );
-    let done = checkpoint_end(s, anchor, pages, backups, logs, work, budget);
-    done.state
-}
 
 // One call of the stream.
 fn call(

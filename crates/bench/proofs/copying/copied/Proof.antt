@@ -1,10 +1,10 @@
--- `bench::serve::copied` is safe and ends. Assumes nothing.
+-- `bench::copying::copied` is safe and ends. Assumes nothing.
 use Prim.Native.Nat.{_-_, _≤_}
 use mathlib.Core.Path.{_≡_}
 use lib.ListN.{length}
 use borrow.Author.Needs.{needs}
-use Rattle.bench.proofs.serve.copied.Statement.{statement}
-use Rattle.bench.proofs.serve.copied.Tie as tie
+use Rattle.bench.proofs.copying.copied.Statement.{statement}
+use Rattle.bench.proofs.copying.copied.Tie as tie
 
 abbrev Inv-loop : tie.InvT-loop
 Inv-loop count anchor pages backups₀ logs work₀ budget₀ s₀ i₀ backups work budget s i = (i ≤ count) × (length backups ≡ length backups₀) × (length work ≡ length work₀)

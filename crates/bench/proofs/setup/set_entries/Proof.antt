@@ -1,11 +1,11 @@
--- `bench::serve::set_entries` is safe and ends. Assumes nothing.
+-- `bench::setup::set_entries` is safe and ends. Assumes nothing.
 use Prim.Native.Nat.{_-_, _≤_}
 use mathlib.Core.Path.{_≡_}
 use lib.ListN.{length, length-set}
 use native.Mathlib.Omega.{arith}
 use borrow.Author.Needs.{needs}
-use Rattle.bench.proofs.serve.set_entries.Statement.{statement}
-use Rattle.bench.proofs.serve.set_entries.Tie as tie
+use Rattle.bench.proofs.setup.set_entries.Statement.{statement}
+use Rattle.bench.proofs.setup.set_entries.Tie as tie
 
 abbrev Inv-loop : tie.InvT-loop
 Inv-loop entries₀ pages value i₀ entries i = (i ≤ length entries) × (length entries ≡ length entries₀)
