@@ -1,0 +1,51 @@
+// A checkpoint, all three calls.
+use store::State;
+use store::checkpoints::checkpoint_begin;
+use store::checkpoints::checkpoint_end;
+use store::checkpoints::checkpoint_step;
+
+// Every page copied.
+fn copied(
+    state: State,
+    count: u64,
+    anchor: &[u64],
+    pages: &[u64],
+    backups: &mut [u64],
+    logs: &[u64],
+    work: &mut [u64],
+    budget: &mut u64,
+) -> State {
+    let mut s = state;
+    let mut i: u64 = 0;
+    while i < count {
+        i += 1;
+        let done = checkpoint_step(s, anchor, pages, backups, logs, work, budget);
+        s = done.state;
+    }
+    s
+}
+
+pub fn checkpointed(
+    state: State,
+    count: u64,
+    anchor: &mut [u64],
+    pages: &[u64],
+    backups: &mut [u64],
+    logs: &mut [u64],
+    work: &mut [u64],
+    budget: &mut u64,
+) -> State {
+    let begun = checkpoint_begin(state, anchor, pages, backups, logs, work);
+    let s = copied(
+        begun.state,
+        count,
+        anchor,
+        pages,
+        backups,
+        logs,
+        work,
+        budget,
+    );
+    let done = checkpoint_end(s, anchor, pages, backups, logs, work, budget);
+    done.state
+}

@@ -1,0 +1,130 @@
+// The restarts after a power failure.
+use crate::answers::is_refused;
+use crate::input::Plan;
+use std::num::wrapping_add_u64;
+use store::State;
+use store::restarts::restart_begin;
+use store::restarts::restart_end;
+use store::restarts::restart_step;
+
+// A restart under way, and the records of the logs that it took.
+struct Progress {
+    state: State,
+    records: u64,
+}
+
+// Steps of one source until one is refused: none remains. No source has more items than a ring has words and the store has pages.
+fn source_replayed(
+    plan: Plan,
+    state: State,
+    source: u64,
+    anchor: &[u64],
+    pages: &mut [u64],
+    backups: &[u64],
+    logs: &[u64],
+    work: &[u64],
+) -> Progress {
+    let most = wrapping_add_u64(plan.ring, plan.pages);
+    let mut s = state;
+    let mut taken: u64 = 0;
+    while taken < most {
+        let done = restart_step(s, source, anchor, pages, backups, logs, work);
+        s = done.state;
+        let answer = done.answer;
+        if is_refused(answer) {
+            return Progress {
+                state: s,
+                records: taken,
+            };
+        }
+        taken += 1;
+    }
+    Progress {
+        state: s,
+        records: taken,
+    }
+}
+
+// All logs, then the backup.
+fn all_replayed(
+    plan: Plan,
+    state: State,
+    anchor: &[u64],
+    pages: &mut [u64],
+    backups: &[u64],
+    logs: &[u64],
+    work: &[u64],
+) -> Progress {
+    let mut s = state;
+    let mut records: u64 = 0;
+    let mut d: u64 = 0;
+    while d < plan.disks {
+        let one = source_replayed(plan, s, d, anchor, pages, backups, logs, work);
+        s = one.state;
+        records = wrapping_add_u64(records, one.records);
+        d += 1;
+    }
+    let last = source_replayed(plan, s, d, anchor, pages, backups, logs, work);
+    let reached = last.state;
+    Progress {
+        state: reached,
+        records,
+    }
+}
+
+// A restart from a new state up to its end, which is not called.
+fn replayed(
+    plan: Plan,
+    anchor: &[u64],
+    pages: &mut [u64],
+    backups: &[u64],
+    logs: &[u64],
+    work: &[u64],
+) -> Progress {
+    let begun = restart_begin(store::new_state(), anchor, pages, backups, logs, work);
+    all_replayed(plan, begun.state, anchor, pages, backups, logs, work)
+}
+
+// Restarts that are not ended: an end empties the retained log.
+fn rehearsed(
+    plan: Plan,
+    anchor: &[u64],
+    pages: &mut [u64],
+    backups: &[u64],
+    logs: &[u64],
+    work: &[u64],
+) {
+    let mut i: u64 = 1;
+    while i < plan.restarts {
+        replayed(plan, anchor, pages, backups, logs, work);
+        i += 1;
+    }
+}
+
+// A restart with its end; answers its records.
+fn finished(
+    plan: Plan,
+    anchor: &mut [u64],
+    pages: &mut [u64],
+    backups: &mut [u64],
+    logs: &[u64],
+    work: &mut [u64],
+) -> u64 {
+    let last = replayed(plan, anchor, pages, backups, logs, work);
+    let mut budget: u64 = 18446744073709551615;
+    restart_end(last.state, anchor, pages, backups, logs, work, &mut budget);
+    last.records
+}
+
+// So many restarts, of which only the last is ended. Answers the records of one restart.
+pub fn restarted(
+    plan: Plan,
+    anchor: &mut [u64],
+    pages: &mut [u64],
+    backups: &mut [u64],
+    logs: &[u64],
+    work: &mut [u64],
+) -> u64 {
+    rehearsed(plan, anchor, pages, backups, logs, work);
+    finished(plan, anchor, pages, backups, logs, work)
+}
