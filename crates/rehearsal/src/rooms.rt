@@ -199,6 +199,13 @@ pub fn mark(rooms: &mut [u64], disks: u64) {
     }
 }
 
+// The same where a checkpoint's begin was taken.
+pub fn mark_if(rooms: &mut [u64], disks: u64, taken: bool) {
+    if taken {
+        mark(rooms, disks);
+    }
+}
+
 // A checkpoint's end moves each start to the remembered end, or to the first record of a transaction that is still open.
 pub fn move_starts(rooms: &mut [u64], disks: u64) {
     let mut left = disks;
@@ -206,6 +213,13 @@ pub fn move_starts(rooms: &mut [u64], disks: u64) {
         left -= 1;
         let start = new_start(rooms, left);
         put(rooms, start_at(left), start);
+    }
+}
+
+// The same where the checkpoint's end was taken.
+pub fn move_starts_if(rooms: &mut [u64], disks: u64, taken: bool) {
+    if taken {
+        move_starts(rooms, disks);
     }
 }
 

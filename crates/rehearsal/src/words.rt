@@ -50,6 +50,15 @@ pub fn copy(target: &mut [u64], source: &[u64], n: u64) {
     }
 }
 
+// Sets the first n words to 0.
+pub fn wipe(target: &mut [u64], n: u64) {
+    let mut left = n;
+    while left > 0 {
+        left -= 1;
+        put(target, left, 0);
+    }
+}
+
 // The place of a word in a list, the list's length where it has none.
 pub fn find(list: &[u64], n: u64, x: u64) -> u64 {
     let mut i = 0;
