@@ -40,6 +40,7 @@ use denote.Triple.Walked.{says, Stays, stay-ref, stay-none, walkOf, AllGo, goes-
 use denote.Exit.{yes}
 use Rattle.lines.specs.Counting.{counted}
 use Rattle.lines.specs.declared.tally.Tally.{Tally}
+use Rattle.lines.proofs.Tallies.{mach, vals, Fit, free, typed}
 use Rattle.lines.proofs.tally.Tally as T
 use Rattle.lines.proofs.tally.Tally.Laws as T′
 use Rattle.lines.proofs.tally.with_line as with-line
@@ -53,12 +54,6 @@ use Rattle.lines.proofs.tally.count.Code as code
 
 abbrev stayed : Stays (count.ended .signature .params) (count.ended .kept)
 stayed = (stay-ref (0 ∷ []) tt (plain (λ _. T.the-row)), (stay-none (λ _. u64) yes, tt))
-
-abbrev vals : Tally → List Val
-vals = LL.vals T.the-type T′.the-laws
-
-abbrev mach : Tally → Val
-mach t = LL.tuple-val T.the-type T′.the-laws (T.the-type .to t)
 
 module _ {M : Type 1} (𝓤 : URA M) (H : Heap 𝓤) (A : Atoms 𝓤) (at-mem : Memory → SProp 𝓤) (run : Routine → Fun 𝓤) where
   -- the contract that the proof cites, and what its `ensures` says
@@ -92,10 +87,10 @@ module _ {M : Type 1} (𝓤 : URA M) (H : Heap 𝓤) (A : Atoms 𝓤) (W : Given
   abbrev to-with-line : WithLine 𝓤 H A at-mem run .Ghost
   to-with-line = ((tt, tt, tt, (h, (n, tt)), (mach h ∷ [], (vint w64 n ∷ [], tt))), tt)
 
-  asked : n < 2 ^ 64 → Is T.the-row h (mach h ∷ []) → ent 𝓤 (emp 𝓤) (WithLine 𝓤 H A at-mem run .pre to-with-line)
+  asked : n < 2 ^ 64 → Fit h → ent 𝓤 (emp 𝓤) (WithLine 𝓤 H A at-mem run .pre to-with-line)
   asked fits is =
       qed W [] ∵ nothing ! $ owned ! u64 (Is u64) (uint-makes 𝓤 H A W w64) n _ (refl, fits) $ fjoin ! $
-      owned ! T.the-row (Is T.the-row) (LL.makes T.the-type T′.the-plain 𝓤 H A) h _ is $ fjoin ! $ nothing ! $ join ! $ frame ! $ done !
+      owned ! T.the-row (Is T.the-row) (free 𝓤 H A) h _ is $ fjoin ! $ nothing ! $ join ! $ frame ! $ done !
 
   module _ (C : Calls 𝓤 H) (Λ : Loops 𝓤 H) (fm : FmC 𝓤 H (W .laws) C) (known : Triple 𝓤 (C #lines·tally·with-line) (WithLine 𝓤 H A at-mem run)) where
     walk : ent 𝓤 (onEntry 𝓤 H A count.signature (κ, tt) (q, tt) x at) (WpFn 𝓤 H C Λ code.function (vptr b o ∷ vint w64 n ∷ []) Post)
@@ -108,15 +103,15 @@ module _ {M : Type 1} (𝓤 : URA M) (H : Heap 𝓤) (A : Atoms 𝓤) (W : Given
         move ! (10 ∷ 11 ∷ 12 ∷ []) $ opens ! tt T.the-row {h = h} b o (λ vs. spelt ! T.the-row (Is T.the-row) (shows 𝓤 H A T.the-row) vals (LL.tells T.the-type T′.the-laws) fullShare h vs b o $
         move ! (1 ∷ []) $ peeks ! T.the-row (Is T.the-row) (shows 𝓤 H A T.the-row) h (mach h ∷ []) (λ is. drop ! $
         -- [the tally's cell; the open borrow; obs; auth; _4; …; _3; …; _2; …; _1; …; room for _0; …]
-        assigns ! (of-opd ! (load ! (from ! (hop ! (look ! 10 refl) (stop !))) (look-raw ! 0 refl))) (from ! (stop !)) (init ! 4 refl (LL.lawful T.the-type T′.the-laws 𝓤 H A W .typed h _ is .0)) $
+        assigns ! (of-opd ! (load ! (from ! (hop ! (look ! 10 refl) (stop !))) (look-raw ! 0 refl))) (from ! (stop !)) (init ! 4 refl (typed 𝓤 H A W h _ is)) $
         use0 W (raw (WithLine 𝓤 H A at-mem run .pre to-with-line)) (asked (gn .1) is) $
         calls-at ! fm (WithLine 𝓤 H A at-mem run) known to-with-line (and-then ! (load ! (from ! (stop !)) (look ! 5 refl)) (and-then ! (load ! (from ! (stop !)) (look ! 9 refl)) (no-more !))) (λ v.
         use1 W (later (some (λ (r : Tally). (‵ ftrue ⊛ ‵ (T.the-row .own r (v ∷ []))) ⊛ raw (ensured 𝓤 H A with-line.ended (with-line.clauses 𝓤 H A at-mem run) tt (h, (n, tt)) tt r)))) (id⊢ 𝓤 _) $ await ! tt $ pick ! (λ r.
         split ! $ move ! (1 ∷ []) $ use1 W (raw (fact 𝓤 (r ≡ counted h n))) (told 𝓤 H A at-mem run h n r) $ heard ! (r ≡ counted h n) (λ e. split ! $ drop ! $
         peeks ! T.the-row (Is T.the-row) (shows 𝓤 H A T.the-row) r (v ∷ []) (λ is′.
         -- [what the new tally owns; the tally's cell; the open borrow; obs; auth; _4; …; _3; …; _2; …; _1; …; room for _0; …]
-        land ! (from ! (stop !)) (init ! 7 refl (LL.lawful T.the-type T′.the-laws 𝓤 H A W .typed r _ is′ .0)) $
-        assigns ! (of-opd ! (load ! (from ! (stop !)) (look ! 7 refl))) (from ! (hop ! (look ! 11 refl) (stop !))) (store-raw ! 1 refl (LL.lawful T.the-type T′.the-laws 𝓤 H A W .typed r _ is′ .0)) $
+        land ! (from ! (stop !)) (init ! 7 refl (typed 𝓤 H A W r _ is′)) $
+        assigns ! (of-opd ! (load ! (from ! (stop !)) (look ! 7 refl))) (from ! (hop ! (look ! 11 refl) (stop !))) (store-raw ! 1 refl (typed 𝓤 H A W r _ is′)) $
         assigns ! (of-opd ! (unit-lit !)) (from ! (stop !)) (init ! 13 refl (tt, tt)) $
         move ! (1 ∷ 0 ∷ []) $ closes ! tt T.the-row r (v ∷ []) b o $
         returns ! (look ! 11 refl) $ forget ! 3 refl $ forget ! 5 refl $ forget ! 7 refl $ forget ! 9 refl $ forget ! 11 refl $
