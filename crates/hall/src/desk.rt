@@ -7,8 +7,8 @@ use lines::partial::line_length;
 use lines::partial::read_piece;
 use lines::partial::start;
 use lines::tally::Tally;
+use lines::tally::after_line;
 use lines::tally::one_more;
-use lines::tally::with_line;
 use store::State;
 ghost use Prim.Native.Nat.{_≤_, _<_};
 ghost use lib.ListN.{length};
@@ -39,7 +39,7 @@ pub fn take_line(
     let outcome = done.outcome;
     let state = done.state;
     let line = one_more(desk.line);
-    let tally = with_line(desk.tally, outcome.answer);
+    let tally = after_line(desk.tally, outcome.answer);
     let fill = add_line(out, desk.fill, line, outcome);
     let partial = start();
     Desk {

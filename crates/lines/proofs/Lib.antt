@@ -1,4 +1,4 @@
--- The names of commands; what has been read of a line, one byte more of it, its end; a line in pieces; text.
+-- The names of commands; what has been read of a line, one byte more of it, its end; a line in pieces; text; a tally in memory.
 pub mod Names
 pub mod Rest
 pub mod Reading
@@ -6,3 +6,4 @@ pub mod Steps
 pub mod Ends
 pub mod Pieces
 pub mod Texts
+pub mod Tallies

@@ -16,7 +16,7 @@ pub fn one_more(n: u64) -> u64
 }
 
 // The tally with one line more, by its answer: 0 is taken, 16 is cut, any other number is refused.
-pub fn with_line(tally: Tally, answer: u64) -> Tally
+fn with_line(tally: Tally, answer: u64) -> Tally
     ensures { λ r. ⌜ r ≡ counted tally answer ⌝ }
 {
     if answer == 0 {
@@ -35,4 +35,21 @@ pub fn with_line(tally: Tally, answer: u64) -> Tally
         refused: one_more(tally.refused),
         ..tally
     }
+}
+
+// Adds a line to the tally that is lent.
+pub fn count(tally: &mut Tally, answer: u64)
+    ensures { λ _. ⌜ now (tally .exit) ≡ counted (now (tally .entry)) answer ⌝ }
+{
+    let next = with_line(*tally, answer);
+    *tally = next;
+}
+
+// The tally after a line. It lends its own copy to `count`, so that whoever calls it lends nothing.
+pub fn after_line(tally: Tally, answer: u64) -> Tally
+    ensures { λ r. ⌜ r ≡ counted tally answer ⌝ }
+{
+    let mut t = tally;
+    count(&mut t, answer);
+    t
 }
