@@ -35,7 +35,7 @@ use Rattle.frame.specs.declared.home.Home.{Home}
 use Rattle.frame.specs.Home.{homeOf, withDisk}
 use Rattle.frame.specs.Settle.{settled, Concludes}
 use Rattle.frame.proofs.Verdicts.{first-refused, first-accepted, task-settled}
-use Rattle.txn.specs.Tasks.{grown, Changes, replacing, Replaced}
+use Rattle.txn.specs.Tasks.{slotRows, grown, Changes, replacing, Replaced}
 use Rattle.txn.proofs.SlotBounds.{There, slot-there}
 use Rattle.txn.proofs.Differences.{difference-length}
 
@@ -58,24 +58,22 @@ module _ (c : Core) (w : World) (number page slot : ℕ) (value : List ℕ) wher
   abbrev roomThere : Bool
   roomThere = hasRoom c (2 * wordsOf updateKind (widthIn (c .sizes) page)) (diskOf c number)
 
+  pub slot-verdict : {missing opened wide locks room : Bool} → slotMissing (c .sizes) page slot ≡ missing
+      → isOpen (c .table) number ≡ opened → eqb (length value) (widthIn (c .sizes) page) ≡ wide → isLocked ≡ locks → roomThere ≡ room
+      → verdict (slotRows c w number page slot value) ≡ verdict (laterRows missing opened wide locks room)
+  unfolding slotRows notOpen valueWrong locked
+  slot-verdict e8 e9 e10 e11 e14 = rw (e8, e9, e10, e11, e14) refl
+
   module _ {a : Bool} {r : ℕ} (stage : a ≡ whenServing (c .stage))
       (first : r ≡ firstRefusal a c (length (w .anchor)) (length (w .pages)) (length (w .backups)) (length (w .logs)) (length (w .work)))
     where
-      pub update-refused : (r ≡ 0 → ⊥) → verdict (updateRows c w number page slot value) ≡ verdictOf r
-      unfolding updateRows notOpen valueWrong locked
-      update-refused some =
-          first-refused whenServing c w stage first some
-          (laterRows (slotMissing (c .sizes) page slot) (isOpen (c .table) number) (eqb (length value) (widthIn (c .sizes) page)) isLocked roomThere)
-          ∙ rw (ne-eqb r 0 some) refl
+      pub update-refused : (r ≡ 0 → ⊥) → verdict (updateRows c w number page slot value) ≡ refused r 0 0
+      unfolding updateRows slotRows
+      update-refused some = first-refused whenServing c w stage first some (slotRows c w number page slot value)
 
-      pub update-verdict : r ≡ 0 → {missing opened wide locks room : Bool} → slotMissing (c .sizes) page slot ≡ missing
-          → isOpen (c .table) number ≡ opened → eqb (length value) (widthIn (c .sizes) page) ≡ wide → isLocked ≡ locks → roomThere ≡ room
-          → verdict (updateRows c w number page slot value) ≡ verdict (laterRows missing opened wide locks room)
-      unfolding updateRows notOpen valueWrong locked
-      update-verdict none e8 e9 e10 e11 e14 =
-          first-accepted whenServing c w stage first none
-          (laterRows (slotMissing (c .sizes) page slot) (isOpen (c .table) number) (eqb (length value) (widthIn (c .sizes) page)) isLocked roomThere)
-          ∙ rw (e8, e9, e10, e11, e14) refl
+      pub update-passed : r ≡ 0 → verdict (updateRows c w number page slot value) ≡ verdict (slotRows c w number page slot value)
+      unfolding updateRows slotRows
+      update-passed none = first-accepted whenServing c w stage first none (slotRows c w number page slot value)
 
   -- what the rows leave to the work when none applies
   pub update-taken : verdict (updateRows c w number page slot value) ≡ accepted → Changes c number page slot value (w .pages) (w .logs) (w .work)

@@ -1,7 +1,7 @@
 -- The part of a task that a function does, where it is lent a part of the state.
 use mathlib.Core.Path.{_≡_}
 use mathlib.Core.List.{List, [], _∷_, _++_}
-use mathlib.Core.Bool.{true, false, cond}
+use mathlib.Core.Bool.{true, false, cond, not}
 use Prim.Native.Nat.{ℕ, _+_, _*_}
 use lib.ListN.{length}
 use Rattle.model.specs.declared.Sizes.{Sizes}
@@ -14,7 +14,8 @@ use Rattle.model.specs.Record.{encode, close, wordsOf, updateKind, commitKind}
 use Rattle.model.specs.World.{World, Action, write, pages, work, each, perform}
 use Rattle.model.specs.State.{placeOf, firstAt, reservedAt, hasUpdate, isOpen, withPlace}
 use Rattle.model.specs.Room.{hasRoom}
-use Rattle.model.specs.Causes.{slotMissing}
+use Rattle.model.specs.Refusal.{Row, row}
+use Rattle.model.specs.Causes.{slotMissing, notOpen, valueWrong, locked}
 use Rattle.model.specs.Append.{Appended, append, flush}
 use Rattle.model.specs.Transaction.{diskOf}
 use Rattle.device.specs.Ran.{Ran}
@@ -39,6 +40,13 @@ grown t number disk end words =
     withPlace t (placeOf t number) number disk
     (cond (hasUpdate t (placeOf t number)) (firstAt t (placeOf t number)) end)
     (reservedAt t (placeOf t number) + words)
+
+-- an update's rows after the first three, as `updateRows` has them
+unfoldable pub slotRows : Core → World → (number page slot : ℕ) → List ℕ → List Row
+slotRows c w number page slot value =
+    row 8 (slotMissing (c .sizes) page slot) ∷ row 9 (notOpen c number) ∷ row 10 (valueWrong (c .sizes) page value)
+    ∷ row 11 (locked c w number page slot)
+    ∷ row 14 (not (hasRoom c (2 * wordsOf updateKind (widthIn (c .sizes) page)) (diskOf c number))) ∷ []
 
 -- What the checks of an update leave to its work.
 pub record Changes (c : Core) (number page slot : ℕ) (value p l k : List ℕ) : Type 0 where

@@ -1,6 +1,5 @@
 // The work of an update: its record appended, the slot changed, its owner set.
 use frame::home::Home;
-use frame::home::home_of_transaction;
 use frame::home::with_disk;
 use frame::settle::settle;
 use layout::memory::page_epoch;
@@ -28,9 +27,10 @@ ghost use Rattle.model.specs.Record.{encode};
 ghost use Rattle.model.specs.World.{World};
 ghost use Rattle.model.specs.Memory.{epochOf, workWords};
 ghost use Rattle.model.specs.State.{limit, places, placeOf, reservedAt};
-ghost use Rattle.model.specs.Transaction.{updateTask};
+ghost use Rattle.model.specs.Transaction.{diskOf, updateTask};
 ghost use Rattle.device.specs.Ran.{withSlices};
 ghost use Rattle.log.specs.Write.{Within, Encodable, changeOf, Lent, Appends, Ends};
+ghost use Rattle.frame.specs.Home.{homeOf};
 ghost use Rattle.frame.specs.Settle.{Concludes};
 ghost use Rattle.txn.specs.Tasks.{withMemory, grown, Changes, Replaced};
 
@@ -136,6 +136,7 @@ fn head_of(core: Core, number: u64, page: u64, slot: u64, work: &[u64]) -> Head
 
 pub fn change_slot(
     core: Core,
+    home: Home,
     number: u64,
     page: u64,
     slot: u64,
@@ -145,13 +146,12 @@ pub fn change_slot(
     work: &mut [u64],
     budget: &mut u64,
 ) -> Reply
-    requires { ⌜ Changes core number page slot (now value) (now pages) (now logs) (now work) ⌝ }
+    requires { ⌜ Changes core number page slot (now value) (now pages) (now logs) (now work) × (home ≡ homeOf core (diskOf core number)) ⌝ }
     ensures { λ r. ⌜ ((w : World) → w .pages ≡ now (pages .entry) → w .logs ≡ now (logs .entry) → w .work ≡ now (work .entry)
         → Concludes (now (budget .entry)) (now (budget .exit)) (updateTask core w number page slot (now (value .entry))) w
         (withMemory w (now (pages .exit)) (now (logs .exit)) (now (work .exit))) r) ⌝ }
 {
     let before = *budget;
-    let home = home_of_transaction(core, work.len(), number);
     let head = head_of(core, number, page, slot, work);
     let at = slot_base(core.sizes, page, slot) as usize;
     let added = log_and_set(home, head, at, value, pages, logs, work, budget);

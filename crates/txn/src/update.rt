@@ -4,6 +4,7 @@ use crate::slots::is_locked;
 use crate::slots::slot_missing;
 use crate::slots::slot_width;
 use frame::checks::first_refusal;
+use frame::home::home_of_transaction;
 use frame::settle::refuse;
 use frame::stages::is_serving;
 use model::Core;
@@ -14,15 +15,18 @@ use table::room::has_room;
 ghost use mathlib.Core.Path.{_≡_};
 ghost use mathlib.Core.Bool.{true};
 ghost use Prim.Native.Nat.{_*_, _<_};
+ghost use lib.ListN.{length};
 ghost use Rattle.model.specs.Sizes.{widthIn};
 ghost use Rattle.model.specs.Record.{wordsOf, updateKind};
-ghost use Rattle.model.specs.World.{worldOf};
+ghost use Rattle.model.specs.World.{World, worldOf};
+ghost use Rattle.model.specs.Memory.{workWords};
 ghost use Rattle.model.specs.State.{isOpen, servingSound};
 ghost use Rattle.model.specs.Room.{hasRoom};
 ghost use Rattle.model.specs.Refusal.{verdict};
-ghost use Rattle.model.specs.Transaction.{diskOf, updateRows};
+ghost use Rattle.model.specs.Transaction.{diskOf};
 ghost use Rattle.model.specs.Call.{update, Gives};
 ghost use Rattle.frame.specs.Checks.{verdictOf};
+ghost use Rattle.txn.specs.Tasks.{slotRows};
 
 // The disk of an open transaction has log room for an update and for its compensation.
 fn has_update_room(core: Core, number: u64, page: u64) -> bool
@@ -36,35 +40,11 @@ fn has_update_room(core: Core, number: u64, page: u64) -> bool
     has_room(core.sizes.ring, core.logs, table, 2 * (3 + width), disk)
 }
 
-// The number that an update is refused with, 0 if it is taken.
-fn update_refusal(
-    core: Core,
-    number: u64,
-    page: u64,
-    slot: u64,
-    value: &[u64],
-    anchor: &[u64],
-    pages: &[u64],
-    backups: &[u64],
-    logs: &[u64],
-    work: &[u64],
-) -> u64
-    ensures { λ r. ⌜ verdict (updateRows core (worldOf (now (anchor .entry)) (now (pages .entry)) (now (backups .entry)) (now (logs .entry)) (now (work .entry))) number page slot (now (value .entry))) ≡ verdictOf r ⌝ }
+// The number of the first row after those of `first_refusal` that refuses an update, 0 where none does.
+fn slot_refusal(core: Core, number: u64, page: u64, slot: u64, value: &[u64], work: &[u64]) -> u64
+    requires { ⌜ (servingSound core ≡ true) × (length (now work) ≡ workWords (core .sizes)) ⌝ }
+    ensures { λ r. ⌜ ((w : World) → w .work ≡ now (work .entry) → verdict (slotRows core w number page slot (now (value .entry))) ≡ verdictOf r) ⌝ }
 {
-    let stage = core.stage;
-    let allowed = is_serving(stage);
-    let refusal = first_refusal(
-        allowed,
-        core,
-        anchor.len(),
-        pages.len(),
-        backups.len(),
-        logs.len(),
-        work.len(),
-    );
-    if refusal != 0 {
-        return refusal;
-    }
     if slot_missing(core.sizes, page, slot) {
         return 8;
     }
@@ -98,20 +78,35 @@ pub fn update(
 ) -> Reply
     ensures { λ r. ⌜ Gives (update number page slot (now (value .entry)) (now (budget .entry))) core (worldOf (now (anchor .entry)) (now (pages .entry)) (now (backups .entry)) (now (logs .entry)) (now (work .entry))) r (now (budget .exit)) (worldOf (now (anchor .entry)) (now (pages .exit)) (now (backups .entry)) (now (logs .exit)) (now (work .exit))) ⌝ }
 {
-    let refusal = update_refusal(
+    let stage = core.stage;
+    let allowed = is_serving(stage);
+    let refusal = first_refusal(
+        allowed,
         core,
-        number,
-        page,
-        slot,
-        value,
-        anchor,
-        pages,
-        backups,
-        logs,
-        work,
+        anchor.len(),
+        pages.len(),
+        backups.len(),
+        logs.len(),
+        work.len(),
     );
     if refusal != 0 {
         return refuse(core, refusal);
     }
-    change_slot(core, number, page, slot, value, pages, logs, work, budget)
+    let refused = slot_refusal(core, number, page, slot, value, work);
+    if refused != 0 {
+        return refuse(core, refused);
+    }
+    let home = home_of_transaction(core, work.len(), number);
+    change_slot(
+        core,
+        home,
+        number,
+        page,
+        slot,
+        value,
+        pages,
+        logs,
+        work,
+        budget,
+    )
 }

@@ -11,28 +11,19 @@ use borrow.Author.Needs.{needs}
 use Rattle.txn.proofs.change.change_slot.Statement.{statement}
 use Rattle.txn.proofs.change.change_slot.Tie as tie
 
-home-of-transaction-requires : tie.Need-home-of-transaction-requires
-home-of-transaction-requires c κs =
-    let ok = c .before .before .before .before .before .pre in
-    (ok .serves .state, ok .opened, ok .serves .work-words)
-
 head-of-requires : tie.Need-head-of-requires
-head-of-requires c κs =
-    let ok = c .before .before .before .before .before .before .before .pre in
-    (changes-slot ok .page-small, ok .serves .work-words)
+head-of-requires c κs = (changes-slot (c .before .before .before .before .before .before .pre .0) .page-small, c .before .before .before .before .before .before .pre .0 .serves .work-words)
 
 slot-base-requires : tie.Need-slot-base-requires
 slot-base-requires c κs =
-    let x = c .before .before .before .before .before .before .before .before .args in
-    let ok = c .before .before .before .before .before .before .before .before .pre in
+    let ok = c .before .before .before .before .before .before .before .pre .0 in
     (changes-slot ok .page-small, omega (arith, changes-slot ok .slot-small))
 
 log-and-set-requires : tie.Need-log-and-set-requires
 log-and-set-requires c κs =
-    let x = c .before .before .before .before .before .before .before .before .before .before .before .before .before .args in
-    let ok = c .before .before .before .before .before .before .before .before .before .before .before .before .before .pre in
-    let h = c .before .before .before .before .before .before .before .home-of-transaction .ensures .0 in (
-      within-there (x .core) (diskOf (x .core) (x .number)) h _ _ (ok .serves) (open-below (x .core) (x .number) (ok .serves .state) (ok .opened)),
+    let x = c .before .before .before .before .before .before .before .before .before .before .before .before .args in
+    let ok = c .before .before .before .before .before .before .before .before .before .before .before .before .pre .0 in (
+      within-there (x .core) (diskOf (x .core) (x .number)) (c .before .before .before .before .before .before .before .before .before .before .before .before .pre .1) _ _ (ok .serves) (open-below (x .core) (x .number) (ok .serves .state) (ok .opened)),
       rw (c .before .before .before .before .before .head-of .ensures) (changes-encodable ok),
       rw (c .before .before .before .before .slot-base .ensures .0) (changes-pages ok),
       rw (c .before .before .before .before .slot-base .ensures .0) (changes-owner ok),
@@ -40,24 +31,24 @@ log-and-set-requires c κs =
 
 with-disk-requires : tie.Need-with-disk-requires
 with-disk-requires c κs =
-    let x = c .before .before .before .before .before .before .before .before .before .before .before .before .before .before .before .before .before .before .before .before .args in
-    let ok = c .before .before .before .before .before .before .before .before .before .before .before .before .before .before .before .before .before .before .before .before .pre in
-    omega (arith, disk-there (x .core) (diskOf (x .core) (x .number)) (c .before .before .before .before .before .before .before .before .before .before .before .before .before .before .home-of-transaction .ensures .0), open-below (x .core) (x .number) (ok .serves .state) (ok .opened), disks-max (x .core) (ok .serves .state))
+    let x = c .before .before .before .before .before .before .before .before .before .before .before .before .before .before .before .before .before .before .before .args in
+    let ok = c .before .before .before .before .before .before .before .before .before .before .before .before .before .before .before .before .before .before .before .pre .0 in
+    omega (arith, disk-there (x .core) (diskOf (x .core) (x .number)) (c .before .before .before .before .before .before .before .before .before .before .before .before .before .before .before .before .before .before .before .pre .1), open-below (x .core) (x .number) (ok .serves .state) (ok .opened), disks-max (x .core) (ok .serves .state))
 
 add-updated-table : tie.Need-add-updated-table
 add-updated-table c =
-    let ok = c .before .before .before .before .before .before .before .before .before .before .before .before .before .before .before .before .before .before .before .before .before .pre in
+    let ok = c .before .before .before .before .before .before .before .before .before .before .before .before .before .before .before .before .before .before .before .before .pre .0 in
     let small = changes-slot ok .width-max in
     let same = ok .width in
     search (needs, small, same)
 
 updated-table-requires : tie.Need-updated-table-requires
 updated-table-requires c κs =
-    let x = c .before .before .before .before .before .before .before .before .before .before .before .before .before .before .before .before .before .before .before .before .before .args in
-    let ok = c .before .before .before .before .before .before .before .before .before .before .before .before .before .before .before .before .before .before .before .before .before .pre in (
+    let x = c .before .before .before .before .before .before .before .before .before .before .before .before .before .before .before .before .before .before .before .before .args in
+    let ok = c .before .before .before .before .before .before .before .before .before .before .before .before .before .before .before .before .before .before .before .before .pre .0 in (
       open-entry (x .core) (x .number) (ok .serves .state) (ok .opened) .at,
       reserved-low (x .core) (x .number) (ok .serves .state) (ok .opened),
-      home-low (x .core) (x .number) (ok .serves .state) (ok .opened) (c .before .before .before .before .before .before .before .before .before .before .before .before .before .before .before .home-of-transaction .ensures .0),
+      home-low (x .core) (x .number) (ok .serves .state) (ok .opened) (c .before .before .before .before .before .before .before .before .before .before .before .before .before .before .before .before .before .before .before .before .pre .1),
       omega (arith, changes-slot ok .width-max, ok .width),
     )
 
@@ -76,9 +67,9 @@ same-length-3 c = search needs
 returns : tie.Need-returns
 unfolding withLog
 returns c = λ w pages logs work.
-    let x = c .before .before .before .before .before .before .before .before .before .before .before .before .before .before .before .before .before .before .before .before .before .before .before .before .before .before .args in
-    let ok = c .before .before .before .before .before .before .before .before .before .before .before .before .before .before .before .before .before .before .before .before .before .before .before .before .before .before .pre in
-    let h = c .before .before .before .before .before .before .before .before .before .before .before .before .before .before .before .before .before .before .before .before .home-of-transaction .ensures .0 in
+    let x = c .before .before .before .before .before .before .before .before .before .before .before .before .before .before .before .before .before .before .before .before .before .before .before .before .before .args in
+    let ok = c .before .before .before .before .before .before .before .before .before .before .before .before .before .before .before .before .before .before .before .before .before .before .before .before .before .pre .0 in
+    let h = c .before .before .before .before .before .before .before .before .before .before .before .before .before .before .before .before .before .before .before .before .before .before .before .before .before .pre .1 in
     update-settled (x .core) w _ (x .number) (x .page) (x .slot) (x .value .now) (ok .width) (rw pages (changes-pages ok)) h
     (rw work (c .before .before .before .before .before .before .before .before .before .before .before .before .before .before .before .before .before .before .head-of .ensures)) (c .before .before .before .before .before .before .before .before .before .before .before .before .before .before .before .before .before .slot-base .ensures .0)
     (c .before .before .before .before .before .before .before .before .before .before .before .before .log-and-set .ensures (x .core .sizes) (x .core .logs) w (lent-there (x .core) (diskOf (x .core) (x .number)) h w logs work) pages)
@@ -88,7 +79,6 @@ pub change-slot-spec : {M : Type 1} → statement M
 change-slot-spec =
     tie.close
     (tie.spec
-    home-of-transaction-requires
     head-of-requires
     slot-base-requires
     log-and-set-requires
