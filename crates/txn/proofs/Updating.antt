@@ -35,7 +35,8 @@ use Rattle.frame.specs.declared.home.Home.{Home}
 use Rattle.frame.specs.Home.{homeOf, withDisk}
 use Rattle.frame.specs.Settle.{settled, Concludes}
 use Rattle.frame.proofs.Verdicts.{first-refused, first-accepted, task-settled}
-use Rattle.txn.specs.Tasks.{slotRows, grown, Changes, replacing, Replaced}
+use Rattle.txn.specs.Tasks.{slotRows, grown, Changes, replacing, Replaced, Changed}
+use Rattle.txn.proofs.Reading.{taken-number}
 use Rattle.txn.proofs.SlotBounds.{There, slot-there}
 use Rattle.txn.proofs.Differences.{difference-length}
 
@@ -74,6 +75,10 @@ module _ (c : Core) (w : World) (number page slot : ℕ) (value : List ℕ) wher
       pub update-passed : r ≡ 0 → verdict (updateRows c w number page slot value) ≡ verdict (slotRows c w number page slot value)
       unfolding updateRows slotRows
       update-passed none = first-accepted whenServing c w stage first none (slotRows c w number page slot value)
+
+      pub update-accepted : r ≡ 0 → {later : ℕ} → verdict (slotRows c w number page slot value) ≡ verdictOf later → later ≡ 0
+          → verdict (updateRows c w number page slot value) ≡ accepted
+      update-accepted none e zero = taken-number (update-passed none ∙ e) zero
 
   -- what the rows leave to the work when none applies
   pub update-taken : verdict (updateRows c w number page slot value) ≡ accepted → Changes c number page slot value (w .pages) (w .logs) (w .work)
@@ -135,17 +140,28 @@ module _ (c : Core) (number : ℕ) (ok : servingSound c ≡ true) (opened : isOp
   unfolding grown updated homeOf endOf
   grown-updated words e q = rw (q, e) refl
 
--- The task of an update, settled.
-pub update-settled : (c : Core) (w v : World) (number page slot : ℕ) (value : List ℕ) {h : Home} {head : Head} {at budget rest : ℕ} {r : Logged}
-    {reply : Reply} {l : Logs} {t : Table} → length value ≡ widthIn (c .sizes) page → slotBase (c .sizes) page slot + length value ≤ length (w .pages)
+-- The record logged, the slot set and its owner are the task of an update.
+pub change-task : (c : Core) (w v : World) (number page slot : ℕ) (value : List ℕ) {h : Home} {head : Head} {at budget rest : ℕ} {r : Logged}
+    → length value ≡ widthIn (c .sizes) page → slotBase (c .sizes) page slot + length value ≤ length (w .pages)
     → h ≡ homeOf c (diskOf c number)
     → head ≡ record { kind = updateKind; page = page; slot = slot; number = number; epoch = epochOf (c .sizes) (w .work) page }
     → at ≡ slotBase (c .sizes) page slot → Replaced budget rest (c .sizes) (c .logs) (h .disk) head at value w v r
-    → l ≡ withDisk (c .logs) (h .disk) (r .tail) (r .fill) → t ≡ updated c number (3 + length value)
-    → reply ≡ settled (r .finished) budget rest 0 (withLog c l t) → Concludes budget rest (updateTask c w number page slot value) w v reply
+    → Changed budget rest c number page slot value w v r
 unfolding updateTask replacing homeOf ownerAt updateRecord slotWords
-update-settled c w v number page slot value {r} {l} {t} wide fits home head at did logs table reply =
+change-task c w v number page slot value {r} wide fits home head at did =
     let words = change-length updateKind page slot number (epochOf (c .sizes) (w .work) page) (xors (part (slotBase (c .sizes) page slot) (length value) (w .pages)) value) ∙ ap (3 +_) (difference-length (slotBase (c .sizes) page slot) value (w .pages) fits) in
-    task-settled {whole = r .finished} {core = withLog c l t} (updateTask c w number page slot value) (rw (home, head, at, wide) at (did .ran)) reply
-    (λ finished. rw (logs, table, ← did .state finished, home, head, at, wide)
-    (ap (λ (n : ℕ). withLog c (append (c .sizes) (c .logs) (w .work) (diskOf c number) (encode (updateRecord c w number page slot value)) .logs) (updated c number n)) (sym (rw wide at words))))
+    record {
+      ran = rw (home, head, at, wide) at (did .ran);
+      state = λ finished. let same = rw (home, head, at, wide) at (did .state finished) in
+          rw (← same, wide)
+          (ap (λ (n : ℕ). withLog c (append (c .sizes) (c .logs) (w .work) (diskOf c number) (encode (updateRecord c w number page slot value)) .logs) (updated c number n)) (rw wide at words));
+    }
+
+-- The reply of an update whose task has run.
+pub update-concluded : (c : Core) (w v : World) (number page slot : ℕ) (value : List ℕ) {budget rest : ℕ} {r : Logged} {reply : Reply}
+    → Changed budget rest c number page slot value w v r
+    → reply ≡ settled (r .finished) budget rest 0 (withLog c (withDisk (c .logs) (diskOf c number) (r .tail) (r .fill)) (updated c number (3 + length value)))
+    → Concludes budget rest (updateTask c w number page slot value) w v reply
+unfolding updateTask
+update-concluded c w v number page slot value did reply =
+    task-settled (updateTask c w number page slot value) (did .ran) reply (λ finished. sym (did .state finished))

@@ -12,12 +12,12 @@ use Rattle.model.specs.Word.{xors, part}
 use Rattle.model.specs.Sizes.{widthIn, total}
 use Rattle.model.specs.Record.{encode, close, wordsOf, updateKind, commitKind}
 use Rattle.model.specs.World.{World, Action, write, pages, work, each, perform}
-use Rattle.model.specs.State.{placeOf, firstAt, reservedAt, hasUpdate, isOpen, withPlace}
+use Rattle.model.specs.State.{placeOf, firstAt, reservedAt, hasUpdate, isOpen, withPlace, withLog}
 use Rattle.model.specs.Room.{hasRoom}
 use Rattle.model.specs.Refusal.{Row, row}
 use Rattle.model.specs.Causes.{slotMissing, notOpen, valueWrong, locked}
 use Rattle.model.specs.Append.{Appended, append, flush}
-use Rattle.model.specs.Transaction.{diskOf}
+use Rattle.model.specs.Transaction.{diskOf, updated, updateTask}
 use Rattle.device.specs.Ran.{Ran}
 use Rattle.log.specs.declared.write.Head.{Head}
 use Rattle.log.specs.declared.write.Logged.{Logged}
@@ -66,3 +66,9 @@ replacing s l w disk head at value =
 pub record Replaced (budget rest : ℕ) (s : Sizes) (l : Logs) (disk : ℕ) (head : Head) (at : ℕ) (value : List ℕ) (before after : World) (r : Logged) : Type 0 where
   pub ran : Ran budget rest (replacing s l before disk head at value .actions) before after (r .finished)
   pub state : r .finished ≡ true → replacing s l before disk head at value .logs ≡ withDisk l disk (r .tail) (r .fill)
+
+-- The same as the task of an update: its actions have run, and where the log of the disk then ends gives its state.
+pub record Changed (budget rest : ℕ) (c : Core) (number page slot : ℕ) (value : List ℕ) (before after : World) (r : Logged) : Type 0 where
+  pub ran : Ran budget rest (updateTask c before number page slot value .actions) before after (r .finished)
+  pub state : r .finished ≡ true → updateTask c before number page slot value .core
+      ≡ withLog c (withDisk (c .logs) (diskOf c number) (r .tail) (r .fill)) (updated c number (3 + length value))

@@ -1,21 +1,19 @@
 // The work of an update: its record appended, the slot changed, its owner set.
 use frame::home::Home;
 use frame::home::with_disk;
-use frame::settle::settle;
 use layout::memory::page_epoch;
 use layout::places::slot_base;
 use log::write::Head;
 use log::write::Logged;
 use log::write::append_change;
 use model::Core;
-use model::Reply;
 use model::Table;
 use table::place::place_of;
 use table::place::put_place;
 use words::copy_words;
 use words::difference;
 ghost use mathlib.Core.Path.{_≡_};
-ghost use mathlib.Core.Bool.{cond};
+ghost use mathlib.Core.Bool.{true, cond};
 ghost use Prim.Native.Nat.{_+_, _≤_, _<_};
 ghost use lib.Dec.{ltb};
 ghost use lib.ListN.{length, set};
@@ -26,13 +24,12 @@ ghost use Rattle.model.specs.Word.{xors, part};
 ghost use Rattle.model.specs.Record.{encode};
 ghost use Rattle.model.specs.World.{World};
 ghost use Rattle.model.specs.Memory.{epochOf, workWords};
-ghost use Rattle.model.specs.State.{limit, places, placeOf, reservedAt};
-ghost use Rattle.model.specs.Transaction.{diskOf, updateTask};
+ghost use Rattle.model.specs.State.{limit, places, placeOf, reservedAt, isOpen, servingSound, withLog};
+ghost use Rattle.model.specs.Transaction.{diskOf, updated};
 ghost use Rattle.device.specs.Ran.{withSlices};
 ghost use Rattle.log.specs.Write.{Within, Encodable, changeOf, Lent, Appends, Ends};
-ghost use Rattle.frame.specs.Home.{homeOf};
-ghost use Rattle.frame.specs.Settle.{Concludes};
-ghost use Rattle.txn.specs.Tasks.{withMemory, grown, Changes, Replaced};
+ghost use Rattle.frame.specs.Home.{homeOf, withDisk};
+ghost use Rattle.txn.specs.Tasks.{withMemory, grown, Changes, Replaced, Changed};
 
 // Appends a change whose difference is that of the slot at `at` in the page memory to its new value.
 fn log_change(
@@ -134,6 +131,7 @@ fn head_of(core: Core, number: u64, page: u64, slot: u64, work: &[u64]) -> Head
     }
 }
 
+// The record logged, the slot set and its owner; and where the log of the disk ends then.
 pub fn change_slot(
     core: Core,
     home: Home,
@@ -145,20 +143,27 @@ pub fn change_slot(
     logs: &mut [u64],
     work: &mut [u64],
     budget: &mut u64,
-) -> Reply
+) -> Logged
     requires { ⌜ Changes core number page slot (now value) (now pages) (now logs) (now work) × (home ≡ homeOf core (diskOf core number)) ⌝ }
     ensures { λ r. ⌜ ((w : World) → w .pages ≡ now (pages .entry) → w .logs ≡ now (logs .entry) → w .work ≡ now (work .entry)
-        → Concludes (now (budget .entry)) (now (budget .exit)) (updateTask core w number page slot (now (value .entry))) w
+        → Changed (now (budget .entry)) (now (budget .exit)) core number page slot (now (value .entry)) w
         (withMemory w (now (pages .exit)) (now (logs .exit)) (now (work .exit))) r) ⌝ }
 {
-    let before = *budget;
     let head = head_of(core, number, page, slot, work);
     let at = slot_base(core.sizes, page, slot) as usize;
-    let added = log_and_set(home, head, at, value, pages, logs, work, budget);
-    let next = Core {
-        logs: with_disk(core.logs, home.disk, added.tail, added.fill),
-        table: updated_table(core.table, number, home, 3 + value.len() as u64),
+    log_and_set(home, head, at, value, pages, logs, work, budget)
+}
+
+// The state after an update of so many words, whose disk was `home` and whose log now ends as `added` says.
+pub fn changed_core(core: Core, number: u64, home: Home, added: Logged, width: usize) -> Core
+    requires { ⌜ (servingSound core ≡ true) × (isOpen (core .table) number ≡ true) × (home ≡ homeOf core (diskOf core number)) × (width ≤ 32) ⌝ }
+    ensures { λ r. ⌜ r ≡ withLog core (withDisk (core .logs) (diskOf core number) (added .tail) (added .fill)) (updated core number (3 + width)) ⌝ }
+{
+    let logs = with_disk(core.logs, home.disk, added.tail, added.fill);
+    let table = updated_table(core.table, number, home, 3 + width as u64);
+    Core {
+        logs,
+        table,
         ..core
-    };
-    settle(added.finished, before, *budget, 0, next)
+    }
 }

@@ -1,11 +1,13 @@
 // Update: its checks, then the change.
 use crate::change::change_slot;
+use crate::change::changed_core;
 use crate::slots::is_locked;
 use crate::slots::slot_missing;
 use crate::slots::slot_width;
 use frame::checks::first_refusal;
 use frame::home::home_of_transaction;
 use frame::settle::refuse;
+use frame::settle::settle;
 use frame::stages::is_serving;
 use model::Core;
 use model::Reply;
@@ -96,8 +98,9 @@ pub fn update(
     if refused != 0 {
         return refuse(core, refused);
     }
+    let before = *budget;
     let home = home_of_transaction(core, work.len(), number);
-    change_slot(
+    let added = change_slot(
         core,
         home,
         number,
@@ -108,5 +111,10 @@ pub fn update(
         logs,
         work,
         budget,
-    )
+    );
+    if !added.finished {
+        return settle(false, before, *budget, 0, core);
+    }
+    let next = changed_core(core, number, home, added, value.len());
+    settle(true, before, *budget, 0, next)
 }
