@@ -10,19 +10,19 @@ use lib.Seq.{set-set, getD-set-same}
 use borrow.Author.Tests.{not-true}
 use Rattle.model.specs.declared.Sizes.{Sizes}
 use Rattle.model.specs.declared.Logs.{Logs}
-use Rattle.model.specs.declared.Table.{Table}
 use Rattle.model.specs.declared.Core.{Core}
 use Rattle.model.specs.declared.Reply.{Reply}
 use Rattle.model.specs.Record.{encode, close, commitKind}
 use Rattle.model.specs.World.{World}
 use Rattle.model.specs.Memory.{bufferWords}
-use Rattle.model.specs.State.{tailOf, fillOf, endOf, isOpen, withFill, withLog, without, flushed}
+use Rattle.model.specs.State.{tailOf, fillOf, endOf, isOpen, servingSound, withFill, withLog, without, flushed}
 use Rattle.model.specs.Refusal.{row, verdict, accepted, refused}
 use Rattle.model.specs.Causes.{whenServing, notOpen}
 use Rattle.model.specs.Append.{appendIf, append, flush}
 use Rattle.model.specs.Transaction.{diskOf, commitRows, commitTask}
 use Rattle.model.proofs.Booleans.{true-false}
 use Rattle.model.proofs.Growth.{SizedLogs}
+use Rattle.model.proofs.Store.Accepted.{disks-max, open-below}
 use Rattle.device.specs.Ran.{Ran, withSlices}
 use Rattle.device.proofs.Ran.{ran-then, ran-cut, ran-whole}
 use Rattle.log.specs.declared.write.Logged.{Logged}
@@ -32,6 +32,7 @@ use Rattle.frame.specs.declared.home.Home.{Home}
 use Rattle.frame.specs.Home.{homeOf, withDisk}
 use Rattle.frame.specs.Settle.{settled, Concludes}
 use Rattle.txn.specs.Tasks.{closing}
+use Rattle.frame.proofs.Homes.{disk-there}
 use Rattle.frame.proofs.Verdicts.{first-refused, first-accepted, task-settled}
 
 -- The rows.
@@ -108,12 +109,15 @@ committed-logs c w number sized below =
     go false = rw two (sym (flushed-twice l disk (omega (arith, sized .tails)) (omega (arith, sized .fills))))
 
 -- The task of a commit, settled.
-pub commit-settled : (c : Core) (w v : World) (number : ℕ) {h : Home} {budget rest : ℕ} {whole : Bool} {reply : Reply} {l : Logs} {t : Table}
-    → SizedLogs (c .logs) → diskOf c number < 8 → h ≡ homeOf c (diskOf c number)
-    → Ran budget rest (closing (c .sizes) (c .logs) w (h .disk) number) w v whole
-    → l ≡ withDisk (c .logs) (h .disk) (h .tail + h .fill + 2) 0 → t ≡ without (c .table) number
-    → reply ≡ settled whole budget rest 0 (withLog c l t) → Concludes budget rest (commitTask c w number) w v reply
+pub commit-settled : (c : Core) (w v : World) (number : ℕ) {h : Home} {budget rest : ℕ} {whole : Bool} {reply : Reply}
+    → servingSound c ≡ true → isOpen (c .table) number ≡ true → SizedLogs (c .logs) → h ≡ homeOf c (diskOf c number)
+    → (h .disk < length (c .logs .tails) → h .disk < length (c .logs .fills) → Ran budget rest (closing (c .sizes) (c .logs) w (h .disk) number) w v whole)
+    → reply ≡ settled whole budget rest 0 (withLog c (withDisk (c .logs) (h .disk) (h .tail + h .fill + 2) 0) (without (c .table) number))
+    → Concludes budget rest (commitTask c w number) w v reply
 unfolding commitTask closing homeOf
-commit-settled c w v number {whole} {l} {t} sized below e ran logs table reply =
-    task-settled {whole = whole} {core = withLog c l t} (commitTask c w number) (rw e at ran) reply
-    (λ _. rw (logs, table, e) (committed-logs c w number sized below))
+commit-settled c w v number {whole} sound opened sized e ran reply =
+    let eight : diskOf c number < 8 = omega (arith, open-below c number sound opened, disks-max c sound) in
+    let there = disk-there c (diskOf c number) e in
+    task-settled {whole = whole} (commitTask c w number)
+    (rw e at (ran (omega (arith, there, eight, sized .tails)) (omega (arith, there, eight, sized .fills)))) reply
+    (λ _. rw e (committed-logs c w number sized eight))

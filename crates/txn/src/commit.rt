@@ -13,19 +13,16 @@ use model::Reply;
 use table::place::is_open;
 use table::place::without;
 ghost use mathlib.Core.Path.{_≡_};
-ghost use mathlib.Core.Bool.{true};
 ghost use Prim.Native.Nat.{_+_, _≤_, _<_};
 ghost use lib.ListN.{length};
 ghost use Rattle.model.specs.declared.Sizes.{Sizes};
 ghost use Rattle.model.specs.declared.Logs.{Logs};
 ghost use Rattle.model.specs.World.{World, worldOf};
-ghost use Rattle.model.specs.State.{limit, isOpen};
-ghost use Rattle.model.specs.Transaction.{commitTask};
+ghost use Rattle.model.specs.State.{limit, withLog, without};
 ghost use Rattle.model.specs.Call.{commit, Gives};
 ghost use Rattle.device.specs.Ran.{Ran, withSlices};
 ghost use Rattle.log.specs.Write.{Within, Lent};
-ghost use Rattle.frame.specs.Home.{Serves};
-ghost use Rattle.frame.specs.Settle.{Concludes};
+ghost use Rattle.frame.specs.Home.{withDisk};
 ghost use Rattle.txn.specs.Tasks.{closing};
 
 // Appends the closing record to its disk's log and flushes it; true if all is stored.
@@ -72,20 +69,18 @@ fn store_close(
     )
 }
 
-fn close(core: Core, number: u64, logs: &mut [u64], work: &mut [u64], budget: &mut u64) -> Reply
-    requires { ⌜ Serves core (now logs) (now work) × (isOpen (core .table) number ≡ true) ⌝ }
-    ensures { λ r. ⌜ ((w : World) → w .logs ≡ now (logs .entry) → w .work ≡ now (work .entry)
-        → Concludes (now (budget .entry)) (now (budget .exit)) (commitTask core w number) w (withSlices w (now (logs .exit)) (now (work .exit))) r) ⌝ }
+// The state without the transaction, whose disk was `home`: its log ends after the closing record, and nothing is buffered.
+fn closed_core(core: Core, number: u64, home: Home) -> Core
+    requires { ⌜ (home .disk < 8) × (home .tail + home .fill ≤ limit) ⌝ }
+    ensures { λ r. ⌜ r ≡ withLog core (withDisk (core .logs) (home .disk) (home .tail + home .fill + 2) 0) (without (core .table) number) ⌝ }
 {
-    let before = *budget;
-    let home = home_of_transaction(core, work.len(), number);
-    let whole = store_close(home, number, logs, work, budget);
-    let next = Core {
-        logs: with_disk(core.logs, home.disk, home.tail + home.fill + 2, 0),
-        table: without(core.table, number),
+    let logs = with_disk(core.logs, home.disk, home.tail + home.fill + 2, 0);
+    let table = without(core.table, number);
+    Core {
+        logs,
+        table,
         ..core
-    };
-    settle(whole, before, *budget, 0, next)
+    }
 }
 
 pub fn commit(
@@ -117,5 +112,11 @@ pub fn commit(
     if !is_open(core.table, number) {
         return refuse(core, 9);
     }
-    close(core, number, logs, work, budget)
+    let before = *budget;
+    let home = home_of_transaction(core, work.len(), number);
+    if !store_close(home, number, logs, work, budget) {
+        return settle(false, before, *budget, 0, core);
+    }
+    let next = closed_core(core, number, home);
+    settle(true, before, *budget, 0, next)
 }
