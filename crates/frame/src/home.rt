@@ -35,15 +35,16 @@ fn home_of(core: Core, work: usize, disk: u64) -> Home
     ensures { λ _. ⌜ (length (core .logs .starts) ≡ 8) × (length (core .logs .tails) ≡ 8) × (length (core .logs .fills) ≡ 8) ⌝ }
 {
     let sizes = core.sizes;
-    let logs = core.logs;
+    let tails = core.logs.tails;
+    let fills = core.logs.fills;
     let d = disk as usize;
     let buffer = buffer_place(work, sizes.disks, disk);
     Home {
         disk,
         ring: sizes.ring,
         buffer,
-        tail: logs.tails[d],
-        fill: logs.fills[d],
+        tail: tails[d],
+        fill: fills[d],
     }
 }
 
@@ -53,9 +54,9 @@ pub fn home_of_transaction(core: Core, work: usize, number: u64) -> Home
     ensures { λ r. ⌜ r ≡ homeOf core (diskOf core number) ⌝ }
     ensures { λ _. ⌜ (length (core .logs .starts) ≡ 8) × (length (core .logs .tails) ≡ 8) × (length (core .logs .fills) ≡ 8) ⌝ }
 {
-    let table = core.table;
-    let place = place_of(table, number);
-    let disk = table.disks[place];
+    let place = place_of(core.table, number);
+    let disks = core.table.disks;
+    let disk = disks[place];
     home_of(core, work, disk)
 }
 

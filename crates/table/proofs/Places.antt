@@ -16,15 +16,15 @@ use Rattle.model.proofs.Reserved.{reservedBy}
 use Rattle.table.specs.Parts.{tableOf}
 
 -- no place below i holds the number
-abbrev pub Absent : Table → ℕ → ℕ → Type 0
-Absent t n i = (k : ℕ) → k < i → getD (t .numbers) k 0 ≡ n → ⊥
+abbrev pub Absent : List ℕ → ℕ → ℕ → Type 0
+Absent numbers n i = (k : ℕ) → k < i → getD numbers k 0 ≡ n → ⊥
 
-pub place-found : (t : Table) (n i : ℕ) → i < 16 → getD (t .numbers) i 0 ≡ n → Absent t n i → i ≡ placeOf t n
+pub place-found : (t : Table) (n i : ℕ) → i < 16 → getD (t .numbers) i 0 ≡ n → Absent (t .numbers) n i → i ≡ placeOf t n
 unfolding placeOf numberAt
 place-found t n i h e before =
     sym (first-unique (λ k. eqb (getD (t .numbers) k 0) n) 16 i h (eq-eqb _ _ e) (λ k l. ne-eqb _ _ (before k l)))
 
-pub place-none : (t : Table) (n : ℕ) → Absent t n 16 → 16 ≡ placeOf t n
+pub place-none : (t : Table) (n : ℕ) → Absent (t .numbers) n 16 → 16 ≡ placeOf t n
 unfolding placeOf numberAt
 place-none t n none = sym (first-none (λ k. eqb (getD (t .numbers) k 0) n) 16 (λ k l. ne-eqb _ _ (none k l)))
 

@@ -1,7 +1,8 @@
 -- Tests of every disk and every place, and the parts of a state that they read.
 use mathlib.Core.Path.{_≡_, refl, sym}
 use mathlib.Core.Bool.{Bool, true, false, _&&_}
-use Prim.Native.Nat.{ℕ, _+_, _-_, _≤_, _<_, min}
+use mathlib.Core.List.{List}
+use Prim.Native.Nat.{ℕ, _+_, _-_, _≤_, _<_}
 use native.Mathlib.Omega.{arith}
 use lib.Dec.{leb, ltb}
 use lib.ListN.{getD}
@@ -12,9 +13,11 @@ use Rattle.model.specs.declared.Table.{Table}
 use Rattle.model.specs.Below.{within, allBelow}
 use Rattle.model.specs.Sizes.{ringOf, sizesInBounds}
 use Rattle.model.specs.State.{limit, places, startOf, tailOf, fillOf, endOf, numberAt, diskAtPlace, firstAt, reservedAt, hasUpdate, reservedOn, diskSound, placeSound, servingSound, checkpointSound, replaySound}
-use Rattle.table.specs.Parts.{cap, tableOf, coreOf, roomFor, entrySound, endWithin, positionWithin}
+use Rattle.model.proofs.Below.{all-cong}
+use Rattle.table.specs.Parts.{coreOf, roomFor, logSound, entrySound, endWithin, positionWithin}
 use Rattle.table.proofs.Places.{reserved-parts}
 use Rattle.table.proofs.HasRoom.{room-capped}
+use Rattle.table.proofs.Sums.{SumsOf}
 
 pub and-assoc : (a b c : Bool) → (a && (b && c)) ≡ (a && b && c)
 and-assoc true b c = refl
@@ -33,21 +36,21 @@ within-buffer start tail fill p low past = rw (le-leb start p low) (go (leb (p -
     go true e = sym (le-leb p (tail + fill) (omega (arith, leb-true (p - tail) fill e)))
     go false e = sym (lt-leb p (tail + fill) (omega (arith, leb-false (p - tail) fill e)))
 
--- what `disk_sound` computes
-pub disk-computed : (disks ring : ℕ) (logs : Logs) (table : Table) (d sum : ℕ) (r : Bool)
-    → sum ≡ min cap (reservedOn (tableOf (table .numbers) (table .disks) (table .reserved)) d)
-    → r
-    ≡ (leb (getD (logs .fills) d 0) 64 && leb (getD (logs .starts) d 0) (getD (logs .tails) d 0)
-    && roomFor (getD (logs .starts) d 0) (getD (logs .tails) d 0 + getD (logs .fills) d 0) sum ring 0)
-    → diskSound (coreOf disks ring logs table) d ≡ r
-unfolding diskSound ringOf startOf tailOf fillOf endOf roomFor
-disk-computed disks ring logs table d sum r e h =
-    let start : ℕ = getD (logs .starts) d 0 in
-    let end : ℕ = getD (logs .tails) d 0 + getD (logs .fills) d 0 in
-    let near : end - start + reservedOn table d + 0 ≡ end - start + reservedOn table d = omega arith in
-    let far : end + reservedOn table d + 0 ≡ end + reservedOn table d = omega arith in
-    rw (h, e, reserved-parts table d, room-capped start end (reservedOn table d) ring 0, near, far)
-    (sym (and-assoc (leb (getD (logs .fills) d 0) 64 && leb start (getD (logs .tails) d 0)) (leb (end - start + reservedOn table d) ring) (leb (end + reservedOn table d) limit)))
+-- a disk is sound when its log is, by the sums of the table
+module _ (c : Core) (sums : List ℕ) (all : SumsOf sums (c .table)) where
+  disk-computed : (d : ℕ) → d < 8 → diskSound c d ≡ logSound (c .sizes .ring) (c .logs) sums d
+  unfolding diskSound logSound ringOf roomFor
+  disk-computed d h =
+      let start : ℕ = startOf (c .logs) d in
+      let end : ℕ = endOf (c .logs) d in
+      let words : ℕ = reservedOn (c .table) d in
+      let near : end - start + words + 0 ≡ end - start + words = omega arith in
+      let far : end + words + 0 ≡ end + words = omega arith in
+      rw (all d h, reserved-parts (c .table) d, room-capped start end words (c .sizes .ring) 0, near, far)
+      (sym (and-assoc (leb (fillOf (c .logs) d) 64 && leb start (tailOf (c .logs) d)) (leb (end - start + words) (c .sizes .ring)) (leb (end + words) limit)))
+
+  pub disks-computed : (n : ℕ) → n ≤ 8 → allBelow (diskSound c) n ≡ allBelow (logSound (c .sizes .ring) (c .logs) sums) n
+  disks-computed n few = all-cong _ _ n (λ d h. disk-computed d (omega (arith, h, few)))
 
 -- a place is sound when its entry is
 pub place-computed : (disks ring : ℕ) (logs : Logs) (table : Table) (i : ℕ)
@@ -56,15 +59,8 @@ pub place-computed : (disks ring : ℕ) (logs : Logs) (table : Table) (i : ℕ)
 unfolding placeSound entrySound hasUpdate numberAt diskAtPlace firstAt reservedAt
 place-computed disks ring logs table i = refl
 
--- the tests read no more of a state than its disks, ring, logs and table
-pub disks-parts : (c : Core) (r : Bool)
-    → r ≡ allBelow (diskSound (coreOf (c .sizes .disks) (c .sizes .ring) (c .logs) (c .table))) (c .sizes .disks)
-    → allBelow (diskSound c) (c .sizes .disks) ≡ r
-unfolding diskSound ringOf
-disks-parts c r e = sym e
-
-pub places-parts : (c : Core) (r : Bool)
-    → r ≡ allBelow (placeSound (coreOf (c .sizes .disks) (c .sizes .ring) (c .logs) (c .table))) places
+-- the tests of places read no more of a state than its disks, logs and table
+pub places-parts : (c : Core) (r : Bool) → r ≡ allBelow (placeSound (coreOf (c .sizes .disks) 0 (c .logs) (c .table))) places
     → r ≡ allBelow (placeSound c) places
 unfolding placeSound
 places-parts c r e = e

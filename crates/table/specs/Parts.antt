@@ -9,7 +9,7 @@ use Rattle.model.specs.declared.Logs.{Logs}
 use Rattle.model.specs.declared.Table.{Table}
 use Rattle.model.specs.declared.Core.{Core}
 use Rattle.model.specs.Below.{within}
-use Rattle.model.specs.State.{limit, noCheckpoint, noReplay, startOf, endOf}
+use Rattle.model.specs.State.{limit, noCheckpoint, noReplay, startOf, tailOf, fillOf, endOf}
 
 abbrev pub logsOf : List ℕ → List ℕ → List ℕ → Logs
 logsOf starts tails fills = record { starts = starts; tails = tails; fills = fills }
@@ -38,6 +38,11 @@ cap = 2 ^ 63
 -- the room rule of the numbers of one disk
 unfoldable pub roomFor : ℕ → ℕ → ℕ → ℕ → ℕ → Bool
 roomFor start end reserved ring need = leb (end - start + reserved + need) ring && leb (end + reserved + need) limit
+
+-- the bounds of one disk's log, where these words are reserved on each disk
+unfoldable pub logSound : ℕ → Logs → List ℕ → ℕ → Bool
+logSound ring logs sums d =
+    leb (fillOf logs d) 64 && leb (startOf logs d) (tailOf logs d) && roomFor (startOf logs d) (endOf logs d) (getD sums d 0) ring 0
 
 -- the test of one entry of the table
 unfoldable pub entrySound : ℕ → Logs → ℕ → ℕ → ℕ → ℕ → Bool

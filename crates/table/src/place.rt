@@ -8,9 +8,10 @@ ghost use Rattle.model.specs.State.{places, placeOf, isOpen, withPlace, without
 pub fn place_of(table: Table, number: u64) -> usize
     ensures { λ r. ⌜ r ≡ placeOf table number ⌝ }
 {
+    let numbers = table.numbers;
     let mut i: usize = 0;
     while i < 16 {
-        if table.numbers[i] == number {
+        if numbers[i] == number {
             return i;
         }
         i += 1;

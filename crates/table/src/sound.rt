@@ -4,14 +4,13 @@ use crate::room::reserved_each;
 use crate::room::room_for;
 use model::Core;
 use model::Logs;
-use model::Table;
 ghost use mathlib.Core.Path.{_≡_};
 ghost use mathlib.Core.Bool.{_&&_};
 ghost use Prim.Native.Nat.{_+_, _≤_};
 ghost use lib.Dec.{leb, ltb};
 ghost use Rattle.model.specs.Below.{within, allBelow};
 ghost use Rattle.model.specs.State.{limit, places, diskSound, placeSound, checkpointSound};
-ghost use Rattle.table.specs.Parts.{logsOf, coreOf, roomFor, entrySound, endWithin, positionWithin};
+ghost use Rattle.table.specs.Parts.{logsOf, coreOf, roomFor, logSound, entrySound, endWithin, positionWithin};
 
 // start ≤ position ≤ tail + fill, without the sum, which may not fit a word.
 fn covers(start: u64, tail: u64, fill: u64, position: u64) -> bool
@@ -39,14 +38,21 @@ fn disk_sound(start: u64, tail: u64, fill: u64, reserved: u64, ring: u64) -> boo
     room_for(start, tail, fill, reserved, ring, 0)
 }
 
-fn disks_sound(disks: usize, ring: u64, logs: Logs, table: Table) -> bool
+// The bounds of every disk's log, `sums` being the words reserved on each.
+fn disks_sound<'a>(
+    disks: usize,
+    ring: u64,
+    starts: &'a [u64; 8],
+    tails: &'a [u64; 8],
+    fills: &'a [u64; 8],
+    sums: &'a [u64; 8],
+) -> bool
     requires { ⌜ disks ≤ 8 ⌝ }
-    ensures { λ r. ⌜ r ≡ allBelow (diskSound (coreOf disks ring logs table)) disks ⌝ }
+    ensures { λ r. ⌜ r ≡ allBelow (logSound ring (logsOf (now (starts .entry)) (now (tails .entry)) (now (fills .entry))) (now (sums .entry))) disks ⌝ }
 {
-    let sums = reserved_each(&table.numbers, &table.disks, &table.reserved);
     let mut d: usize = 0;
     while d < disks {
-        if !disk_sound(logs.starts[d], logs.tails[d], logs.fills[d], sums[d], ring) {
+        if !disk_sound(starts[d], tails[d], fills[d], sums[d], ring) {
             return false;
         }
         d += 1;
@@ -84,21 +90,31 @@ fn entry_sound<'a>(
     covers(starts[d], tails[d], fills[d], first)
 }
 
-fn places_sound(disks: usize, ring: u64, logs: Logs, table: Table) -> bool
+// The bounds of every entry; `homes` are the disks of the table.
+fn places_sound<'a>(
+    disks: usize,
+    starts: &'a [u64; 8],
+    tails: &'a [u64; 8],
+    fills: &'a [u64; 8],
+    numbers: &'a [u64; 16],
+    homes: &'a [u64; 16],
+    firsts: &'a [u64; 16],
+    reserved: &'a [u64; 16],
+) -> bool
     requires { ⌜ disks ≤ 8 ⌝ }
-    ensures { λ r. ⌜ r ≡ allBelow (placeSound (coreOf disks ring logs table)) places ⌝ }
+    ensures { λ r. ⌜ r ≡ allBelow (placeSound (coreOf disks 0 (logsOf (now (starts .entry)) (now (tails .entry)) (now (fills .entry))) (record { numbers = now (numbers .entry); disks = now (homes .entry); firsts = now (firsts .entry); reserved = now (reserved .entry) }))) places ⌝ }
 {
     let mut i: usize = 0;
     while i < 16 {
         if !entry_sound(
             disks,
-            &logs.starts,
-            &logs.tails,
-            &logs.fills,
-            table.numbers[i],
-            table.disks[i],
-            table.firsts[i],
-            table.reserved[i],
+            starts,
+            tails,
+            fills,
+            numbers[i],
+            homes[i],
+            firsts[i],
+            reserved[i],
         ) {
             return false;
         }
@@ -107,7 +123,7 @@ fn places_sound(disks: usize, ring: u64, logs: Logs, table: Table) -> bool
     true
 }
 
-// An open or copying state, but for its sizes.
+// An open or copying state, but for its sizes. The arrays are lent, so that no part of the state is copied.
 pub fn serving_bounds(core: Core) -> bool
     requires { ⌜ core .sizes .disks ≤ 8 ⌝ }
     ensures { λ r. ⌜ r ≡ (allBelow (diskSound core) (core .sizes .disks) && allBelow (placeSound core) places) ⌝ }
@@ -116,10 +132,20 @@ pub fn serving_bounds(core: Core) -> bool
     let ring = core.sizes.ring;
     let logs = core.logs;
     let table = core.table;
-    if !disks_sound(disks, ring, logs, table) {
+    let sums = reserved_each(&table.numbers, &table.disks, &table.reserved);
+    if !disks_sound(disks, ring, &logs.starts, &logs.tails, &logs.fills, &sums) {
         return false;
     }
-    places_sound(disks, ring, logs, table)
+    places_sound(
+        disks,
+        &logs.starts,
+        &logs.tails,
+        &logs.fills,
+        &table.numbers,
+        &table.disks,
+        &table.firsts,
+        &table.reserved,
+    )
 }
 
 // Each remembered end lies in its log.

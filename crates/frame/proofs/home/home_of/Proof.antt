@@ -13,32 +13,26 @@ buffer-place-requires : tie.Need-buffer-place-requires
 unfolding workWords epochAt bufferAt
 buffer-place-requires c κs = (search needs, search needs, omega arith)
 
-mul-t8 : tie.Need-mul-t8
-mul-t8 c = search needs
+mul-t9 : tie.Need-mul-t9
+mul-t9 c = search needs
 
-element-copy-out-t11 : tie.Need-element-copy-out-t11
-element-copy-out-t11 c = search needs
+array-read-t12 : tie.Need-array-read-t12
+array-read-t12 c = search needs
 
-mul-t12 : tie.Need-mul-t12
-mul-t12 c = search needs
+mul-t13 : tie.Need-mul-t13
+mul-t13 c = search needs
 
-element-copy-out-t15 : tie.Need-element-copy-out-t15
-element-copy-out-t15 c = search needs
+array-read-t16 : tie.Need-array-read-t16
+array-read-t16 c = search needs
 
 returns : tie.Need-returns
 unfolding homeOf tailOf fillOf
 returns c =
-    let x = c .before .before .before .before .before .args in
-    let given = c .before .before .before .before .before .pre in
-    (rw (c .before .before .buffer-place .ensures ∙ buffer-from-end (x .core .sizes) (x .work) (x .disk) (given .2) (given .0)) refl, (search needs, search needs, search (needs, c .before .before .before .before .before .good .0 .1 .1 .1 .1)))
+    let start = c .before .before .before .before in
+    let x = start .args in
+    let logs = start .good .0 .1 .1 .1 .1 .1 .0 in
+    (rw (c .buffer-place .ensures ∙ buffer-from-end (x .core .sizes) (x .work) (x .disk) (start .pre .2) (start .pre .0)) refl, (search (needs, logs), search (needs, logs), search (needs, logs)))
 
 pub home-of-spec : {M : Type 1} → statement M
 home-of-spec =
-    tie.close
-    (tie.spec
-    buffer-place-requires
-    mul-t8
-    element-copy-out-t11
-    mul-t12
-    element-copy-out-t15
-    returns)
+    tie.close (tie.spec buffer-place-requires mul-t9 array-read-t12 mul-t13 array-read-t16 returns)

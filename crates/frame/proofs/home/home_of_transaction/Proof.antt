@@ -16,21 +16,24 @@ place-of-requires c κs = search needs
 
 mul-disk : tie.Need-mul-disk
 mul-disk c =
-    let at : c .place-of .result < 16 = omega (arith, c .place-of .ensures, open-entry (c .before .before .args .core) (c .before .before .args .number) (c .before .before .pre .0) (c .before .before .pre .1) .at) in
+    let start = c .before .before in
+    let at : c .before .place-of .result < 16 = omega (arith, c .before .place-of .ensures, open-entry (start .args .core) (start .args .number) (start .pre .0) (start .pre .1) .at) in
     search (needs, at)
 
-element-copy-out-disk : tie.Need-element-copy-out-disk
-element-copy-out-disk c =
-    let at : c .place-of .result < 16 = omega (arith, c .place-of .ensures, open-entry (c .before .before .args .core) (c .before .before .args .number) (c .before .before .pre .0) (c .before .before .pre .1) .at) in
+array-read-disk : tie.Need-array-read-disk
+array-read-disk c =
+    let start = c .before .before in
+    let at : c .before .place-of .result < 16 = omega (arith, c .before .place-of .ensures, open-entry (start .args .core) (start .args .number) (start .pre .0) (start .pre .1) .at) in
     search (needs, at)
 
 home-of-requires : tie.Need-home-of-requires
 unfolding diskOf diskAtPlace
 home-of-requires c κs =
-    let x = c .before .before .before .args in
-    let b = bounded (x .core .sizes) (sizes-sound (x .core) (c .before .before .before .pre .0)) in
-    let below = open-below (x .core) (x .number) (c .before .before .before .pre .0) (c .before .before .before .pre .1) in
-    (rw (c .before .place-of .ensures) below, b .disks-max, c .before .before .before .pre .2)
+    let start = c .before .before in
+    let x = start .args in
+    let b = bounded (x .core .sizes) (sizes-sound (x .core) (start .pre .0)) in
+    let below = open-below (x .core) (x .number) (start .pre .0) (start .pre .1) in
+    (rw (c .before .place-of .ensures) below, b .disks-max, start .pre .2)
 
 returns : tie.Need-returns
 unfolding diskOf diskAtPlace
@@ -38,4 +41,4 @@ returns c = (rw (c .home-of .ensures .0, c .before .before .place-of .ensures) r
 
 pub home-of-transaction-spec : {M : Type 1} → statement M
 home-of-transaction-spec =
-    tie.close (tie.spec place-of-requires mul-disk element-copy-out-disk home-of-requires returns)
+    tie.close (tie.spec place-of-requires mul-disk array-read-disk home-of-requires returns)

@@ -9,10 +9,10 @@ use Rattle.table.proofs.place.place_of.Statement.{statement}
 use Rattle.table.proofs.place.place_of.Tie as tie
 
 abbrev Inv-loop : tie.InvT-loop
-Inv-loop number table i₀ i = (i ≤ 16) × Absent table number i
+Inv-loop number numbers i₀ i = (i ≤ 16) × Absent numbers number i
 
 abbrev μ-loop : tie.MeasureT-loop
-μ-loop number table i₀ i = 16 - i
+μ-loop number numbers i₀ i = 16 - i
 
 loop-holds : tie.Need-loop-holds Inv-loop μ-loop
 loop-holds c = (search needs, λ k h e. omega arith)
@@ -20,11 +20,11 @@ loop-holds c = (search needs, λ k h e. omega arith)
 mul-if1 : tie.Need-mul-if1 Inv-loop μ-loop
 mul-if1 c = search needs
 
-element-copy-out-if1 : tie.Need-element-copy-out-if1 Inv-loop μ-loop
-element-copy-out-if1 c = search needs
+array-read-if1 : tie.Need-array-read-if1 Inv-loop μ-loop
+array-read-if1 c = search needs
 
 returns : tie.Need-returns Inv-loop μ-loop
-returns c = place-found _ _ _ (search needs) (c .if1 .taken) (c .before .before .before .loop .inv .1)
+returns c = place-found _ _ _ (search needs) (c .if1 .taken) (c .before .before .loop .inv .1)
 
 add-i : tie.Need-add-i Inv-loop μ-loop
 add-i c = search needs
@@ -33,7 +33,7 @@ loop-less : tie.Need-loop-less Inv-loop μ-loop
 loop-less c = search needs
 
 loop-again : tie.Need-loop-again Inv-loop μ-loop
-loop-again c = (search needs, below-more _ _ (c .before .before .before .loop .inv .1) (c .if1 .left))
+loop-again c = (search needs, below-more _ _ (c .before .before .loop .inv .1) (c .if1 .left))
 
 returns-2 : tie.Need-returns-2 Inv-loop μ-loop
 returns-2 c = let e : c .before .loop .i ≡ 16 = omega arith in
@@ -47,7 +47,7 @@ place-of-spec =
     μ-loop
     loop-holds
     mul-if1
-    element-copy-out-if1
+    array-read-if1
     returns
     add-i
     loop-less

@@ -1,32 +1,26 @@
 -- `table::sound::disks_sound` meets its contract: the disks passed are sound. Assumes nothing.
 use Prim.Native.Nat.{_-_, _≤_}
-use mathlib.Core.Path.{_≡_, refl, _∙_}
+use mathlib.Core.Path.{_≡_, refl, sym, _∙_}
 use mathlib.Core.Bool.{true}
 use native.Mathlib.Omega.{arith}
 use borrow.Author.Tests.{not-true, not-false}
 use borrow.Author.Needs.{needs}
-use Rattle.model.specs.declared.Table.{Table}
 use Rattle.model.specs.Below.{allBelow}
-use Rattle.model.specs.State.{diskSound}
-use Rattle.table.specs.Parts.{coreOf}
+use Rattle.model.specs.State.{startOf, tailOf, fillOf, endOf}
+use Rattle.table.specs.Parts.{logsOf, logSound}
 use Rattle.model.proofs.Below.{all-more, all-stop, all-done}
-use Rattle.table.proofs.Tests.{disk-computed}
-use Rattle.table.proofs.Sums.{SumsOf}
 use Rattle.table.proofs.sound.disks_sound.Statement.{statement}
 use Rattle.table.proofs.sound.disks_sound.Tie as tie
 
 abbrev Inv-loop : tie.InvT-loop
-Inv-loop disks ring logs sums d₀ d = (d ≤ disks) × ((t : Table) → SumsOf sums t → allBelow (diskSound (coreOf disks ring logs t)) d ≡ true)
+Inv-loop disks ring starts tails fills sums d₀ d = (d ≤ disks) × (allBelow (logSound ring (logsOf starts tails fills) sums) d ≡ true)
 
 abbrev μ-loop : tie.MeasureT-loop
-μ-loop disks ring logs sums d₀ d = disks - d
-
-reserved-each-requires : tie.Need-reserved-each-requires Inv-loop μ-loop
-reserved-each-requires c κs = search needs
+μ-loop disks ring starts tails fills sums d₀ d = disks - d
 
 loop-holds : tie.Need-loop-holds Inv-loop μ-loop
 unfolding allBelow
-loop-holds c = (search needs, λ t sums. refl)
+loop-holds c = (search needs, refl)
 
 mul-disk-sound : tie.Need-mul-disk-sound Inv-loop μ-loop
 mul-disk-sound c = search needs
@@ -49,15 +43,15 @@ element-copy-out-disk-sound-3 c = search needs
 mul-disk-sound-4 : tie.Need-mul-disk-sound-4 Inv-loop μ-loop
 mul-disk-sound-4 c = search needs
 
-array-read-disk-sound : tie.Need-array-read-disk-sound Inv-loop μ-loop
-array-read-disk-sound c = search needs
+element-copy-out-disk-sound-4 : tie.Need-element-copy-out-disk-sound-4 Inv-loop μ-loop
+element-copy-out-disk-sound-4 c = search needs
 
 disk-sound-requires : tie.Need-disk-sound-requires Inv-loop μ-loop
 disk-sound-requires c κs = search needs
 
 returns : tie.Need-returns Inv-loop μ-loop
-returns c = all-stop _ _ (c .before .before .before .before .before .before .loop .d) (omega arith)
-    (disk-computed _ _ _ _ _ _ _ (c .before .before .before .before .before .before .before .reserved-each .ensures _ (omega arith)) (c .before .disk-sound .ensures) ∙ not-true _ (c .if1 .taken))
+unfolding logSound startOf tailOf fillOf endOf
+returns c = all-stop _ _ (c .before .before .before .before .before .before .before .loop .d) (omega arith) (sym (c .before .disk-sound .ensures) ∙ not-true _ (c .if1 .taken))
 
 add-d : tie.Need-add-d Inv-loop μ-loop
 add-d c = search needs
@@ -66,15 +60,11 @@ loop-less : tie.Need-loop-less Inv-loop μ-loop
 loop-less c = search needs
 
 loop-again : tie.Need-loop-again Inv-loop μ-loop
-loop-again c = (
-  search needs,
-  λ t sums. all-more _ _ (c .before .before .before .before .before .before .loop .inv .1 t sums)
-      (disk-computed _ _ _ t _ _ _ (sums _ (omega arith)) (c .before .disk-sound .ensures) ∙ not-false _ (c .if1 .left)),
-)
+unfolding logSound startOf tailOf fillOf endOf
+loop-again c = (search needs, all-more _ _ (c .before .before .before .before .before .before .before .loop .inv .1) (sym (c .before .disk-sound .ensures) ∙ not-false _ (c .if1 .left)))
 
 returns-2 : tie.Need-returns-2 Inv-loop μ-loop
-returns-2 c =
-    all-done _ _ _ (c .before .loop .inv .0) (omega arith) (c .before .loop .inv .1 _ (c .before .before .reserved-each .ensures))
+returns-2 c = all-done _ _ _ (c .before .loop .inv .0) (omega arith) (c .before .loop .inv .1)
 
 pub disks-sound-spec : {M : Type 1} → statement M
 disks-sound-spec =
@@ -82,7 +72,6 @@ disks-sound-spec =
     (tie.spec
     Inv-loop
     μ-loop
-    reserved-each-requires
     loop-holds
     mul-disk-sound
     element-copy-out-disk-sound
@@ -91,7 +80,7 @@ disks-sound-spec =
     mul-disk-sound-3
     element-copy-out-disk-sound-3
     mul-disk-sound-4
-    array-read-disk-sound
+    element-copy-out-disk-sound-4
     disk-sound-requires
     returns
     add-d

@@ -7,17 +7,18 @@ use borrow.Author.Tests.{not-true, not-false}
 use borrow.Author.Needs.{needs}
 use Rattle.model.specs.Below.{allBelow}
 use Rattle.model.specs.State.{placeSound}
-use Rattle.table.specs.Parts.{coreOf}
+use Rattle.table.specs.Parts.{logsOf, coreOf}
 use Rattle.model.proofs.Below.{all-more, all-stop, all-done}
 use Rattle.table.proofs.Tests.{place-computed}
 use Rattle.table.proofs.sound.places_sound.Statement.{statement}
 use Rattle.table.proofs.sound.places_sound.Tie as tie
 
 abbrev Inv-loop : tie.InvT-loop
-Inv-loop disks ring logs table i₀ i = (i ≤ 16) × (allBelow (placeSound (coreOf disks ring logs table)) i ≡ true)
+Inv-loop disks starts tails fills numbers homes firsts reserved i₀ i =
+    (i ≤ 16) × (allBelow (placeSound (coreOf disks 0 (logsOf starts tails fills) (record { numbers = numbers; disks = homes; firsts = firsts; reserved = reserved }))) i ≡ true)
 
 abbrev μ-loop : tie.MeasureT-loop
-μ-loop disks ring logs table i₀ i = 16 - i
+μ-loop disks starts tails fills numbers homes firsts reserved i₀ i = 16 - i
 
 loop-holds : tie.Need-loop-holds Inv-loop μ-loop
 unfolding allBelow
@@ -51,7 +52,7 @@ entry-sound-requires : tie.Need-entry-sound-requires Inv-loop μ-loop
 entry-sound-requires c κs = search needs
 
 returns : tie.Need-returns Inv-loop μ-loop
-returns c = all-stop _ _ (c .before .before .before .before .before .before .before .before .before .before .before .loop .i) (omega arith)
+returns c = all-stop _ _ (c .before .before .before .before .before .before .before .loop .i) (omega arith)
     (place-computed _ _ _ _ _ ∙ sym (c .before .entry-sound .ensures) ∙ not-true _ (c .if1 .taken))
 
 add-i : tie.Need-add-i Inv-loop μ-loop
@@ -63,7 +64,7 @@ loop-less c = search needs
 loop-again : tie.Need-loop-again Inv-loop μ-loop
 loop-again c = (
   search needs,
-  all-more _ _ (c .before .before .before .before .before .before .before .before .before .before .before .loop .inv .1)
+  all-more _ _ (c .before .before .before .before .before .before .before .loop .inv .1)
       (place-computed _ _ _ _ _ ∙ sym (c .before .entry-sound .ensures) ∙ not-false _ (c .if1 .left)),
 )
 
