@@ -125,9 +125,9 @@ fn unused_fault(slots: u8, width: u8) -> u8
 }
 
 // The entries of pages below `end` that are out of bounds. They are counted, and not left at the first: so the loop takes many at once.
-fn used_faults(slots: [u8; 64], widths: [u8; 64], end: usize) -> u8
+fn used_faults<'a>(slots: &'a [u8; 64], widths: &'a [u8; 64], end: usize) -> u8
     requires { ⌜ end ≤ 64 ⌝ }
-    ensures { λ r. ⌜ (r ≤ end) × (eqb r 0 ≡ allBelow (entryInBounds (record { pages = end; disks = 0; ring = 0; slots = slots; widths = widths })) end) ⌝ }
+    ensures { λ r. ⌜ (r ≤ end) × (eqb r 0 ≡ allBelow (entryInBounds (record { pages = end; disks = 0; ring = 0; slots = now (slots .entry); widths = now (widths .entry) })) end) ⌝ }
 {
     let mut faults: u8 = 0;
     let mut i: usize = 0;
@@ -139,9 +139,9 @@ fn used_faults(slots: [u8; 64], widths: [u8; 64], end: usize) -> u8
 }
 
 // Those of all entries, `before` of them below `from`.
-fn all_faults(slots: [u8; 64], widths: [u8; 64], from: usize, before: u8) -> u8
-    requires { ⌜ (from ≤ 64) × (before ≤ from) × (eqb before 0 ≡ allBelow (entryInBounds (record { pages = from; disks = 0; ring = 0; slots = slots; widths = widths })) from) ⌝ }
-    ensures { λ r. ⌜ eqb r 0 ≡ allBelow (entryInBounds (record { pages = from; disks = 0; ring = 0; slots = slots; widths = widths })) 64 ⌝ }
+fn all_faults<'a>(slots: &'a [u8; 64], widths: &'a [u8; 64], from: usize, before: u8) -> u8
+    requires { ⌜ (from ≤ 64) × (before ≤ from) × (eqb before 0 ≡ allBelow (entryInBounds (record { pages = from; disks = 0; ring = 0; slots = now slots; widths = now widths })) from) ⌝ }
+    ensures { λ r. ⌜ eqb r 0 ≡ allBelow (entryInBounds (record { pages = from; disks = 0; ring = 0; slots = now (slots .entry); widths = now (widths .entry) })) 64 ⌝ }
 {
     let mut faults = before;
     let mut i = from;
@@ -162,8 +162,8 @@ pub fn sizes_in_bounds(sizes: Sizes) -> bool
     let end = sizes.pages as usize;
     let slots = sizes.slots;
     let widths = sizes.widths;
-    let used = used_faults(slots, widths, end);
-    all_faults(slots, widths, end, used) == 0
+    let used = used_faults(&slots, &widths, end);
+    all_faults(&slots, &widths, end, used) == 0
 }
 
 fn bytes_of(words: [u64; 64]) -> [u8; 64]
