@@ -1,6 +1,6 @@
 -- Entries out of bounds, counted: none are exactly where all are in bounds.
-use mathlib.Core.Path.{_≡_, refl}
-use mathlib.Core.Bool.{Bool, true, false, and-eq-true-iff, cond, _&&_}
+use mathlib.Core.Path.{_≡_, refl, sym}
+use mathlib.Core.Bool.{Bool, true, false, and-false, and-eq-true-iff, cond, _&&_}
 use Prim.Native.Nat.{ℕ, _+_, _*_, _≤_, _<_}
 use native.Mathlib.Omega.{arith}
 use native.Mathlib.Numerals.{add-one}
@@ -59,3 +59,17 @@ module _ (a b : ℕ) where
       let there : 1 ≤ a = at-least-one a (λ z. some (rw z (omega arith))) in
       let most = product-max a 1 a b (omega arith) wide in
       rw (le-leb 1 a there, le-leb a 128 (omega (arith, most, few)), le-leb 1 b wide, le-leb b 32 narrow) (le-leb (a * b) 128 few)
+
+  -- what does not fit a byte is out of bounds, used or not
+  pub slots-large : (used : Bool) → 255 < a → false ≡ cond used (usedTest a b) (eqb a 0 && eqb b 0)
+  slots-large true h =
+      sym (refuted (usedTest a b) (λ u. omega (arith, h, product-max a 1 a b (omega arith) (used-parts u .1), used-parts u .3)))
+  slots-large false h = rw (ne-eqb a 0 (λ z. omega (arith, h, z)))
+
+  pub width-large : (used : Bool) → 255 < b → false ≡ cond used (usedTest a b) (eqb a 0 && eqb b 0)
+  width-large true h = sym (too-wide (omega (arith, h)))
+  width-large false h = rw (ne-eqb b 0 (λ z. omega (arith, h, z))) (sym (and-false (eqb a 0)))
+
+pub no-fault : (b : Bool) (fault : ℕ) → fault ≡ cond b 0 1 → eqb fault 0 ≡ b
+no-fault true fault e = eq-eqb fault 0 e
+no-fault false fault e = ne-eqb fault 0 (λ z. omega (arith, e, z))

@@ -40,37 +40,6 @@ fn is_within(low: u64, high: u64, n: u64) -> bool
     n <= high
 }
 
-// The ranges are tested before the product, which then cannot overflow.
-fn used_entry(slots: u64, width: u64) -> bool
-    ensures { λ r. ⌜ r ≡ (within 1 128 slots && within 1 32 width && leb (slots * width) 128) ⌝ }
-{
-    if !is_within(1, 128, slots) {
-        return false;
-    }
-    if !is_within(1, 32, width) {
-        return false;
-    }
-    slots * width <= 128
-}
-
-fn unused_entry(slots: u64, width: u64) -> bool
-    ensures { λ r. ⌜ r ≡ (eqb slots 0 && eqb width 0) ⌝ }
-{
-    if slots != 0 {
-        return false;
-    }
-    width == 0
-}
-
-fn entry_in_bounds(used: bool, slots: u64, width: u64) -> bool
-    ensures { λ r. ⌜ r ≡ cond used (within 1 128 slots && within 1 32 width && leb (slots * width) 128) (eqb slots 0 && eqb width 0) ⌝ }
-{
-    if used {
-        return used_entry(slots, width);
-    }
-    unused_entry(slots, width)
-}
-
 fn counts_in_bounds(pages: u64, disks: u64, ring: u64) -> bool
     ensures { λ r. ⌜ r ≡ (within 1 64 pages && within 1 8 disks && within 128 65536 ring) ⌝ }
 {
@@ -81,24 +50,6 @@ fn counts_in_bounds(pages: u64, disks: u64, ring: u64) -> bool
         return false;
     }
     is_within(128, 65536, ring)
-}
-
-// Of any numbers.
-pub fn in_bounds(pages: u64, disks: u64, ring: u64, slots: [u64; 64], widths: [u64; 64]) -> bool
-    ensures { λ r. ⌜ r ≡ sizesInBounds (record { pages = pages; disks = disks; ring = ring; slots = slots; widths = widths }) ⌝ }
-{
-    if !counts_in_bounds(pages, disks, ring) {
-        return false;
-    }
-    let end = pages as usize;
-    let mut i: usize = 0;
-    while i < 64 {
-        if !entry_in_bounds(i < end, slots[i], widths[i]) {
-            return false;
-        }
-        i += 1;
-    }
-    true
 }
 
 // 0 for a used page's entry in bounds, else 1. A product of 1 to 128 has both its factors within that.
@@ -124,10 +75,46 @@ fn unused_fault(slots: u8, width: u8) -> u8
     if width != 0 { 1 } else { 0 }
 }
 
+// An entry of any numbers: what does not fit a byte is out of bounds.
+fn entry_in_bounds(used: bool, slots: u64, width: u64) -> bool
+    ensures { λ r. ⌜ r ≡ cond used (within 1 128 slots && within 1 32 width && leb (slots * width) 128) (eqb slots 0 && eqb width 0) ⌝ }
+{
+    if slots > 255 {
+        return false;
+    }
+    if width > 255 {
+        return false;
+    }
+    let slot_byte = slots as u8;
+    let width_byte = width as u8;
+    if used {
+        return used_fault(slot_byte, width_byte) == 0;
+    }
+    unused_fault(slot_byte, width_byte) == 0
+}
+
+// Of any numbers.
+pub fn in_bounds(pages: u64, disks: u64, ring: u64, slots: [u64; 64], widths: [u64; 64]) -> bool
+    ensures { λ r. ⌜ r ≡ sizesInBounds (record { pages = pages; disks = disks; ring = ring; slots = slots; widths = widths }) ⌝ }
+{
+    if !counts_in_bounds(pages, disks, ring) {
+        return false;
+    }
+    let end = pages as usize;
+    let mut i: usize = 0;
+    while i < 64 {
+        if !entry_in_bounds(i < end, slots[i], widths[i]) {
+            return false;
+        }
+        i += 1;
+    }
+    true
+}
+
 // The entries of pages below `end` that are out of bounds. They are counted, and not left at the first: so the loop takes many at once.
-fn used_faults(slots: [u8; 64], widths: [u8; 64], end: usize) -> u8
+fn used_faults<'a>(slots: &'a [u8; 64], widths: &'a [u8; 64], end: usize) -> u8
     requires { ⌜ end ≤ 64 ⌝ }
-    ensures { λ r. ⌜ (r ≤ end) × (eqb r 0 ≡ allBelow (entryInBounds (record { pages = end; disks = 0; ring = 0; slots = slots; widths = widths })) end) ⌝ }
+    ensures { λ r. ⌜ (r ≤ end) × (eqb r 0 ≡ allBelow (entryInBounds (record { pages = end; disks = 0; ring = 0; slots = now (slots .entry); widths = now (widths .entry) })) end) ⌝ }
 {
     let mut faults: u8 = 0;
     let mut i: usize = 0;
@@ -139,9 +126,9 @@ fn used_faults(slots: [u8; 64], widths: [u8; 64], end: usize) -> u8
 }
 
 // Those of all entries, `before` of them below `from`.
-fn all_faults(slots: [u8; 64], widths: [u8; 64], from: usize, before: u8) -> u8
-    requires { ⌜ (from ≤ 64) × (before ≤ from) × (eqb before 0 ≡ allBelow (entryInBounds (record { pages = from; disks = 0; ring = 0; slots = slots; widths = widths })) from) ⌝ }
-    ensures { λ r. ⌜ eqb r 0 ≡ allBelow (entryInBounds (record { pages = from; disks = 0; ring = 0; slots = slots; widths = widths })) 64 ⌝ }
+fn all_faults<'a>(slots: &'a [u8; 64], widths: &'a [u8; 64], from: usize, before: u8) -> u8
+    requires { ⌜ (from ≤ 64) × (before ≤ from) × (eqb before 0 ≡ allBelow (entryInBounds (record { pages = from; disks = 0; ring = 0; slots = now slots; widths = now widths })) from) ⌝ }
+    ensures { λ r. ⌜ eqb r 0 ≡ allBelow (entryInBounds (record { pages = from; disks = 0; ring = 0; slots = now (slots .entry); widths = now (widths .entry) })) 64 ⌝ }
 {
     let mut faults = before;
     let mut i = from;
@@ -162,8 +149,8 @@ pub fn sizes_in_bounds(sizes: Sizes) -> bool
     let end = sizes.pages as usize;
     let slots = sizes.slots;
     let widths = sizes.widths;
-    let used = used_faults(slots, widths, end);
-    all_faults(slots, widths, end, used) == 0
+    let used = used_faults(&slots, &widths, end);
+    all_faults(&slots, &widths, end, used) == 0
 }
 
 fn bytes_of(words: [u64; 64]) -> [u8; 64]

@@ -123,7 +123,7 @@ fn places_sound<'a>(
     true
 }
 
-// An open or copying state, but for its sizes. The arrays are lent, so that no part of the state is copied.
+// An open or copying state, but for its sizes. Its logs and table are copied once, here, and lent on.
 pub fn serving_bounds(core: Core) -> bool
     requires { ⌜ core .sizes .disks ≤ 8 ⌝ }
     ensures { λ r. ⌜ r ≡ (allBelow (diskSound core) (core .sizes .disks) && allBelow (placeSound core) places) ⌝ }

@@ -13,21 +13,21 @@ use Rattle.layout.proofs.bounds.all_faults.Statement.{statement}
 use Rattle.layout.proofs.bounds.all_faults.Tie as tie
 
 abbrev Inv-loop : tie.InvT-loop
-Inv-loop from before slots widths faults₀ i₀ faults i =
+Inv-loop slots widths from before faults₀ i₀ faults i =
     (from ≤ i) × (i ≤ 64) × (faults ≤ i) × (eqb faults 0 ≡ allBelow (entryInBounds (entriesOf from slots widths)) i)
 
 abbrev μ-loop : tie.MeasureT-loop
-μ-loop from before slots widths faults₀ i₀ faults i = 64 - i
+μ-loop slots widths from before faults₀ i₀ faults i = 64 - i
 
 loop-holds : tie.Need-loop-holds Inv-loop μ-loop
 unfolding allBelow
 loop-holds c = search needs
 
-array-read-unused-fault : tie.Need-array-read-unused-fault Inv-loop μ-loop
-array-read-unused-fault c = search needs
+element-copy-out-unused-fault : tie.Need-element-copy-out-unused-fault Inv-loop μ-loop
+element-copy-out-unused-fault c = search needs
 
-array-read-unused-fault-2 : tie.Need-array-read-unused-fault-2 Inv-loop μ-loop
-array-read-unused-fault-2 c = search needs
+element-copy-out-unused-fault-2 : tie.Need-element-copy-out-unused-fault-2 Inv-loop μ-loop
+element-copy-out-unused-fault-2 c = search needs
 
 unused-fault-requires : tie.Need-unused-fault-requires Inv-loop μ-loop
 unused-fault-requires c κs = search needs
@@ -44,10 +44,11 @@ loop-less c = search needs
 loop-again : tie.Need-loop-again Inv-loop μ-loop
 unfolding entryInBounds usedEntry unusedEntry pageWords slotsIn widthIn
 loop-again c =
-    let i = c .before .before .loop .i in
-    let given = c .before .before .before .args in
-    let entry = entryInBounds (entriesOf (given .from) (given .t1) (given .t2)) in
-    (omega arith, omega arith, omega arith, count-more entry i (c .before .before .loop .faults) (c .unused-fault .result) (rw (le-ltb i (given .from) (omega arith)) (c .unused-fault .ensures .1)) (c .before .before .loop .inv .3))
+    let entered = c .before .before .before .before in
+    let i = entered .loop .i in
+    let given = entered .before .args in
+    let entry = entryInBounds (entriesOf (given .from) (given .slots .now) (given .widths .now)) in
+    (omega arith, omega arith, omega arith, count-more entry i (entered .loop .faults) (c .unused-fault .result) (rw (le-ltb i (given .from) (omega arith)) (c .unused-fault .ensures .1)) (entered .loop .inv .3))
 
 returns : tie.Need-returns Inv-loop μ-loop
 returns c =
@@ -61,8 +62,8 @@ all-faults-spec =
     Inv-loop
     μ-loop
     loop-holds
-    array-read-unused-fault
-    array-read-unused-fault-2
+    element-copy-out-unused-fault
+    element-copy-out-unused-fault-2
     unused-fault-requires
     add-faults
     add-i

@@ -15,17 +15,20 @@ returns c = counts-out _ (sym (c .before .counts-in-bounds .ensures) ∙ not-tru
 
 used-faults-requires : tie.Need-used-faults-requires
 used-faults-requires c κs =
-    let counts = sym (c .before .before .before .counts-in-bounds .ensures) ∙ not-false _ (c .before .before .if1 .left) in
+    let tested = c .before .before .before .before in
+    let counts = sym (tested .before .counts-in-bounds .ensures) ∙ not-false _ (tested .if1 .left) in
     in-range 1 64 _ (both _ _ (both _ _ counts .0) .0) .1
 
 all-faults-requires : tie.Need-all-faults-requires
 all-faults-requires c κs =
-    let counts = sym (c .before .before .before .before .counts-in-bounds .ensures) ∙ not-false _ (c .before .before .before .if1 .left) in
-    (in-range 1 64 _ (both _ _ (both _ _ counts .0) .0) .1, c .used-faults .ensures .0, c .used-faults .ensures .1)
+    let tested = c .before .before .before .before .before .before .before in
+    let counts = sym (tested .before .counts-in-bounds .ensures) ∙ not-false _ (tested .if1 .left) in
+    (in-range 1 64 _ (both _ _ (both _ _ counts .0) .0) .1, c .before .before .used-faults .ensures .0, c .before .before .used-faults .ensures .1)
 
 returns-2 : tie.Need-returns-2
 returns-2 c =
-    let counts = sym (c .before .before .before .before .before .counts-in-bounds .ensures) ∙ not-false _ (c .before .before .before .before .if1 .left) in
+    let tested = c .before .before .before .before .before .before .before .before in
+    let counts = sym (tested .before .counts-in-bounds .ensures) ∙ not-false _ (tested .if1 .left) in
     c .all-faults .ensures ∙ all-entries _ counts (search needs) (search needs)
 
 pub sizes-in-bounds-spec : {M : Type 1} → statement M

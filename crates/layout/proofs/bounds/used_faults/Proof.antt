@@ -13,21 +13,21 @@ use Rattle.layout.proofs.bounds.used_faults.Statement.{statement}
 use Rattle.layout.proofs.bounds.used_faults.Tie as tie
 
 abbrev Inv-loop : tie.InvT-loop
-Inv-loop end slots widths faults₀ i₀ faults i =
+Inv-loop slots widths end faults₀ i₀ faults i =
     (i ≤ end) × (faults ≤ i) × (eqb faults 0 ≡ allBelow (entryInBounds (entriesOf end slots widths)) i)
 
 abbrev μ-loop : tie.MeasureT-loop
-μ-loop end slots widths faults₀ i₀ faults i = end - i
+μ-loop slots widths end faults₀ i₀ faults i = end - i
 
 loop-holds : tie.Need-loop-holds Inv-loop μ-loop
 unfolding allBelow
 loop-holds c = search needs
 
-array-read-used-fault : tie.Need-array-read-used-fault Inv-loop μ-loop
-array-read-used-fault c = search needs
+element-copy-out-used-fault : tie.Need-element-copy-out-used-fault Inv-loop μ-loop
+element-copy-out-used-fault c = search needs
 
-array-read-used-fault-2 : tie.Need-array-read-used-fault-2 Inv-loop μ-loop
-array-read-used-fault-2 c = search needs
+element-copy-out-used-fault-2 : tie.Need-element-copy-out-used-fault-2 Inv-loop μ-loop
+element-copy-out-used-fault-2 c = search needs
 
 used-fault-requires : tie.Need-used-fault-requires Inv-loop μ-loop
 used-fault-requires c κs = search needs
@@ -44,10 +44,11 @@ loop-less c = search needs
 loop-again : tie.Need-loop-again Inv-loop μ-loop
 unfolding entryInBounds usedEntry unusedEntry pageWords slotsIn widthIn
 loop-again c =
-    let i = c .before .before .loop .i in
-    let given = c .before .before .before .args in
-    let entry = entryInBounds (entriesOf (given .end) (given .t1) (given .t2)) in
-    (omega arith, omega arith, count-more entry i (c .before .before .loop .faults) (c .used-fault .result) (rw (lt-ltb i (given .end) (omega arith)) (c .used-fault .ensures .1)) (c .before .before .loop .inv .2))
+    let entered = c .before .before .before .before in
+    let i = entered .loop .i in
+    let given = entered .before .args in
+    let entry = entryInBounds (entriesOf (given .end) (given .slots .now) (given .widths .now)) in
+    (omega arith, omega arith, count-more entry i (entered .loop .faults) (c .used-fault .result) (rw (lt-ltb i (given .end) (omega arith)) (c .used-fault .ensures .1)) (entered .loop .inv .2))
 
 returns : tie.Need-returns Inv-loop μ-loop
 returns c =
@@ -61,8 +62,8 @@ used-faults-spec =
     Inv-loop
     μ-loop
     loop-holds
-    array-read-used-fault
-    array-read-used-fault-2
+    element-copy-out-used-fault
+    element-copy-out-used-fault-2
     used-fault-requires
     add-faults
     add-i
