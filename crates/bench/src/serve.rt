@@ -57,47 +57,22 @@ fn call(
     commit(state, number, anchor, pages, backups, logs, work, budget)
 }
 
-// The same after a checkpoint, where the call was refused.
-fn call_with_room(
-    count: u64,
-    turn: Turn,
-    number: u64,
+// After a checkpoint, where the last call was refused.
+fn with_room(
+    again: bool,
     state: State,
-    value: &[u64],
+    count: u64,
     anchor: &mut [u64],
-    pages: &mut [u64],
+    pages: &[u64],
     backups: &mut [u64],
     logs: &mut [u64],
     work: &mut [u64],
     budget: &mut u64,
-) -> Called {
-    if !turn.again {
-        return call(
-            turn,
-            number,
-            state,
-            value,
-            anchor,
-            pages,
-            backups,
-            logs,
-            work,
-            budget,
-        );
+) -> State {
+    if again {
+        return checkpointed(state, count, anchor, pages, backups, logs, work, budget);
     }
-    let s = checkpointed(state, count, anchor, pages, backups, logs, work, budget);
-    call(
-        turn,
-        number,
-        s,
-        value,
-        anchor,
-        pages,
-        backups,
-        logs,
-        work,
-        budget,
-    )
+    state
 }
 
 // What is kept from call to call: the number of the open transaction, whether the last call was refused, and counts.
@@ -179,11 +154,21 @@ pub fn served(
         seed = seed_after(seed, tally.again);
         turn = turn_of(turn, tally.again, seed, plan.pages, plan.slots);
         spread(value, seed);
-        let called = call_with_room(
+        let ready = with_room(
+            turn.again,
+            state,
             plan.pages,
+            anchor,
+            pages,
+            backups,
+            logs,
+            work,
+            &mut budget,
+        );
+        let called = call(
             turn,
             tally.number,
-            state,
+            ready,
             value,
             anchor,
             pages,
