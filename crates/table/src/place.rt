@@ -2,7 +2,7 @@
 use model::Table;
 ghost use mathlib.Core.Path.{_≡_};
 ghost use Prim.Native.Nat.{_<_};
-ghost use Rattle.model.specs.State.{places, placeOf, isOpen, withPlace, without, hasUpdate, servedBy};
+ghost use Rattle.model.specs.State.{places, placeOf, isOpen, withPlace, without, hasUpdate};
 
 // The place of a transaction; for 0, the lowest free place; 16 where there is none.
 pub fn place_of(table: Table, number: u64) -> usize
@@ -27,16 +27,6 @@ pub fn is_open(table: Table, number: u64) -> bool
     }
     let place = place_of(table, number);
     place < 16
-}
-
-pub fn served_by(table: Table, disk: u64, place: usize) -> bool
-    requires { ⌜ place < places ⌝ }
-    ensures { λ r. ⌜ r ≡ servedBy table disk place ⌝ }
-{
-    if table.numbers[place] == 0 {
-        return false;
-    }
-    table.disks[place] == disk
 }
 
 pub fn has_update(table: Table, place: usize) -> bool
