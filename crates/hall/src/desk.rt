@@ -1,6 +1,6 @@
 // The arbiters' desk: what the program keeps from line to line.
 use crate::output::add_line;
-use crate::run::run;
+use commands::run::run;
 use lines::partial::Partial;
 use lines::partial::command_of;
 use lines::partial::line_length;

@@ -1,11 +1,6 @@
 // hall: a store of two pages of four one-word slots on two disks, driven by lines of standard input.
-mod checkpoints;
 mod desk;
-mod outcome;
 mod output;
-mod restarts;
-mod run;
-mod transactions;
 
 use desk::Desk;
 use desk::feed;

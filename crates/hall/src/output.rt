@@ -1,6 +1,6 @@
 // The output: lines gather in a buffer, which is written when the next line might not fit.
-use crate::outcome::OTHER;
-use crate::outcome::Outcome;
+use commands::outcome::OTHER;
+use commands::outcome::Outcome;
 use libc::STDOUT_FILENO;
 use lines::text::put_line;
 use lines::text::put_other;

@@ -1,2 +1,0 @@
--- What a line shows of the call that it makes.
-pub mod Shown
