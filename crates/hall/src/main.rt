@@ -4,7 +4,7 @@ mod output;
 
 use desk::Desk;
 use desk::feed;
-use desk::take_line;
+use desk::last_line;
 use libc::STDIN_FILENO;
 use lines::partial::start;
 use lines::tally::Tally;
@@ -112,22 +112,6 @@ fn serve(
         }
     }
     d
-}
-
-// A last line without an end counts.
-fn last_line(
-    desk: Desk,
-    anchor: &mut [u64],
-    pages: &mut [u64],
-    backups: &mut [u64],
-    logs: &mut [u64],
-    work: &mut [u64],
-    out: &mut [u8],
-) -> Desk {
-    if desk.begun {
-        return take_line(desk, anchor, pages, backups, logs, work, out);
-    }
-    desk
 }
 
 // Writes out the rest, and the tally.

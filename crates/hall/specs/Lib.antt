@@ -1,0 +1,3 @@
+-- The program between two bytes of its input.
+pub mod Running
+pub mod Held
