@@ -24,7 +24,8 @@ stepped (suc n) source r =
     (cond (eqb (remaining (r .core) source) 0) r (stepped n source (resultOf (restartStep source) (r .core) (r .world))))
     r
 
--- To its end: a step takes at least one word of a log, or one page, so what remains is steps enough (`source-ends`).
+-- To its end: a step takes a record of two words or more, or a page, so what remains is the most steps that there are. Were something
+-- left, the end would answer 15.
 unfoldable pub toEnd : (source : ℕ) → Result → Result
 toEnd source r = stepped (remaining (r .core) source) source r
 
