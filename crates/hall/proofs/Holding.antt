@@ -2,7 +2,7 @@
 use Prim.Native.Nat.{ℕ, _≤_}
 use mathlib.Core.Path.{_≡_, refl, sym, ap, _∙_}
 use mathlib.Core.List.{List, [], _∷_, _++_, append-nil, append-assoc}
-use mathlib.Core.Bool.{true, false, not}
+use mathlib.Core.Bool.{Bool, true, false, not}
 use native.Mathlib.Omega.{arith}
 use lib.ListN.{length, take}
 use Rattle.model.specs.World.{World}
@@ -54,10 +54,10 @@ module _ (d : Desk) (w : World) (out : List ℕ) (p : Program) (h : Holds d w ou
       }
 
   -- bytes of a line were read
-  pub piece-read : (piece : List ℕ) (partial : Partial) → ((more : List ℕ) → commandAfter partial more ≡ commandAfter (d .partial) (piece ++ more))
-      → Holds (record { state = d .state; tally = d .tally; line = d .line; partial = partial; begun = true; fill = d .fill }) w out (withRead p piece)
+  pub piece-read : (piece : List ℕ) (partial : Partial) {begun : Bool} → ((more : List ℕ) → commandAfter partial more ≡ commandAfter (d .partial) (piece ++ more))
+      → Holds (record { state = d .state; tally = d .tally; line = d .line; partial = partial; begun = begun; fill = d .fill }) w out (withRead p piece)
   unfolding withRead
-  piece-read piece partial reads =
+  piece-read piece partial {begun} reads =
       record {
         core = h .core;
         world = h .world;
