@@ -1,5 +1,5 @@
 -- What the code holds after a line, and after a piece of one.
-use Prim.Native.Nat.{ℕ, _≤_}
+use Prim.Native.Nat.{ℕ, _+_, _≤_}
 use mathlib.Core.Path.{_≡_, refl, sym, ap, _∙_}
 use mathlib.Core.List.{List, [], _∷_, _++_, append-nil, append-assoc}
 use mathlib.Core.Bool.{Bool, true, false, not}
@@ -15,8 +15,9 @@ use Rattle.lines.specs.Counting.{oneMore, counted}
 use Rattle.commands.specs.declared.outcome.Outcome.{Outcome}
 use Rattle.commands.specs.declared.outcome.Done.{Done}
 use Rattle.commands.specs.Meaning.{Line, lineOf, Runs}
+use Rattle.store.specs.declared.State.{State}
 use Rattle.hall.specs.declared.desk.Desk.{Desk}
-use Rattle.hall.specs.Running.{Program, textOf, gathered, lineTaken, withRead}
+use Rattle.hall.specs.Running.{Program, textOf, gathered, lineTaken, withRead, heading, started}
 use Rattle.hall.specs.Held.{Holds, Stands}
 
 module _ (d : Desk) (w : World) (out : List ℕ) (p : Program) (h : Holds d w out p) where
@@ -78,3 +79,25 @@ has-begun p piece some = go (p .read) piece some
     go [] [] h = absurd (omega arith)
     go [] (x ∷ b) h = refl
     go (x ∷ a) b h = refl
+
+-- before the first line nothing is read, and the heading waits
+pub desk-opened : (state : State) (w : World) (out after : List ℕ) {fill : ℕ} {fresh : Partial} → 84 ≤ length out → length after ≡ length out
+    → (0 + length heading ≤ length out → (fill ≡ 0 + length heading) × (take fill after ≡ take 0 out ++ heading))
+    → ((l : List ℕ) → commandAfter fresh l ≡ commandOf l)
+    → Stands (record { state = state; tally = record { taken = 0; refused = 0; cut = 0 }; line = 0; partial = fresh; begun = false; fill = fill }) w after (started (state .core) w)
+desk-opened state w out after large length-kept added fresh =
+    let text = added (omega arith) in
+    record {
+      holds =
+          record {
+            core = refl;
+            world = refl;
+            tally = refl;
+            line = refl;
+            read = fresh;
+            room = rw length-kept large;
+            inside = rw length-kept (omega (arith, text .0));
+            waiting = text .1;
+          };
+      begun = refl;
+    }

@@ -57,3 +57,13 @@ fed room p (b ∷ bytes) = fed room (cond (eqb b 10) (lineTaken room p) (withRea
 -- At the end of the input: a last line without an end counts.
 unfoldable pub ended : ℕ → Program → Program
 ended room p = cond (isEmpty (p .read)) p (lineTaken room p)
+
+-- "The heading shown comes first.": line answer stores value
+abbrev pub heading : List ℕ
+heading =
+    108 ∷ 105 ∷ 110 ∷ 101 ∷ 32 ∷ 97 ∷ 110 ∷ 115 ∷ 119 ∷ 101 ∷ 114 ∷ 32 ∷ 115 ∷ 116 ∷ 111 ∷ 114 ∷ 101 ∷ 115 ∷ 32 ∷ 118 ∷ 97 ∷ 108 ∷ 117 ∷ 101 ∷ 10 ∷ []
+
+-- before the first line
+abbrev pub started : Core → World → Program
+started c w =
+    record { core = c; world = w; tally = record { taken = 0; refused = 0; cut = 0 }; line = 0; read = []; waiting = heading }

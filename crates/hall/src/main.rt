@@ -12,6 +12,11 @@ use lines::text::put_tally;
 use output::add;
 use output::flush;
 use store::State;
+ghost use Prim.Native.Nat.{_≤_};
+ghost use lib.ListN.{length};
+ghost use Rattle.model.specs.World.{World};
+ghost use Rattle.hall.specs.Running.{started};
+ghost use Rattle.hall.specs.Held.{Stands};
 
 // A formatted store.
 fn formatted(
@@ -46,7 +51,9 @@ fn formatted(
 }
 
 // The desk before the first line, with the heading in the buffer.
-fn opened(state: State, out: &mut [u8]) -> Desk {
+fn opened(state: State, out: &mut [u8]) -> Desk
+    ensures { λ r. ⌜ (84 ≤ length (now (out .entry)) → (w : World) → Stands r w (now (out .exit)) (started (state .core) w)) ⌝ }
+{
     let fill = add(out, 0, b"line answer stores value\n");
     let tally = Tally {
         taken: 0,
