@@ -1,1 +1,4 @@
-pub mod Showing
+-- The input byte by byte and in pieces; text that waits; what the code holds after a line and after a piece of one.
+pub mod Feeding
+pub mod Gathering
+pub mod Holding

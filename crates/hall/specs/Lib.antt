@@ -1,2 +1,3 @@
--- What a line shows of the call that it makes.
-pub mod Shown
+-- The program between two bytes of its input.
+pub mod Running
+pub mod Held

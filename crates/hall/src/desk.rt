@@ -1,6 +1,6 @@
 // The arbiters' desk: what the program keeps from line to line.
 use crate::output::add_line;
-use crate::run::run;
+use commands::run::run;
 use lines::partial::Partial;
 use lines::partial::command_of;
 use lines::partial::line_length;
@@ -10,8 +10,12 @@ use lines::tally::Tally;
 use lines::tally::after_line;
 use lines::tally::one_more;
 use store::State;
+ghost use mathlib.Core.Path.{_≡_};
 ghost use Prim.Native.Nat.{_≤_, _<_};
-ghost use lib.ListN.{length};
+ghost use lib.ListN.{length, drop};
+ghost use Rattle.model.specs.World.{worldOf};
+ghost use Rattle.hall.specs.Running.{Program, lineTaken, fed, ended};
+ghost use Rattle.hall.specs.Held.{Holds, Stands};
 
 // The store's state, the tally, how many lines there were, what is read of the next one and whether anything is, and the fill of
 // the output's buffer.
@@ -33,7 +37,9 @@ pub fn take_line(
     logs: &mut [u64],
     work: &mut [u64],
     out: &mut [u8],
-) -> Desk {
+) -> Desk
+    ensures { λ r. ⌜ ((p : Program) → Holds desk (worldOf (now (anchor .entry)) (now (pages .entry)) (now (backups .entry)) (now (logs .entry)) (now (work .entry))) (now (out .entry)) p → Stands r (worldOf (now (anchor .exit)) (now (pages .exit)) (now (backups .exit)) (now (logs .exit)) (now (work .exit))) (now (out .exit)) (lineTaken (length (now (out .entry))) p)) ⌝ }
+{
     let command = command_of(desk.partial);
     let done = run(command, desk.state, anchor, pages, backups, logs, work);
     let outcome = done.outcome;
@@ -72,6 +78,7 @@ fn feed_line(
 ) -> Step
     requires { ⌜ at < length (now bytes) ⌝ }
     ensures { λ r. ⌜ (at < r .next) × (r .next ≤ length (now (bytes .entry))) ⌝ }
+    ensures { λ r. ⌜ ((p : Program) → Stands desk (worldOf (now (anchor .entry)) (now (pages .entry)) (now (backups .entry)) (now (logs .entry)) (now (work .entry))) (now (out .entry)) p → (q : Program) × Stands (r .desk) (worldOf (now (anchor .exit)) (now (pages .exit)) (now (backups .exit)) (now (logs .exit)) (now (work .exit))) (now (out .exit)) q × (fed (length (now (out .entry))) q (drop (r .next) (now (bytes .entry))) ≡ fed (length (now (out .entry))) p (drop at (now (bytes .entry))))) ⌝ }
 {
     let n = line_length(&bytes[at..]);
     let end = at + n;
@@ -102,7 +109,9 @@ pub fn feed(
     logs: &mut [u64],
     work: &mut [u64],
     out: &mut [u8],
-) -> Desk {
+) -> Desk
+    ensures { λ r. ⌜ ((p : Program) → Stands desk (worldOf (now (anchor .entry)) (now (pages .entry)) (now (backups .entry)) (now (logs .entry)) (now (work .entry))) (now (out .entry)) p → Stands r (worldOf (now (anchor .exit)) (now (pages .exit)) (now (backups .exit)) (now (logs .exit)) (now (work .exit))) (now (out .exit)) (fed (length (now (out .entry))) p (now (bytes .entry)))) ⌝ }
+{
     let mut d = desk;
     let mut at = 0;
     while at < bytes.len() {
@@ -111,4 +120,22 @@ pub fn feed(
         at = step.next;
     }
     d
+}
+
+// At the end of the input: a last line without an end counts.
+pub fn last_line(
+    desk: Desk,
+    anchor: &mut [u64],
+    pages: &mut [u64],
+    backups: &mut [u64],
+    logs: &mut [u64],
+    work: &mut [u64],
+    out: &mut [u8],
+) -> Desk
+    ensures { λ r. ⌜ ((p : Program) → Stands desk (worldOf (now (anchor .entry)) (now (pages .entry)) (now (backups .entry)) (now (logs .entry)) (now (work .entry))) (now (out .entry)) p → Stands r (worldOf (now (anchor .exit)) (now (pages .exit)) (now (backups .exit)) (now (logs .exit)) (now (work .exit))) (now (out .exit)) (ended (length (now (out .entry))) p)) ⌝ }
+{
+    if desk.begun {
+        return take_line(desk, anchor, pages, backups, logs, work, out);
+    }
+    desk
 }

@@ -1,15 +1,10 @@
 // hall: a store of two pages of four one-word slots on two disks, driven by lines of standard input.
-mod checkpoints;
 mod desk;
-mod outcome;
 mod output;
-mod restarts;
-mod run;
-mod transactions;
 
 use desk::Desk;
 use desk::feed;
-use desk::take_line;
+use desk::last_line;
 use libc::STDIN_FILENO;
 use lines::partial::start;
 use lines::tally::Tally;
@@ -17,6 +12,11 @@ use lines::text::put_tally;
 use output::add;
 use output::flush;
 use store::State;
+ghost use Prim.Native.Nat.{_≤_};
+ghost use lib.ListN.{length};
+ghost use Rattle.model.specs.World.{World};
+ghost use Rattle.hall.specs.Running.{started};
+ghost use Rattle.hall.specs.Held.{Stands};
 
 // A formatted store.
 fn formatted(
@@ -51,7 +51,9 @@ fn formatted(
 }
 
 // The desk before the first line, with the heading in the buffer.
-fn opened(state: State, out: &mut [u8]) -> Desk {
+fn opened(state: State, out: &mut [u8]) -> Desk
+    ensures { λ r. ⌜ (84 ≤ length (now (out .entry)) → (w : World) → Stands r w (now (out .exit)) (started (state .core) w)) ⌝ }
+{
     let fill = add(out, 0, b"line answer stores value\n");
     let tally = Tally {
         taken: 0,
@@ -117,22 +119,6 @@ fn serve(
         }
     }
     d
-}
-
-// A last line without an end counts.
-fn last_line(
-    desk: Desk,
-    anchor: &mut [u64],
-    pages: &mut [u64],
-    backups: &mut [u64],
-    logs: &mut [u64],
-    work: &mut [u64],
-    out: &mut [u8],
-) -> Desk {
-    if desk.begun {
-        return take_line(desk, anchor, pages, backups, logs, work, out);
-    }
-    desk
 }
 
 // Writes out the rest, and the tally.

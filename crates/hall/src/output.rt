@@ -1,12 +1,16 @@
 // The output: lines gather in a buffer, which is written when the next line might not fit.
-use crate::outcome::OTHER;
-use crate::outcome::Outcome;
+use commands::outcome::OTHER;
+use commands::outcome::Outcome;
 use libc::STDOUT_FILENO;
 use lines::text::put_line;
 use lines::text::put_other;
 ghost use mathlib.Core.Path.{_≡_};
-ghost use Prim.Native.Nat.{_≤_};
-ghost use lib.ListN.{length};
+ghost use Prim.Native.Nat.{_+_, _-_, _≤_};
+ghost use mathlib.Core.List.{_++_};
+ghost use mathlib.Core.Bool.{cond};
+ghost use lib.ListN.{length, take, drop};
+ghost use lib.Dec.{leb};
+ghost use Rattle.hall.specs.Running.{textOf, gathered};
 
 // The bytes of a line in a buffer are at most these.
 pub const LINE: usize = 84;
@@ -19,7 +23,9 @@ pub fn flush(out: &[u8], fill: usize) {
 }
 
 // Adds a text, if it fits; answers the new fill.
-pub fn add(out: &mut [u8], fill: usize, text: &[u8]) -> usize {
+pub fn add(out: &mut [u8], fill: usize, text: &[u8]) -> usize
+    ensures { λ r. ⌜ (fill + length (now (text .entry)) ≤ length (now (out .entry)) → (r ≡ fill + length (now (text .entry))) × (take r (now (out .exit)) ≡ take fill (now (out .entry)) ++ now (text .entry))) ⌝ }
+{
     let room = out.len();
     if room < fill {
         return fill;
@@ -36,12 +42,15 @@ pub fn add(out: &mut [u8], fill: usize, text: &[u8]) -> usize {
     fill + n
 }
 
-// Makes room for a line.
-fn with_room(out: &[u8], fill: usize) -> usize {
-    if fill <= out.len() {
-        if LINE <= out.len() - fill {
-            return fill;
-        }
+// Makes room for a line; answers how many bytes are kept.
+fn with_room(out: &[u8], fill: usize) -> usize
+    ensures { λ r. ⌜ (fill ≤ length (now (out .entry)) → r ≡ cond (leb 84 (length (now (out .entry)) - fill)) fill 0) ⌝ }
+{
+    if out.len() < fill {
+        return 0;
+    }
+    if LINE <= out.len() - fill {
+        return fill;
     }
     flush(out, fill);
     0
@@ -51,6 +60,7 @@ fn with_room(out: &[u8], fill: usize) -> usize {
 fn text_of(text: &mut [u8], line: u64, outcome: Outcome) -> usize
     requires { ⌜ 84 ≤ length (now text) ⌝ }
     ensures { λ r. ⌜ r ≤ length (now (text .entry)) ⌝ }
+    ensures { λ r. ⌜ drop r (now (text .exit)) ≡ textOf line outcome ⌝ }
 {
     let answer = outcome.answer;
     if answer == OTHER {
@@ -60,7 +70,9 @@ fn text_of(text: &mut [u8], line: u64, outcome: Outcome) -> usize
 }
 
 // Adds an outcome's line; answers the new fill.
-pub fn add_line(out: &mut [u8], fill: usize, line: u64, outcome: Outcome) -> usize {
+pub fn add_line(out: &mut [u8], fill: usize, line: u64, outcome: Outcome) -> usize
+    ensures { λ r. ⌜ (84 ≤ length (now (out .entry)) → fill ≤ length (now (out .entry)) → (r ≤ length (now (out .entry))) × (take r (now (out .exit)) ≡ gathered (length (now (out .entry))) (take fill (now (out .entry))) (textOf line outcome))) ⌝ }
+{
     let mut text = [0u8; 84];
     let at = text_of(&mut text, line, outcome);
     let free = with_room(out, fill);

@@ -1,25 +1,32 @@
--- `hall::output::add` is safe: the text fits, and the buffer keeps its length.
+-- `hall::output::add` meets its contract: so much of the text is there.
 use borrow.Author.Needs.{needs}
 use mathlib.Core.Path.{_≡_, refl}
-use Prim.Native.Nat.{_-_, _≤_}
-use lib.ListN.{length}
+use Prim.Native.Nat.{_+_, _-_, _≤_}
+use mathlib.Core.List.{_++_, append-nil}
+use native.Mathlib.Omega.{arith}
+use lib.ListN.{length, take}
+use lib.Seq.{take-length}
+use Rattle.hall.proofs.Gathering.{byte-added}
 use Rattle.hall.proofs.output.add.Statement.{statement}
 use Rattle.hall.proofs.output.add.Tie as tie
 
 abbrev Inv-loop : tie.InvT-loop
-Inv-loop out₀ fill text room n i₀ out i = (i ≤ n) × (length out ≡ length out₀)
+Inv-loop out₀ fill text room n i₀ out i =
+    ((i ≤ n) × (length out ≡ length out₀)) × (take (fill + i) out ≡ take fill out₀ ++ take i text)
 
 abbrev μ-loop : tie.MeasureT-loop
 μ-loop out₀ fill text room n i₀ out i = n - i
 
 returns : tie.Need-returns Inv-loop μ-loop
-returns c = search needs
+returns c = λ fits. absurd (omega (arith, fits, c .if1 .taken))
 
 returns-2 : tie.Need-returns-2 Inv-loop μ-loop
-returns-2 c = search needs
+returns-2 c = λ fits. absurd (omega (arith, fits, c .if2 .taken))
 
 loop-holds : tie.Need-loop-holds Inv-loop μ-loop
-loop-holds c = search needs
+loop-holds c =
+    let e : c .before .before .args .fill + 0 ≡ c .before .before .args .fill = omega arith in
+    (search needs, rw (e, append-nil))
 
 shared-slice-read-out : tie.Need-shared-slice-read-out Inv-loop μ-loop
 shared-slice-read-out c = search needs
@@ -37,7 +44,10 @@ loop-less : tie.Need-loop-less Inv-loop μ-loop
 loop-less c = search needs
 
 loop-again : tie.Need-loop-again Inv-loop μ-loop
-loop-again c = search needs
+loop-again c =
+    let l = c .before .before in
+    let a = l .before .before .before .args in
+    (search needs, byte-added (l .loop .out) (take (a .fill) (a .out .now)) (a .text .now) (a .fill) (l .loop .i) (slice-write-out c) (c .before .loop-test .taken) (l .loop .inv .1))
 
 add-result : tie.Need-add-result Inv-loop μ-loop
 add-result c = search needs
@@ -46,7 +56,11 @@ same-length : tie.Need-same-length Inv-loop μ-loop
 same-length c = search needs
 
 returns-3 : tie.Need-returns-3 Inv-loop μ-loop
-returns-3 c = search needs
+returns-3 c =
+    let l = c .before in
+    let text = l .before .before .before .args .text .now in
+    let e : l .loop .i ≡ length text = omega arith in
+    λ fits. (refl, rw (e, take-length text) at (l .loop .inv .1))
 
 pub add-spec : {M : Type 1} → statement M
 add-spec =

@@ -1,0 +1,43 @@
+-- From what a call gives to what its line shows.
+use mathlib.Core.Path.{_≡_, refl, ap, _∙_}
+use Prim.Native.Nat.{ℕ}
+use mathlib.Core.List.{List, [], _∷_}
+use native.Mathlib.Omega.{arith}
+use lib.ListN.{length, getD}
+use Rattle.model.specs.declared.Core.{Core}
+use Rattle.model.specs.declared.Answer.{Answer}
+use Rattle.model.specs.declared.Answer.the-variants.{Finished, Refused, Interrupted}
+use Rattle.model.specs.World.{World}
+use Rattle.model.specs.Call.{Call, resultOf, Gives}
+use Rattle.commands.specs.declared.outcome.Outcome.{Outcome}
+use Rattle.commands.specs.Shown.{valueIn, shownOf}
+use Rattle.commands.specs.Meaning.{Line, showing, showingOwn}
+
+module _ (k : Call) (c : Core) (w v : World) (left : ℕ) (answer : Answer) (core : Core) {next : Core} {outcome : Outcome} (gives : Gives k c w (record { answer = answer; core = core }) left v) (same : next ≡ core) where
+  pub shows : (value : ℕ) → outcome ≡ shownOf answer value → record { outcome = outcome; core = next; world = v } ≡ showing value (resultOf k c w)
+  unfolding Gives
+  shows value e = rw (e, same) (ap (showing value) gives)
+
+  -- the value is the one answered
+  pub shows-own : outcome ≡ shownOf answer (valueIn answer) → record { outcome = outcome; core = next; world = v } ≡ showingOwn (resultOf k c w)
+  unfolding Gives
+  shows-own e = rw (e, same) (ap showingOwn gives)
+
+-- an empty part of the pages has no first word
+pub no-word : {l m : List ℕ} → l ≡ m → length l ≡ 0 → 0 ≡ getD m 0 0
+no-word {l} {m} same e = rw (← same) (none l e)
+  where
+    none : (l : List ℕ) → length l ≡ 0 → 0 ≡ getD l 0 0
+    none [] e = refl
+    none (x ∷ l) e = absurd (omega arith)
+
+-- an answer by its case
+module _ (a : Answer) (value : ℕ) where
+  pub shown-finished : {s v : ℕ} → a ≡ Finished s v → record { answer = 0; stores = s; value = value } ≡ shownOf a value
+  shown-finished e = rw e
+
+  pub shown-refused : {n f s : ℕ} → a ≡ Refused n f s → record { answer = n; stores = 0; value = 0 } ≡ shownOf a value
+  shown-refused e = rw e
+
+  pub shown-cut : {s : ℕ} → a ≡ Interrupted s → record { answer = 16; stores = s; value = 0 } ≡ shownOf a value
+  shown-cut e = rw e

@@ -1,0 +1,89 @@
+-- `commands::restarts::run_restart` meets its contract: it ends where the replay was refused, or with the end of the restart.
+use borrow.Author.Needs.{needs}
+use borrow.Author.Tests.{not-true, not-false}
+use mathlib.Core.Path.{sym, _∙_}
+use Rattle.commands.specs.Meaning.{lineOf}
+use Rattle.commands.proofs.Showing.{shows-own}
+use Rattle.commands.proofs.Replaying.{restart-refused, restart-ended}
+use Rattle.commands.proofs.restarts.run_restart.Statement.{statement}
+use Rattle.commands.proofs.restarts.run_restart.Tie as tie
+
+replay-all-requires : tie.Need-replay-all-requires
+replay-all-requires c κs = search needs
+
+is-finished-requires : tie.Need-is-finished-requires
+is-finished-requires c κs = search needs
+
+settled-requires : tie.Need-settled-requires
+settled-requires c κs = search needs
+
+same-length : tie.Need-same-length
+same-length c = search needs
+
+same-length-2 : tie.Need-same-length-2
+same-length-2 c = search needs
+
+same-length-3 : tie.Need-same-length-3
+same-length-3 c = search needs
+
+same-length-4 : tie.Need-same-length-4
+same-length-4 c = search needs
+
+returns : tie.Need-returns
+unfolding lineOf
+returns c =
+    let test = c .before in
+    restart-refused _ _ _ (test .before .before .before .before .replay-all .ensures)
+    (sym (test .before .is-finished .ensures) ∙ not-true _ (test .if1 .taken))
+    (c .settled .ensures .0)
+    (c .settled .ensures .1)
+
+restart-end-requires : tie.Need-restart-end-requires
+restart-end-requires c κs = search needs
+
+value-of-requires : tie.Need-value-of-requires
+value-of-requires c κs = search needs
+
+settled-requires-2 : tie.Need-settled-requires-2
+settled-requires-2 c κs = search needs
+
+same-length-5 : tie.Need-same-length-5
+same-length-5 c = search needs
+
+same-length-6 : tie.Need-same-length-6
+same-length-6 c = search (needs, c .before .before .before .before .before .before .before .before .before .before .before .before .before .before .before .before .before .before .pages .given)
+
+same-length-7 : tie.Need-same-length-7
+same-length-7 c = search needs
+
+same-length-8 : tie.Need-same-length-8
+same-length-8 c = search needs
+
+returns-2 : tie.Need-returns-2
+unfolding lineOf
+returns-2 c =
+    let end = c .before .before .before .before .before .before .before .before in
+    let test = end .before .before .before .before .before .before .before in
+    restart-ended _ _ _ (test .before .before .before .before .replay-all .ensures) (sym (test .before .is-finished .ensures) ∙ not-false _ (test .if1 .left))
+    (shows-own _ _ _ _ _ _ _ (end .restart-end .ensures .0) (c .settled2 .ensures .1) (rw (c .before .value-of .ensures) at (c .settled2 .ensures .0)))
+
+pub run-restart-spec : {M : Type 1} → statement M
+run-restart-spec =
+    tie.close
+    (tie.spec
+    replay-all-requires
+    is-finished-requires
+    settled-requires
+    same-length
+    same-length-2
+    same-length-3
+    same-length-4
+    returns
+    restart-end-requires
+    value-of-requires
+    settled-requires-2
+    same-length-5
+    same-length-6
+    same-length-7
+    same-length-8
+    returns-2)

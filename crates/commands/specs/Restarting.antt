@@ -1,0 +1,44 @@
+-- "restart (source 0 to its end, then 1, then the backup, then the end)"; "A restart line stops at its first refusal."
+use Prim.Native.Nat.{ℕ, zero, suc}
+use mathlib.Core.Bool.{Bool, true, false, cond}
+use lib.Dec.{eqb}
+use Rattle.model.specs.declared.Core.{Core}
+use Rattle.model.specs.declared.Answer.{Answer}
+use Rattle.model.specs.declared.Answer.the-variants.{Finished, Refused, Interrupted}
+use Rattle.model.specs.World.{World}
+use Rattle.model.specs.Refusal.{Result}
+use Rattle.model.specs.Restart.{remaining}
+use Rattle.model.specs.Call.{restartBegin, restartStep, restartEnd, resultOf}
+use Rattle.store.specs.declared.Called.{Called}
+
+abbrev pub isFinished : Answer → Bool
+isFinished (Finished stores value) = true
+isFinished (Refused number first second) = false
+isFinished (Interrupted stores) = false
+
+-- Steps of a source after a call: up to its end or to the first refusal, n at most.
+unfoldable pub stepped : (n source : ℕ) → Result → Result
+stepped zero source r = r
+stepped (suc n) source r =
+    cond (isFinished (r .answer))
+    (cond (eqb (remaining (r .core) source) 0) r (stepped n source (resultOf (restartStep source) (r .core) (r .world))))
+    r
+
+-- To its end: a step takes a record of two words or more, or a page, so what remains is the most steps that there are. Were something
+-- left, the end would answer 15.
+unfoldable pub toEnd : (source : ℕ) → Result → Result
+toEnd source r = stepped (remaining (r .core) source) source r
+
+-- the pages as the logs and the backup give them; the program's store has two disks, so source 2 is the backup
+unfoldable pub replayedAll : Core → World → Result
+replayedAll c w = toEnd 2 (toEnd 1 (toEnd 0 (resultOf restartBegin c w)))
+
+-- the last of the calls: only it makes stores
+unfoldable pub restartedAll : Core → World → Result
+restartedAll c w =
+    let r : Result = replayedAll c w in
+    cond (isFinished (r .answer)) (resultOf (restartEnd 18446744073709551615) (r .core) (r .world)) r
+
+-- A call of the code that stores nothing, with the words that it left.
+abbrev pub given : Called → World → Result
+given called w = record { answer = called .answer; budget = 0; core = called .state .core; world = w }

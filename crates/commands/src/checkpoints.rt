@@ -1,0 +1,67 @@
+// The three commands of a checkpoint.
+use crate::outcome::Done;
+use crate::outcome::settled;
+use store::State;
+ghost use Rattle.model.specs.World.{worldOf};
+ghost use Rattle.lines.specs.declared.command.Command.the-variants.{Mark, Copy, Close};
+ghost use Rattle.commands.specs.Meaning.{Runs};
+
+pub fn run_mark(
+    state: State,
+    anchor: &[u64],
+    pages: &[u64],
+    backups: &[u64],
+    logs: &[u64],
+    work: &[u64],
+) -> Done
+    ensures { λ r. ⌜ Runs Mark (state .core) (worldOf (now (anchor .entry)) (now (pages .entry)) (now (backups .entry)) (now (logs .entry)) (now (work .entry))) r (worldOf (now (anchor .entry)) (now (pages .entry)) (now (backups .entry)) (now (logs .entry)) (now (work .entry))) ⌝ }
+{
+    let called = store::checkpoints::checkpoint_begin(state, anchor, pages, backups, logs, work);
+    settled(called, 0)
+}
+
+pub fn run_copy(
+    state: State,
+    anchor: &[u64],
+    pages: &[u64],
+    backups: &mut [u64],
+    logs: &[u64],
+    work: &mut [u64],
+) -> Done
+    ensures { λ r. ⌜ Runs Copy (state .core) (worldOf (now (anchor .entry)) (now (pages .entry)) (now (backups .entry)) (now (logs .entry)) (now (work .entry))) r (worldOf (now (anchor .entry)) (now (pages .entry)) (now (backups .exit)) (now (logs .entry)) (now (work .exit))) ⌝ }
+{
+    let mut budget = u64::MAX;
+    let called = store::checkpoints::checkpoint_step(
+        state,
+        anchor,
+        pages,
+        backups,
+        logs,
+        work,
+        &mut budget,
+    );
+    settled(called, 0)
+}
+
+pub fn run_close(
+    state: State,
+    anchor: &mut [u64],
+    pages: &[u64],
+    backups: &[u64],
+    logs: &mut [u64],
+    work: &[u64],
+) -> Done
+    ensures { λ r. ⌜ Runs Close (state .core) (worldOf (now (anchor .entry)) (now (pages .entry)) (now (backups .entry)) (now (logs .entry)) (now (work .entry))) r (worldOf (now (anchor .exit)) (now (pages .entry)) (now (backups .entry)) (now (logs .exit)) (now (work .entry))) ⌝ }
+{
+    let mut budget = u64::MAX;
+    let called = store::checkpoints::checkpoint_end(
+        state,
+        anchor,
+        pages,
+        backups,
+        logs,
+        work,
+        &mut budget,
+    );
+    settled(called, 0)
+}

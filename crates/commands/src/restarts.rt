@@ -1,0 +1,90 @@
+// A restart: each source to its end, then the end of the restart. It stops at its first refusal.
+use crate::outcome::Done;
+use crate::outcome::is_finished;
+use crate::outcome::settled;
+use crate::outcome::value_of;
+use store::Called;
+use store::State;
+ghost use mathlib.Core.Path.{_≡_};
+ghost use Rattle.model.specs.World.{worldOf};
+ghost use Rattle.lines.specs.declared.command.Command.the-variants.{Restart};
+ghost use Rattle.commands.specs.Restarting.{toEnd, replayedAll, given};
+ghost use Rattle.commands.specs.Meaning.{Runs};
+
+// Takes a source to its end, which the store tells: what remains of it is steps enough.
+fn replay(
+    begun: Called,
+    source: u64,
+    anchor: &[u64],
+    pages: &mut [u64],
+    backups: &[u64],
+    logs: &[u64],
+    work: &[u64],
+) -> Called
+    ensures { λ r. ⌜ given r (worldOf (now (anchor .entry)) (now (pages .exit)) (now (backups .entry)) (now (logs .entry)) (now (work .entry))) ≡ toEnd source (given begun (worldOf (now (anchor .entry)) (now (pages .entry)) (now (backups .entry)) (now (logs .entry)) (now (work .entry)))) ⌝ }
+{
+    let mut called = begun;
+    let mut turns = store::restarts::restart_remaining(begun.state, source);
+    while 0 < turns {
+        turns -= 1;
+        let answer = called.answer;
+        if !is_finished(answer) {
+            return called;
+        }
+        let state = called.state;
+        if store::restarts::restart_remaining(state, source) == 0 {
+            return called;
+        }
+        called = store::restarts::restart_step(state, source, anchor, pages, backups, logs, work);
+    }
+    called
+}
+
+// The pages as the backup and the logs give them: source 0 to its end, then 1, then the backup.
+fn replay_all(
+    state: State,
+    anchor: &[u64],
+    pages: &mut [u64],
+    backups: &[u64],
+    logs: &[u64],
+    work: &[u64],
+) -> Called
+    ensures { λ r. ⌜ given r (worldOf (now (anchor .entry)) (now (pages .exit)) (now (backups .entry)) (now (logs .entry)) (now (work .entry))) ≡ replayedAll (state .core) (worldOf (now (anchor .entry)) (now (pages .entry)) (now (backups .entry)) (now (logs .entry)) (now (work .entry))) ⌝ }
+{
+    let begun = store::restarts::restart_begin(state, anchor, pages, backups, logs, work);
+    let first = replay(begun, 0, anchor, pages, backups, logs, work);
+    let second = replay(first, 1, anchor, pages, backups, logs, work);
+    replay(second, 2, anchor, pages, backups, logs, work)
+}
+
+// The value shown is the new checkpoint number. Only the end of a restart makes stores, so its count is the line's sum.
+pub fn run_restart(
+    state: State,
+    anchor: &mut [u64],
+    pages: &mut [u64],
+    backups: &mut [u64],
+    logs: &[u64],
+    work: &mut [u64],
+) -> Done
+    ensures { λ r. ⌜ Runs Restart (state .core) (worldOf (now (anchor .entry)) (now (pages .entry)) (now (backups .entry)) (now (logs .entry)) (now (work .entry))) r (worldOf (now (anchor .exit)) (now (pages .exit)) (now (backups .exit)) (now (logs .entry)) (now (work .exit))) ⌝ }
+{
+    let replayed = replay_all(state, anchor, pages, backups, logs, work);
+    let answer = replayed.answer;
+    if !is_finished(answer) {
+        return settled(replayed, 0);
+    }
+    let state = replayed.state;
+    let mut budget = u64::MAX;
+    let called = store::restarts::restart_end(
+        state,
+        anchor,
+        pages,
+        backups,
+        logs,
+        work,
+        &mut budget,
+    );
+    let answer = called.answer;
+    let value = value_of(answer);
+    settled(called, value)
+}

@@ -1,0 +1,114 @@
+-- `hall::desk::feed_line` meets its contract: a line's bytes are read, and the line is run if its end is there.
+use borrow.Author.Needs.{needs}
+use native.Mathlib.Omega.{arith}
+use Rattle.hall.specs.Running.{lineTaken, withRead}
+use Rattle.hall.proofs.Feeding.{line-ends, line-goes-on, piece-some}
+use Rattle.hall.proofs.Holding.{piece-read, has-begun}
+use Rattle.hall.proofs.desk.feed_line.Statement.{statement}
+use Rattle.hall.proofs.desk.feed_line.Tie as tie
+
+sub-line-length : tie.Need-sub-line-length
+sub-line-length c = search needs
+
+part-line-length-start : tie.Need-part-line-length-start
+part-line-length-start c = search needs
+
+part-line-length-end : tie.Need-part-line-length-end
+part-line-length-end c = search needs
+
+line-length-requires : tie.Need-line-length-requires
+line-length-requires c κs = search needs
+
+add-end : tie.Need-add-end
+add-end c = search needs
+
+sub-read-piece : tie.Need-sub-read-piece
+sub-read-piece c = search needs
+
+part-read-piece-start : tie.Need-part-read-piece-start
+part-read-piece-start c = search needs
+
+part-read-piece-end : tie.Need-part-read-piece-end
+part-read-piece-end c = search needs
+
+read-piece-requires : tie.Need-read-piece-requires
+read-piece-requires c κs = search needs
+
+add-next : tie.Need-add-next
+add-next c = search needs
+
+take-line-requires : tie.Need-take-line-requires
+take-line-requires c κs = search needs
+
+same-length : tie.Need-same-length
+same-length c = search needs
+
+same-length-2 : tie.Need-same-length-2
+same-length-2 c = search needs
+
+same-length-3 : tie.Need-same-length-3
+same-length-3 c = search needs
+
+same-length-4 : tie.Need-same-length-4
+same-length-4 c = search needs
+
+same-length-5 : tie.Need-same-length-5
+same-length-5 c = search needs
+
+same-length-6 : tie.Need-same-length-6
+same-length-6 c = search needs
+
+returns : tie.Need-returns
+returns c =
+    let take = c .before .before .before .before .before .before .before .before .before .before .before .before in
+    let test = take .before .before .before .before .before .before .before in
+    let piece = test .before .before .before in
+    let line = piece .before .before in
+    let inside = line .before .before .before .before .before .before .before .before .before .pre in (
+      (omega arith, omega (arith, test .if1 .taken)),
+      λ p s. (
+        _,
+        take .take-line .ensures _ (piece-read _ _ _ p (s .holds) _ _ (piece .read-piece .ensures)),
+        line-ends _ p _ _ _ (line .line-length .ensures .0) (omega (arith, inside)) (test .if1 .taken),
+      ),
+    )
+
+returns-2 : tie.Need-returns-2
+returns-2 c =
+    let piece = c .before .before .before in
+    let line = piece .before .before in
+    let inside = line .before .before .before .before .before .before .before .before .before .pre in (
+      (omega (arith, inside), omega arith),
+      λ p s. (
+        _,
+        record {
+          holds = piece-read _ _ _ p (s .holds) _ _ (piece .read-piece .ensures);
+          begun = has-begun p _ (piece-some _ _ _ inside (c .if1 .left));
+        },
+        line-goes-on _ p _ _ _ (line .line-length .ensures .0) (c .if1 .left),
+      ),
+    )
+
+pub feed-line-spec : {M : Type 1} → statement M
+feed-line-spec =
+    tie.close
+    (tie.spec
+    sub-line-length
+    part-line-length-start
+    part-line-length-end
+    line-length-requires
+    add-end
+    sub-read-piece
+    part-read-piece-start
+    part-read-piece-end
+    read-piece-requires
+    add-next
+    take-line-requires
+    same-length
+    same-length-2
+    same-length-3
+    same-length-4
+    same-length-5
+    same-length-6
+    returns
+    returns-2)

@@ -1,0 +1,48 @@
+-- `hall::desk::last_line` meets its contract.
+use borrow.Author.Needs.{needs}
+use Rattle.hall.proofs.Feeding.{ended-line, ended-none}
+use Rattle.hall.proofs.desk.last_line.Statement.{statement}
+use Rattle.hall.proofs.desk.last_line.Tie as tie
+
+take-line-requires : tie.Need-take-line-requires
+take-line-requires c κs = search needs
+
+same-length : tie.Need-same-length
+same-length c = search needs
+
+same-length-2 : tie.Need-same-length-2
+same-length-2 c = search needs
+
+same-length-3 : tie.Need-same-length-3
+same-length-3 c = search needs
+
+same-length-4 : tie.Need-same-length-4
+same-length-4 c = search needs
+
+same-length-5 : tie.Need-same-length-5
+same-length-5 c = search needs
+
+same-length-6 : tie.Need-same-length-6
+same-length-6 c = search needs
+
+returns : tie.Need-returns
+returns c =
+    let take = c .before .before .before .before .before .before .before .before .before .before .before .before in
+    λ p s. rw (ended-line _ p (s .begun) (take .before .before .before .before .before .before .before .if1 .taken)) (take .take-line .ensures p (s .holds))
+
+returns-2 : tie.Need-returns-2
+returns-2 c = λ p s. rw (ended-none _ p (s .begun) (c .if1 .left)) s
+
+pub last-line-spec : {M : Type 1} → statement M
+last-line-spec =
+    tie.close
+    (tie.spec
+    take-line-requires
+    same-length
+    same-length-2
+    same-length-3
+    same-length-4
+    same-length-5
+    same-length-6
+    returns
+    returns-2)
