@@ -1,5 +1,5 @@
 -- From what a call gives to what its line shows.
-use mathlib.Core.Path.{_≡_, refl, ap, _∙_}
+use mathlib.Core.Path.{_≡_, refl, ap}
 use Prim.Native.Nat.{ℕ}
 use mathlib.Core.List.{List, [], _∷_}
 use native.Mathlib.Omega.{arith}
@@ -11,7 +11,7 @@ use Rattle.model.specs.World.{World}
 use Rattle.model.specs.Call.{Call, resultOf, Gives}
 use Rattle.commands.specs.declared.outcome.Outcome.{Outcome}
 use Rattle.commands.specs.Shown.{valueIn, shownOf}
-use Rattle.commands.specs.Meaning.{Line, showing, showingOwn}
+use Rattle.commands.specs.Meaning.{showing, showingOwn}
 
 module _ (k : Call) (c : Core) (w v : World) (left : ℕ) (answer : Answer) (core : Core) {next : Core} {outcome : Outcome} (gives : Gives k c w (record { answer = answer; core = core }) left v) (same : next ≡ core) where
   pub shows : (value : ℕ) → outcome ≡ shownOf answer value → record { outcome = outcome; core = next; world = v } ≡ showing value (resultOf k c w)

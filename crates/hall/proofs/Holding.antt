@@ -12,7 +12,6 @@ use Rattle.lines.specs.declared.tally.Tally.{Tally}
 use Rattle.lines.specs.Line.{isEmpty, commandOf}
 use Rattle.lines.specs.After.{commandAfter}
 use Rattle.lines.specs.Counting.{oneMore, counted}
-use Rattle.commands.specs.declared.outcome.Outcome.{Outcome}
 use Rattle.commands.specs.declared.outcome.Done.{Done}
 use Rattle.commands.specs.Meaning.{Line, lineOf, Runs}
 use Rattle.store.specs.declared.State.{State}

@@ -1,7 +1,6 @@
 -- `hall::desk::feed_line` meets its contract: a line's bytes are read, and the line is run if its end is there.
 use borrow.Author.Needs.{needs}
 use native.Mathlib.Omega.{arith}
-use Rattle.hall.specs.Running.{lineTaken, withRead}
 use Rattle.hall.proofs.Feeding.{line-ends, line-goes-on, piece-some}
 use Rattle.hall.proofs.Holding.{piece-read, has-begun}
 use Rattle.hall.proofs.desk.feed_line.Statement.{statement}
