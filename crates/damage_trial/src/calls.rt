@@ -1,6 +1,6 @@
 // The store's calls of transactions and checkpoints on a machine, each with the largest allowance.
-use crate::machine::Devices;
 use crate::machine::Machine;
+use damage::devices::Devices;
 
 // One page of two one-word slots, one disk, W = 128.
 pub fn format(m: Machine) -> Machine {

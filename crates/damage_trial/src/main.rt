@@ -7,22 +7,18 @@
 // Standard input may begin with a number: how many random images are tried (500 where there is none). To run it longer:
 //     echo 60000 | target/bin/damage_trial
 mod calls;
-mod damage;
 mod machine;
 mod probe;
-mod reading;
-mod records;
-mod replay;
 mod restarts;
 mod trial;
 
-use crate::machine::Devices;
-use crate::machine::blank;
 use crate::machine::shut;
 use crate::probe::Act;
 use crate::probe::Probe;
 use crate::probe::tried;
 use crate::trial::try_image;
+use damage::devices::Devices;
+use damage::devices::blank;
 use rehearsal::random;
 use rehearsal::text::count;
 use rehearsal::text::read_number;

@@ -1,7 +1,7 @@
 // A call's answer, judged: its number must be among those that it may give, and a refused call must leave every word.
 use crate::calls;
 use crate::machine::Machine;
-use crate::machine::same;
+use damage::devices::same;
 use rehearsal::answers::number_of;
 use rehearsal::words::more;
 use rehearsal::words::tally;

@@ -1,7 +1,7 @@
 // The calls of a restart on a machine. `short` names a slice that is lent one word short: 1 anchor, 2 pages, 3 backups, 4 logs, 5 work
 // memory; 0 none.
-use crate::machine::Devices;
 use crate::machine::Machine;
+use damage::devices::Devices;
 use rehearsal::words::front;
 
 // How much of each slice is lent.

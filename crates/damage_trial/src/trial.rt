@@ -1,18 +1,18 @@
 // One damaged image: a restart, begun with short slices first, then the calls after it.
-use crate::damage::damaged;
-use crate::machine::Devices;
-use crate::machine::same_but_work;
 use crate::machine::shut;
 use crate::probe::Act;
 use crate::probe::Probe;
 use crate::probe::judged;
 use crate::probe::tried;
-use crate::reading::answers;
-use crate::reading::wanted_on;
-use crate::replay::restarted;
 use crate::restarts::restart_begin;
 use crate::restarts::restart_end;
 use crate::restarts::restart_step;
+use damage::changes::damaged;
+use damage::devices::Devices;
+use damage::devices::same_but_work;
+use damage::reading::answers;
+use damage::reading::wanted_on;
+use damage::replay::restarted;
 use rehearsal::answers::number_of;
 use rehearsal::answers::stores_of;
 use rehearsal::words::more;

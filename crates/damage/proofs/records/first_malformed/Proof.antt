@@ -1,7 +1,7 @@
 -- `first_malformed` is safe and ends.
 use borrow.Author.Needs.{needs}
-use Rattle.damage_trial.proofs.records.first_malformed.Statement.{statement}
-use Rattle.damage_trial.proofs.records.first_malformed.Tie as tie
+use Rattle.damage.proofs.records.first_malformed.Statement.{statement}
+use Rattle.damage.proofs.records.first_malformed.Tie as tie
 
 abbrev Inv-loop : tie.InvT-loop
 Inv-loop anchor logs start tail left₀ at₀ left at = Unit {0}

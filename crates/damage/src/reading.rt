@@ -1,6 +1,6 @@
 // What a restart's begin must answer, read by 01's table with no help of the store. The lent slices have the lengths of one page of two
 // one-word slots, one disk, W = 128.
-use crate::machine::Devices;
+use crate::devices::Devices;
 use crate::records::first_malformed;
 use crate::records::start_of;
 use model::Answer;

@@ -1,7 +1,7 @@
 -- `replayed` is safe and ends.
 use borrow.Author.Needs.{needs}
-use Rattle.damage_trial.proofs.replay.replayed.Statement.{statement}
-use Rattle.damage_trial.proofs.replay.replayed.Tie as tie
+use Rattle.damage.proofs.replay.replayed.Statement.{statement}
+use Rattle.damage.proofs.replay.replayed.Tie as tie
 
 abbrev Inv-loop : tie.InvT-loop
 Inv-loop anchor backups logs address tail word₀ at₀ left₀ word at left = Unit {0}

@@ -1,5 +1,5 @@
 // What a restart's end must leave of an image whose begin was taken, replayed by 01's words with no help of the store.
-use crate::machine::Devices;
+use crate::devices::Devices;
 use crate::records::record_words;
 use crate::records::ring;
 use crate::records::start_of;

@@ -1,5 +1,5 @@
 // Damaged images: one word of a good image changed, or words at random.
-use crate::machine::Devices;
+use crate::devices::Devices;
 use rehearsal::random;
 use rehearsal::words::get;
 use rehearsal::words::less;
@@ -13,7 +13,7 @@ pub fn damaged(good: Devices, which: u64, seed: u64) -> Devices {
     let mut logs = good.logs;
     let mut pages = good.pages;
     let mut work = good.work;
-    damage(which, seed, &mut anchor, &mut backups, &mut logs);
+    damage_devices(which, seed, &mut anchor, &mut backups, &mut logs);
     random::fill(&mut pages, 2, 5);
     random::fill(&mut work, 130, 6);
     Devices {
@@ -26,7 +26,13 @@ pub fn damaged(good: Devices, which: u64, seed: u64) -> Devices {
 }
 
 // The first 2,248 are the single changes: eight of each word, the anchor's first, then the backups', then the log's.
-fn damage(which: u64, seed: u64, anchor: &mut [u64], backups: &mut [u64], logs: &mut [u64]) {
+fn damage_devices(
+    which: u64,
+    seed: u64,
+    anchor: &mut [u64],
+    backups: &mut [u64],
+    logs: &mut [u64],
+) {
     let word = which / 8;
     let variant = which % 8;
     if word < 148 {

@@ -1,7 +1,7 @@
 -- `is_closed` is safe and ends.
 use borrow.Author.Needs.{needs}
-use Rattle.damage_trial.proofs.replay.is_closed.Statement.{statement}
-use Rattle.damage_trial.proofs.replay.is_closed.Tie as tie
+use Rattle.damage.proofs.replay.is_closed.Statement.{statement}
+use Rattle.damage.proofs.replay.is_closed.Tie as tie
 
 abbrev Inv-loop : tie.InvT-loop
 Inv-loop anchor logs first tail number at₀ left₀ at left = Unit {0}

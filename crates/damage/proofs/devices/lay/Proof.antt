@@ -2,8 +2,8 @@
 use lib.ListN.{length}
 use mathlib.Core.Path.{_≡_}
 use borrow.Author.Needs.{needs}
-use Rattle.damage_trial.proofs.machine.lay.Statement.{statement}
-use Rattle.damage_trial.proofs.machine.lay.Tie as tie
+use Rattle.damage.proofs.devices.lay.Statement.{statement}
+use Rattle.damage.proofs.devices.lay.Tie as tie
 
 abbrev Inv-loop : tie.InvT-loop
 Inv-loop target₀ at source n left₀ target left = length target ≡ length target₀
