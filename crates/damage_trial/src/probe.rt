@@ -1,9 +1,11 @@
 // A call's answer, judged: its number must be among those that it may give, and a refused call must leave every word.
-use crate::calls;
+use crate::calls::Act;
 use crate::machine::Machine;
+use crate::machine::performed;
 use damage::devices::same;
 use rehearsal::answers::number_of;
 use rehearsal::words::more;
+use rehearsal::words::sum;
 use rehearsal::words::tally;
 
 // The machine, and what was found so far. `taken` tells that the restart's begin was taken: until then every later call answers 1.
@@ -16,37 +18,11 @@ pub struct Probe {
     pub agreed: u64,
 }
 
-// A call that is judged by its number alone.
-pub enum Act {
-    Format,
-    Begin,
-    Update { number: u64, slot: u64, word: u64 },
-    Commit { number: u64 },
-    Abort { number: u64 },
-    Mark,
-    Copy,
-    Close,
-}
-
-fn performed(m: Machine, act: Act) -> Machine {
-    match act {
-        Act::Format => calls::format(m),
-        Act::Begin => calls::begin(m),
-        Act::Update { number, slot, word } => calls::update(m, number, slot, word),
-        Act::Commit { number } => calls::commit(m, number),
-        Act::Abort { number } => calls::abort(m, number),
-        Act::Mark => calls::checkpoint_begin(m),
-        Act::Copy => calls::checkpoint_step(m),
-        Act::Close => calls::checkpoint_end(m),
-    }
-}
-
-// The numbers that it may answer, as the sum of their powers of 2. A begin or an update may find no log room where the positions are
+// The numbers that a call may answer, as the sum of their powers of 2. A begin or an update may find no log room where the positions are
 // near their bound (14), and then there is no such transaction (9); a checkpoint's begin may find c at its bound (13), and then the
 // checkpoint's other calls are not allowed (1).
 fn allowed(act: Act) -> u64 {
     match act {
-        Act::Format => 1,
         Act::Begin => 16385,
         Act::Update {
             number: _,
@@ -58,14 +34,32 @@ fn allowed(act: Act) -> u64 {
         Act::Mark => 8193,
         Act::Copy => 3,
         Act::Close => 3,
+        _ => 1,
     }
 }
 
-// The probe after a call.
+// The probe after a call, which is lent short slices first.
 pub fn tried(p: Probe, act: Act) -> Probe {
+    let before = tried_short(p, act);
+    let m = before.machine;
+    judged(before, performed(m, act, 0), allowed(act), true)
+}
+
+// A call that is lent each slice a word short.
+pub fn tried_short(p: Probe, act: Act) -> Probe {
+    let anchor = tried_with(p, act, 1);
+    let pages = tried_with(anchor, act, 2);
+    let backups = tried_with(pages, act, 3);
+    let logs = tried_with(backups, act, 4);
+    tried_with(logs, act, 5)
+}
+
+// It answers 2 for the anchor, 5 for another, or 1 where it may answer that.
+fn tried_with(p: Probe, act: Act, short: u64) -> Probe {
     let m = p.machine;
-    let after = performed(m, act);
-    judged(p, after, allowed(act), true)
+    let stage = allowed(act) / 2 % 2 * 2;
+    let set = if short == 1 { 4 } else { 32 };
+    judged(p, performed(m, act, short), sum(stage, set), true)
 }
 
 fn is_in(set: u64, number: u64) -> bool {

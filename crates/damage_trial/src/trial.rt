@@ -1,12 +1,11 @@
 // One damaged image: a restart, begun with short slices first, then the calls after it.
+use crate::calls::Act;
+use crate::machine::performed;
 use crate::machine::shut;
-use crate::probe::Act;
 use crate::probe::Probe;
 use crate::probe::judged;
 use crate::probe::tried;
-use crate::restarts::restart_begin;
-use crate::restarts::restart_end;
-use crate::restarts::restart_step;
+use crate::probe::tried_short;
 use damage::changes::damaged;
 use damage::devices::Devices;
 use damage::devices::same_but_work;
@@ -28,8 +27,9 @@ pub fn try_image(p: Probe, good: Devices, which: u64, seed: u64) -> Probe {
         ..p
     };
     let begun = begin_restart(begin_short(fresh));
-    let replayed = replay(step_short(begun));
-    later(end_restart(replayed))
+    let replayed = replay(tried_short(begun, Act::RestartStep { source: 0 }));
+    let waiting = tried_short(replayed, Act::RestartEnd);
+    later(end_restart(waiting))
 }
 
 // Begins that are lent a short slice.
@@ -44,7 +44,7 @@ fn begin_short(p: Probe) -> Probe {
 // A restart's begin, which answers as the table says; taken, it leaves the pages zero.
 fn try_begin(p: Probe, short: u64) -> Probe {
     let before = p.machine;
-    let after = restart_begin(before, short);
+    let after = performed(before, Act::RestartBegin, short);
     let answer = after.answer;
     let zero = number_of(answer) > 0 || zero_pages(after.devices);
     let right = zero && answers(answer, wanted_on(before.devices, short));
@@ -68,24 +68,16 @@ fn begin_restart(p: Probe) -> Probe {
     }
 }
 
-// Steps that are lent a short slice answer 2 for the anchor, else 5.
-fn step_short(p: Probe) -> Probe {
-    let anchor = try_step(p, 0, 1, 4);
-    let pages = try_step(anchor, 0, 2, 32);
-    let backups = try_step(pages, 0, 3, 32);
-    let logs = try_step(backups, 0, 4, 32);
-    try_step(logs, 0, 5, 32)
-}
-
-fn try_step(p: Probe, source: u64, short: u64, set: u64) -> Probe {
+fn try_step(p: Probe, source: u64, set: u64) -> Probe {
     let machine = p.machine;
-    judged(p, restart_step(machine, source, short), set, true)
+    let after = performed(machine, Act::RestartStep { source }, 0);
+    judged(p, after, set, true)
 }
 
 // Steps until nothing remains; then each source has nothing left.
 fn replay(p: Probe) -> Probe {
-    let log_done = try_step(steps(p), 0, 0, 32768);
-    try_step(log_done, 1, 0, 32768)
+    let log_done = try_step(steps(p), 0, 32768);
+    try_step(log_done, 1, 32768)
 }
 
 // The log has at most 64 records, and the backup one page.
@@ -103,10 +95,10 @@ fn steps(p: Probe) -> Probe {
 fn step_if_any(p: Probe) -> Probe {
     let machine = p.machine;
     if restart_remaining(machine.state, 0) > 0 {
-        return try_step(p, 0, 0, 1);
+        return try_step(p, 0, 1);
     }
     if restart_remaining(machine.state, 1) > 0 {
-        return try_step(p, 1, 0, 1);
+        return try_step(p, 1, 1);
     }
     p
 }
@@ -114,7 +106,7 @@ fn step_if_any(p: Probe) -> Probe {
 // A restart's end makes four stores: both words of the page, the tail, c.
 fn end_restart(p: Probe) -> Probe {
     let before = p.machine;
-    let after = restart_end(before);
+    let after = performed(before, Act::RestartEnd, 0);
     let answer = after.answer;
     let wanted = restarted(before.devices);
     let right = stores_of(answer) == 4 && same_but_work(wanted, after.devices);
