@@ -1,7 +1,7 @@
 -- `sizes_faults` is safe and ends.
 use borrow.Author.Needs.{needs}
-use Rattle.damage_trial.proofs.image.sizes_faults.Statement.{statement}
-use Rattle.damage_trial.proofs.image.sizes_faults.Tie as tie
+use Rattle.damage.proofs.reading.sizes_faults.Statement.{statement}
+use Rattle.damage.proofs.reading.sizes_faults.Tie as tie
 
 abbrev Inv-loop : tie.InvT-loop
 Inv-loop anchor pages left₀ faults₀ left faults = Unit {0}

@@ -1,7 +1,7 @@
--- `scan_fails` is safe and ends.
+-- `first_malformed` is safe and ends.
 use borrow.Author.Needs.{needs}
-use Rattle.damage_trial.proofs.image.scan_fails.Statement.{statement}
-use Rattle.damage_trial.proofs.image.scan_fails.Tie as tie
+use Rattle.damage.proofs.records.first_malformed.Statement.{statement}
+use Rattle.damage.proofs.records.first_malformed.Tie as tie
 
 abbrev Inv-loop : tie.InvT-loop
 Inv-loop anchor logs start tail left₀ at₀ left at = Unit {0}
@@ -21,11 +21,11 @@ returns c = search needs
 record-words-requires : tie.Need-record-words-requires Inv-loop μ-loop
 record-words-requires c κs = search needs
 
-returns-2 : tie.Need-returns-2 Inv-loop μ-loop
-returns-2 c = search needs
-
 sum-requires : tie.Need-sum-requires Inv-loop μ-loop
 sum-requires c κs = search needs
+
+returns-2 : tie.Need-returns-2 Inv-loop μ-loop
+returns-2 c = search needs
 
 loop-less : tie.Need-loop-less Inv-loop μ-loop
 loop-less c = search needs
@@ -36,8 +36,8 @@ loop-again c = search needs
 returns-3 : tie.Need-returns-3 Inv-loop μ-loop
 returns-3 c = search needs
 
-pub scan-fails-spec : {M : Type 1} → statement M
-scan-fails-spec =
+pub first-malformed-spec : {M : Type 1} → statement M
+first-malformed-spec =
     tie.close
     (tie.spec
     Inv-loop
@@ -46,8 +46,8 @@ scan-fails-spec =
     sub-left
     returns
     record-words-requires
-    returns-2
     sum-requires
+    returns-2
     loop-less
     loop-again
     returns-3)

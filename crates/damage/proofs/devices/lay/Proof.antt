@@ -1,15 +1,15 @@
--- `restore_part` is safe and ends.
+-- `lay` is safe and ends.
 use lib.ListN.{length}
 use mathlib.Core.Path.{_≡_}
 use borrow.Author.Needs.{needs}
-use Rattle.damage_trial.proofs.image.restore_part.Statement.{statement}
-use Rattle.damage_trial.proofs.image.restore_part.Tie as tie
+use Rattle.damage.proofs.devices.lay.Statement.{statement}
+use Rattle.damage.proofs.devices.lay.Tie as tie
 
 abbrev Inv-loop : tie.InvT-loop
-Inv-loop device₀ saved at words left₀ device left = length device ≡ length device₀
+Inv-loop target₀ at source n left₀ target left = length target ≡ length target₀
 
 abbrev μ-loop : tie.MeasureT-loop
-μ-loop device₀ saved at words left₀ device left = left
+μ-loop target₀ at source n left₀ target left = left
 
 loop-holds : tie.Need-loop-holds Inv-loop μ-loop
 loop-holds c = search needs
@@ -38,8 +38,8 @@ same-length c = search needs
 returns : tie.Need-returns Inv-loop μ-loop
 returns c = search needs
 
-pub restore-part-spec : {M : Type 1} → statement M
-restore-part-spec =
+pub lay-spec : {M : Type 1} → statement M
+lay-spec =
     tie.close
     (tie.spec
     Inv-loop

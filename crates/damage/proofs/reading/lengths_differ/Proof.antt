@@ -1,7 +1,7 @@
 -- `lengths_differ` is safe and ends.
 use borrow.Author.Needs.{needs}
-use Rattle.damage_trial.proofs.image.lengths_differ.Statement.{statement}
-use Rattle.damage_trial.proofs.image.lengths_differ.Tie as tie
+use Rattle.damage.proofs.reading.lengths_differ.Statement.{statement}
+use Rattle.damage.proofs.reading.lengths_differ.Tie as tie
 
 abbrev Inv-loop : tie.InvT-loop
 Inv-loop anchor left₀ total₀ left total = Unit {0}

@@ -1,0 +1,63 @@
+// What is lent to a store: one page of two one-word slots, one disk, W = 128.
+use rehearsal::words::differing;
+use rehearsal::words::get;
+use rehearsal::words::put;
+use rehearsal::words::sum;
+
+pub struct Devices {
+    pub anchor: [u64; 148],
+    pub pages: [u64; 2],
+    pub backups: [u64; 4],
+    pub logs: [u64; 129],
+    pub work: [u64; 130],
+}
+
+// Unformatted devices.
+pub fn blank() -> Devices {
+    Devices {
+        anchor: [0u64; 148],
+        pages: [0u64; 2],
+        backups: [0u64; 4],
+        logs: [0u64; 129],
+        work: [0u64; 130],
+    }
+}
+
+// All words: anchor, backups, logs, pages, work memory.
+fn words(d: Devices) -> [u64; 413] {
+    let anchor = d.anchor;
+    let backups = d.backups;
+    let logs = d.logs;
+    let pages = d.pages;
+    let work = d.work;
+    let mut all = [0u64; 413];
+    lay(&mut all, 0, &anchor, 148);
+    lay(&mut all, 148, &backups, 4);
+    lay(&mut all, 152, &logs, 129);
+    lay(&mut all, 281, &pages, 2);
+    lay(&mut all, 283, &work, 130);
+    all
+}
+
+fn lay(target: &mut [u64], at: u64, source: &[u64], n: u64) {
+    let mut left = n;
+    while left > 0 {
+        left -= 1;
+        put(target, sum(at, left), get(source, left));
+    }
+}
+
+// Whether the first n words are the same.
+fn same_words(a: [u64; 413], b: [u64; 413], n: u64) -> bool {
+    differing(&a, &b, n) == 0
+}
+
+// Whether all words are the same.
+pub fn same(a: Devices, b: Devices) -> bool {
+    same_words(words(a), words(b), 413)
+}
+
+// Whether they are the same outside the work memory.
+pub fn same_but_work(a: Devices, b: Devices) -> bool {
+    same_words(words(a), words(b), 283)
+}

@@ -1,0 +1,143 @@
+// One damaged image: a restart, begun with short slices first, then the calls after it.
+use crate::calls::Act;
+use crate::machine::performed;
+use crate::machine::shut;
+use crate::probe::Probe;
+use crate::probe::judged;
+use crate::probe::tried;
+use crate::probe::tried_short;
+use damage::changes::damaged;
+use damage::devices::Devices;
+use damage::devices::same_but_work;
+use damage::reading::answers;
+use damage::reading::wanted_on;
+use damage::replay::restarted;
+use rehearsal::answers::number_of;
+use rehearsal::answers::stores_of;
+use rehearsal::words::more;
+use rehearsal::words::tally;
+use store::restarts::restart_remaining;
+
+pub fn try_image(p: Probe, good: Devices, which: u64, seed: u64) -> Probe {
+    let machine = shut(damaged(good, which, seed));
+    let fresh = Probe {
+        machine,
+        taken: false,
+        images: more(p.images),
+        ..p
+    };
+    let begun = begin_restart(begin_short(fresh));
+    let replayed = replay(tried_short(begun, Act::RestartStep { source: 0 }));
+    let waiting = tried_short(replayed, Act::RestartEnd);
+    later(end_restart(waiting))
+}
+
+// Begins that are lent a short slice.
+fn begin_short(p: Probe) -> Probe {
+    let anchor = try_begin(p, 1);
+    let pages = try_begin(anchor, 2);
+    let backups = try_begin(pages, 3);
+    let logs = try_begin(backups, 4);
+    try_begin(logs, 5)
+}
+
+// A restart's begin, which answers as the table says; taken, it leaves the pages zero.
+fn try_begin(p: Probe, short: u64) -> Probe {
+    let before = p.machine;
+    let after = performed(before, Act::RestartBegin, short);
+    let answer = after.answer;
+    let zero = number_of(answer) > 0 || zero_pages(after.devices);
+    let right = zero && answers(answer, wanted_on(before.devices, short));
+    judged(Probe { taken: true, ..p }, after, 8445, right)
+}
+
+fn zero_pages(d: Devices) -> bool {
+    let pages = d.pages;
+    pages[0] == 0 && pages[1] == 0
+}
+
+fn begin_restart(p: Probe) -> Probe {
+    let after = try_begin(p, 0);
+    let machine = after.machine;
+    let answer = machine.answer;
+    let taken = number_of(answer) == 0;
+    Probe {
+        taken,
+        taken_images: tally(p.taken_images, taken),
+        ..after
+    }
+}
+
+fn try_step(p: Probe, source: u64, set: u64) -> Probe {
+    let machine = p.machine;
+    let after = performed(machine, Act::RestartStep { source }, 0);
+    judged(p, after, set, true)
+}
+
+// Steps until nothing remains; then each source has nothing left.
+fn replay(p: Probe) -> Probe {
+    let log_done = try_step(steps(p), 0, 32768);
+    try_step(log_done, 1, 32768)
+}
+
+// The log has at most 64 records, and the backup one page.
+fn steps(p: Probe) -> Probe {
+    let mut left: u64 = 65;
+    let mut after = p;
+    while left > 0 {
+        left -= 1;
+        after = step_if_any(after);
+    }
+    after
+}
+
+// A step of the log as long as it has a record, then of the backup.
+fn step_if_any(p: Probe) -> Probe {
+    let machine = p.machine;
+    if restart_remaining(machine.state, 0) > 0 {
+        return try_step(p, 0, 1);
+    }
+    if restart_remaining(machine.state, 1) > 0 {
+        return try_step(p, 1, 1);
+    }
+    p
+}
+
+// A restart's end makes four stores: both words of the page, the tail, c.
+fn end_restart(p: Probe) -> Probe {
+    let before = p.machine;
+    let after = performed(before, Act::RestartEnd, 0);
+    let answer = after.answer;
+    let wanted = restarted(before.devices);
+    let right = stores_of(answer) == 4 && same_but_work(wanted, after.devices);
+    judged(p, after, 1, right || !p.taken)
+}
+
+// A commit, and an abort across a checkpoint.
+fn later(p: Probe) -> Probe {
+    let begun = tried(p, Act::Begin);
+    let updated = tried(
+        begun,
+        Act::Update {
+            number: 1,
+            slot: 0,
+            word: 5,
+        },
+    );
+    let committed = tried(updated, Act::Commit { number: 1 });
+    abort_across_checkpoint(committed)
+}
+
+fn abort_across_checkpoint(p: Probe) -> Probe {
+    let begun = tried(p, Act::Begin);
+    let updated = tried(
+        begun,
+        Act::Update {
+            number: 2,
+            slot: 1,
+            word: 6,
+        },
+    );
+    let copied = tried(tried(updated, Act::Mark), Act::Copy);
+    tried(tried(copied, Act::Abort { number: 2 }), Act::Close)
+}
