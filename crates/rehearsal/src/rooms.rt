@@ -1,6 +1,6 @@
 // 01's counting, for a list of calls that nobody else disturbs: each disk's start, tail and buffered words, what is owed, and so the
 // stores that a call makes and where it is cut. No record is kept, only lengths.
-// A room memory has the starts, tails, buffered words and remembered ends, 8 words each; then for each of 16 places its disk, the position
+// A room memory, the first words of a book, has the starts, tails, buffered words and remembered ends, 8 words each; then for each of 16 places its disk, the position
 // of its first update record and the words owed.
 use crate::words::get;
 use crate::words::less;
@@ -196,13 +196,6 @@ pub fn mark(rooms: &mut [u64], disks: u64) {
         left -= 1;
         let end = end_of(rooms, left);
         put(rooms, mark_at(left), end);
-    }
-}
-
-// The same where a checkpoint's begin was taken.
-pub fn mark_if(rooms: &mut [u64], disks: u64, taken: bool) {
-    if taken {
-        mark(rooms, disks);
     }
 }
 

@@ -1,13 +1,19 @@
--- `part_differs` is safe and ends.
+-- `seen_differs` is safe and ends.
 use borrow.Author.Needs.{needs}
-use Rattle.rehearsal.proofs.sheets.part_differs.Statement.{statement}
-use Rattle.rehearsal.proofs.sheets.part_differs.Tie as tie
+use Rattle.rehearsal.proofs.sheets.seen_differs.Statement.{statement}
+use Rattle.rehearsal.proofs.sheets.seen_differs.Tie as tie
 
 abbrev Inv-loop : tie.InvT-loop
-Inv-loop s at width read count₀ left₀ count left = Unit {0}
+Inv-loop book at width count₀ left₀ count left = Unit {0}
 
 abbrev μ-loop : tie.MeasureT-loop
-μ-loop s at width read count₀ left₀ count left = left
+μ-loop book at width count₀ left₀ count left = left
+
+seen-at-requires : tie.Need-seen-at-requires Inv-loop μ-loop
+seen-at-requires c κs = search needs
+
+get-requires : tie.Need-get-requires Inv-loop μ-loop
+get-requires c κs = search needs
 
 loop-holds : tie.Need-loop-holds Inv-loop μ-loop
 loop-holds c = search needs
@@ -18,11 +24,14 @@ sub-left c = search needs
 sum-requires : tie.Need-sum-requires Inv-loop μ-loop
 sum-requires c κs = search needs
 
-get-requires : tie.Need-get-requires Inv-loop μ-loop
-get-requires c κs = search needs
-
 get-requires-2 : tie.Need-get-requires-2 Inv-loop μ-loop
 get-requires-2 c κs = search needs
+
+sum-requires-2 : tie.Need-sum-requires-2 Inv-loop μ-loop
+sum-requires-2 c κs = search needs
+
+get-requires-3 : tie.Need-get-requires-3 Inv-loop μ-loop
+get-requires-3 c κs = search needs
 
 more-requires : tie.Need-more-requires Inv-loop μ-loop
 more-requires c κs = search needs
@@ -42,17 +51,20 @@ loop-again-2 c = search needs
 returns : tie.Need-returns Inv-loop μ-loop
 returns c = search needs
 
-pub part-differs-spec : {M : Type 1} → statement M
-part-differs-spec =
+pub seen-differs-spec : {M : Type 1} → statement M
+seen-differs-spec =
     tie.close
     (tie.spec
     Inv-loop
     μ-loop
+    seen-at-requires
+    get-requires
     loop-holds
     sub-left
     sum-requires
-    get-requires
     get-requires-2
+    sum-requires-2
+    get-requires-3
     more-requires
     loop-less
     loop-again

@@ -1,13 +1,13 @@
 -- `some_open` is safe and ends.
 use borrow.Author.Needs.{needs}
-use Rattle.power_trial.proofs.lists.some_open.Statement.{statement}
-use Rattle.power_trial.proofs.lists.some_open.Tie as tie
+use Rattle.power_trial.proofs.choices.some_open.Statement.{statement}
+use Rattle.power_trial.proofs.choices.some_open.Tie as tie
 
 abbrev Inv-loop : tie.InvT-loop
-Inv-loop seed sheets left₀ from left = Unit {0}
+Inv-loop seed book left₀ from left = Unit {0}
 
 abbrev μ-loop : tie.MeasureT-loop
-μ-loop seed sheets left₀ from left = left
+μ-loop seed book left₀ from left = left
 
 below-requires : tie.Need-below-requires Inv-loop μ-loop
 below-requires c κs = search needs
@@ -20,6 +20,9 @@ sub-left c = search needs
 
 sum-requires : tie.Need-sum-requires Inv-loop μ-loop
 sum-requires c κs = search needs
+
+open-at-requires : tie.Need-open-at-requires Inv-loop μ-loop
+open-at-requires c κs = search needs
 
 get-requires : tie.Need-get-requires Inv-loop μ-loop
 get-requires c κs = search needs
@@ -46,6 +49,7 @@ some-open-spec =
     loop-holds
     sub-left
     sum-requires
+    open-at-requires
     get-requires
     returns
     loop-less

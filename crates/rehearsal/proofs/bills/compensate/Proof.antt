@@ -2,14 +2,14 @@
 use lib.ListN.{length}
 use mathlib.Core.Path.{_≡_}
 use borrow.Author.Needs.{needs}
-use Rattle.power_trial.proofs.transactions.compensate.Statement.{statement}
-use Rattle.power_trial.proofs.transactions.compensate.Tie as tie
+use Rattle.rehearsal.proofs.bills.compensate.Statement.{statement}
+use Rattle.rehearsal.proofs.bills.compensate.Tie as tie
 
 abbrev Inv-loop : tie.InvT-loop
-Inv-loop entries number disk sheets rooms₀ left₀ after₀ rooms left after = length rooms ≡ length rooms₀
+Inv-loop entries number disk book₀ left₀ after₀ book left after = length book ≡ length book₀
 
 abbrev μ-loop : tie.MeasureT-loop
-μ-loop entries number disk sheets rooms₀ left₀ after₀ rooms left after = left
+μ-loop entries number disk book₀ left₀ after₀ book left after = left
 
 loop-holds : tie.Need-loop-holds Inv-loop μ-loop
 loop-holds c = search needs

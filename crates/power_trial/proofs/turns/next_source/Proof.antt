@@ -1,16 +1,13 @@
 -- `next_source` is safe and ends.
 use borrow.Author.Needs.{needs}
-use Rattle.power_trial.proofs.restarts.next_source.Statement.{statement}
-use Rattle.power_trial.proofs.restarts.next_source.Tie as tie
+use Rattle.power_trial.proofs.turns.next_source.Statement.{statement}
+use Rattle.power_trial.proofs.turns.next_source.Tie as tie
 
 abbrev Inv-loop : tie.InvT-loop
-Inv-loop t from shape sources left₀ source₀ left source = Unit {0}
+Inv-loop state sources from left₀ source₀ left source = Unit {0}
 
 abbrev μ-loop : tie.MeasureT-loop
-μ-loop t from shape sources left₀ source₀ left source = left
-
-more-requires : tie.Need-more-requires Inv-loop μ-loop
-more-requires c κs = search needs
+μ-loop state sources from left₀ source₀ left source = left
 
 loop-holds : tie.Need-loop-holds Inv-loop μ-loop
 loop-holds c = search needs
@@ -23,6 +20,9 @@ restart-remaining-requires c κs = search needs
 
 returns : tie.Need-returns Inv-loop μ-loop
 returns c = search needs
+
+more-requires : tie.Need-more-requires Inv-loop μ-loop
+more-requires c κs = search needs
 
 more-requires-2 : tie.Need-more-requires-2 Inv-loop μ-loop
 more-requires-2 c κs = search needs
@@ -48,11 +48,11 @@ next-source-spec =
     (tie.spec
     Inv-loop
     μ-loop
-    more-requires
     loop-holds
     sub-left
     restart-remaining-requires
     returns
+    more-requires
     more-requires-2
     loop-less
     loop-again
