@@ -158,8 +158,8 @@ pub fn restart_call(shape: Shape, stage: u64, steps: u64, source: u64, seed: u64
     call_of(Kind::RestartStep, source)
 }
 
-// One in 128 calls is lent one slice that is a word short.
+// One in 256 calls is lent one slice that is a word short.
 pub fn lent_short(call: Call, seed: u64) -> Call {
-    let short = cause(below(seed, 128) == 0, sum(1, below(seed >> 7, 5)));
+    let short = cause(below(seed, 256) == 0, sum(1, below(seed >> 8, 5)));
     Call { short, ..call }
 }

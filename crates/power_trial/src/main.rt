@@ -5,6 +5,7 @@
 //     echo 100 | target/bin/power_trial
 mod choices;
 mod desk;
+mod lending;
 mod making;
 mod plan;
 mod sizes;
@@ -16,6 +17,15 @@ use crate::sizes::shape_at;
 use crate::turns::Trial;
 use crate::turns::turn;
 use rehearsal::text::read_number;
+ghost use Prim.Native.Nat.{_<_};
+
+// How many turns are left: none once the last size is done.
+fn turns_left(left: u64, size: u64) -> u64
+    requires { ⌜ 0 < left ⌝ }
+    ensures { λ r. ⌜ r < left ⌝ }
+{
+    if size < how_many() { left - 1 } else { 0 }
+}
 
 // All turns of all sizes.
 fn run(
@@ -30,11 +40,8 @@ fn run(
     let mut left: u64 = u64::MAX;
     let mut now = t;
     while left > 0 {
-        left -= 1;
-        if now.size >= how_many() {
-            return;
-        }
         now = turn(now, anchor, pages, backups, logs, work, book);
+        left = turns_left(left, now.size);
     }
 }
 

@@ -27,11 +27,38 @@ pub fn make(
         Kind::Begin | Kind::Update | Kind::Commit | Kind::Abort => {
             make_change(state, call, anchor, pages, backups, logs, work, budget)
         }
+        Kind::Read => make_read(state, call, anchor, pages, backups, logs, work, book),
+        _ => make_other(
+            state,
+            shape,
+            call,
+            anchor,
+            pages,
+            backups,
+            logs,
+            work,
+            budget,
+        ),
+    }
+}
+
+fn make_other(
+    state: State,
+    shape: Shape,
+    call: Call,
+    anchor: &mut [u64],
+    pages: &mut [u64],
+    backups: &mut [u64],
+    logs: &mut [u64],
+    work: &mut [u64],
+    budget: &mut u64,
+) -> Called {
+    let kind = call.kind;
+    match kind {
+        Kind::Format => make_format(state, shape, anchor, pages, backups, logs, work, budget),
         Kind::CheckpointBegin | Kind::CheckpointStep | Kind::CheckpointEnd => {
             make_checkpoint(state, kind, anchor, pages, backups, logs, work, budget)
         }
-        Kind::Read => make_read(state, call, anchor, pages, backups, logs, work, book),
-        Kind::Format => make_format(state, shape, anchor, pages, backups, logs, work, budget),
         _ => make_restart(state, call, anchor, pages, backups, logs, work, budget),
     }
 }

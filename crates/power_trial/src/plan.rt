@@ -39,7 +39,7 @@ pub struct Plan {
 
 // The calls of a list.
 fn longest() -> u64 {
-    240
+    160
 }
 
 pub fn new_plan(lists: u64) -> Plan {

@@ -3,27 +3,21 @@ use crate::desk;
 use crate::desk::Desk;
 use crate::desk::new_desk;
 use crate::desk::next_call;
-use crate::making::make;
+use crate::lending::Made;
+use crate::lending::watch;
 use crate::plan::Mode;
 use crate::sizes::shape_at;
 use crate::sizes::tell;
-use model::Answer;
 use rehearsal::calls::Call;
 use rehearsal::calls::Kind;
 use rehearsal::random::below;
-use rehearsal::random::digest;
 use rehearsal::random::fill;
-use rehearsal::shape::Shape;
-use rehearsal::shape::log_words;
 use rehearsal::shape::total_of;
 use rehearsal::shape::work_words;
 use rehearsal::wanted::cause;
-use rehearsal::words::less;
 use rehearsal::words::more;
 use rehearsal::words::put;
-use rehearsal::words::times;
 use rehearsal::words::wipe;
-use store::Called;
 use store::State;
 
 pub struct Trial {
@@ -178,115 +172,4 @@ fn judge(t: Trial, asked: Asked, made: Made, book: &mut [u64]) -> Trial {
         book,
     );
     Trial { state, desk, ..t }
-}
-
-// What a call handed back, the budget after it, and whether it left what it has to leave.
-struct Made {
-    called: Called,
-    left: u64,
-    kept: bool,
-}
-
-fn watch(
-    state: State,
-    desk: Desk,
-    call: Call,
-    anchor: &mut [u64],
-    pages: &mut [u64],
-    backups: &mut [u64],
-    logs: &mut [u64],
-    work: &mut [u64],
-    book: &mut [u64],
-) -> Made {
-    let plan = desk.plan;
-    let short = call.short;
-    let before = seal(short, anchor, pages, backups, logs, work);
-    let mut left = plan.budget;
-    let called = lend(
-        state,
-        desk.shape,
-        call,
-        anchor,
-        pages,
-        backups,
-        logs,
-        work,
-        book,
-        &mut left,
-    );
-    let kept = before == seal(short, anchor, pages, backups, logs, work);
-    Made { called, left, kept }
-}
-
-// A digest of the first 8,192 words of each slice, for a call that is lent a short one and has to leave all; 0 for any other.
-fn seal(
-    short: u64,
-    anchor: &[u64],
-    pages: &[u64],
-    backups: &[u64],
-    logs: &[u64],
-    work: &[u64],
-) -> u64 {
-    if short == 0 {
-        return 0;
-    }
-    let a = digest(anchor, 148, 1);
-    let b = digest(pages, 8192, a);
-    let c = digest(backups, 8192, b);
-    let d = digest(logs, 8192, c);
-    digest(work, 8192, d)
-}
-
-// How many words of a slice are lent.
-fn lent(words: u64, short: u64, slice: u64) -> usize {
-    if short == slice {
-        less(words, 1) as usize
-    } else {
-        words as usize
-    }
-}
-
-// The slices of a size, out of larger ones; one of them may be a word short.
-fn lend(
-    state: State,
-    shape: Shape,
-    call: Call,
-    anchor: &mut [u64],
-    pages: &mut [u64],
-    backups: &mut [u64],
-    logs: &mut [u64],
-    work: &mut [u64],
-    book: &mut [u64],
-    budget: &mut u64,
-) -> Called {
-    let total = total_of(shape);
-    let short = call.short;
-    let a = lent(148, short, 1);
-    let p = lent(total, short, 2);
-    let b = lent(times(total, 2), short, 3);
-    let l = lent(log_words(shape), short, 4);
-    let w = lent(work_words(shape), short, 5);
-    if a > anchor.len()
-        || p > pages.len()
-        || b > backups.len()
-        || l > logs.len()
-        || w > work.len()
-    {
-        return Called {
-            answer: Answer::Interrupted { stores: 0 },
-            state,
-        };
-    }
-    make(
-        state,
-        shape,
-        call,
-        &mut anchor[0..a],
-        &mut pages[0..p],
-        &mut backups[0..b],
-        &mut logs[0..l],
-        &mut work[0..w],
-        book,
-        budget,
-    )
 }
