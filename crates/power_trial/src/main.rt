@@ -1,6 +1,6 @@
 // Pseudo-random lists of calls on several sizes, with power lost at every store and after every call, compared with a plain table:
 // each answer (number, value, stores made, budget left), each read, and after each restart the pages, word for word. Some calls are
-// lent a slice of a wrong length; they are also compared in that they leave every slice as it was.
+// lent a slice that is a word short; of these it is also compared that they leave the slices (of the logs, the first 8,192 words).
 // Standard input may begin with a number: how many lists are tried on each size (1 where there is none). To run it longer:
 //     echo 100 | target/bin/power_trial
 mod choices;

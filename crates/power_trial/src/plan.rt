@@ -1,7 +1,7 @@
-// What is tried on a size, turn by turn. First a format under every budget from 0 on. Then lists of calls, each run to its end or until its budget is
-// used up; then power is lost, and a restart is tried until one is taken. There are three sweeps: the same list under every budget from
-// 0 on until it is not cut; lists of every length, each another, with power lost between two calls; one list, and the end of the restart
-// after it under every budget from 0 on.
+// What is tried on a size, turn by turn. First a format under every budget from 0 on. Then lists of calls, each run to its end or until its
+// budget is used up; then power is lost, and a restart is tried until one is taken. There are three sweeps: the same list under every
+// budget from 0 on until it is not cut; lists of every length, each another, with power lost between two calls; one list, and the end
+// of the restart after it under every budget from 0 on.
 use rehearsal::calls::Kind;
 use rehearsal::random::below;
 use rehearsal::random::next;
@@ -22,9 +22,9 @@ pub enum Mode {
     Telling,
 }
 
-// `sweeps` are left on this size, the last one of them under way; `run` is the budget, or the length, of its run; `calls` are left of the list,
-// or steps of the restart; `budget` is that of the next call, `attempt` that of the next restart end; `cut` tells that
-// the list was cut; lists start from `list`, and `seed` is the next call's.
+// `sweeps` are left on this size, with the one under way; `run` is the budget, or the length, of its run; `calls` are left of the list, or
+// steps of the restart; `budget` is that of the next call, `attempt` that of the next restart end; `cut` tells that the list
+// was cut; a list's calls follow from the seed `list`, the next call from `seed`.
 pub struct Plan {
     pub mode: Mode,
     pub sweeps: u64,
@@ -39,7 +39,7 @@ pub struct Plan {
 
 // The calls of a list.
 fn longest() -> u64 {
-    160
+    200
 }
 
 pub fn new_plan(lists: u64) -> Plan {
@@ -91,6 +91,11 @@ fn last_run(plan: Plan) -> bool {
     }
 }
 
+// The seed of another list. It is not one that follows this list's: else the lists would be parts of one another.
+fn other_list(seed: u64) -> u64 {
+    next(seed ^ 11400714819323198485)
+}
+
 // The next run of the sweep, or the first of the next.
 pub fn next_run(plan: Plan) -> Plan {
     let last = last_run(plan);
@@ -107,7 +112,7 @@ pub fn next_run(plan: Plan) -> Plan {
         };
     }
     let list = if last || sweeps % 3 == 2 {
-        next(plan.list)
+        other_list(plan.list)
     } else {
         plan.list
     };

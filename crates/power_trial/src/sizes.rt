@@ -8,7 +8,7 @@ pub fn how_many() -> u64 {
 }
 
 // First 64 pages of 32 words on 8 disks, with short and long rings and slots of 1, 4 and 32 words, and with pages that differ (width 0);
-// then few pages of 128 words.
+// then few pages, of 128 words, on two disks whose rings are soon full.
 pub fn shape_at(size: u64) -> Shape {
     let ring = if size % 2 == 0 { 128 } else { 65536 };
     match size {
@@ -16,8 +16,8 @@ pub fn shape_at(size: u64) -> Shape {
         2 | 3 => large(ring, 4),
         4 | 5 => large(ring, 32),
         6 | 7 => large(ring, 0),
-        8 => small(ring, 32),
-        _ => small(ring, 1),
+        8 => small(32),
+        _ => small(1),
     }
 }
 
@@ -31,11 +31,11 @@ fn large(ring: u64, width: u64) -> Shape {
     }
 }
 
-fn small(ring: u64, width: u64) -> Shape {
+fn small(width: u64) -> Shape {
     Shape {
         pages: 3,
         disks: 2,
-        ring,
+        ring: 128,
         width,
         words: 128,
     }

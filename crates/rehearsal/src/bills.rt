@@ -2,11 +2,11 @@
 use crate::calls::Call;
 use crate::calls::Kind;
 use crate::plain::Plain;
+use crate::purse::Purse;
+use crate::purse::purse_of;
+use crate::purse::spend;
 use crate::refusals::refusal;
 use crate::rooms;
-use crate::rooms::Purse;
-use crate::rooms::purse_of;
-use crate::rooms::spend;
 use crate::shape::Shape;
 use crate::shape::start_of;
 use crate::shape::total_of;

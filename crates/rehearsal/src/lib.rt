@@ -4,6 +4,7 @@ pub mod answers;
 pub mod bills;
 pub mod calls;
 pub mod plain;
+pub mod purse;
 pub mod random;
 pub mod refusals;
 pub mod rooms;

@@ -3,7 +3,7 @@ use crate::answers::number_of;
 use crate::answers::second_of;
 use crate::answers::stores_of;
 use crate::answers::value_of;
-use crate::rooms::Purse;
+use crate::purse::Purse;
 use crate::words::less;
 use model::Answer;
 
