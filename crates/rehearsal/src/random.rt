@@ -1,4 +1,5 @@
 // Pseudo-random words: xorshift, with the period 2^64 - 1.
+use crate::words::get;
 use crate::words::put;
 
 // The seed after this one; no seed is 0.
@@ -22,6 +23,17 @@ pub fn fill(target: &mut [u64], n: u64, seed: u64) -> u64 {
         left -= 1;
         now = next(now);
         put(target, left, now);
+    }
+    now
+}
+
+// A digest of the first n words, on top of another.
+pub fn digest(s: &[u64], n: u64, seed: u64) -> u64 {
+    let mut left = n;
+    let mut now = seed;
+    while left > 0 {
+        left -= 1;
+        now = next(now ^ get(s, left));
     }
     now
 }

@@ -1,21 +1,13 @@
 // 01's counting, for a list of calls that nobody else disturbs: each disk's start, tail and buffered words, what is owed, and so the
 // stores that a call makes and where it is cut. No record is kept, only lengths.
-// A room memory has the starts, tails, buffered words and remembered ends, 8 words each; then for each of 16 places its disk, the position
-// of its first update record and the words owed.
+// A room memory, the first words of a book, has the starts, tails, buffered words and remembered ends, 8 words each; then for each of 16
+// places its disk, the position of its first update record and the words owed.
+use crate::purse::Purse;
+use crate::purse::purse_of;
 use crate::words::get;
 use crate::words::less;
 use crate::words::put;
 use crate::words::sum;
-
-// What is left of an allowance, and whether it was used up.
-pub struct Purse {
-    pub left: u64,
-    pub cut: bool,
-}
-
-pub fn purse_of(left: u64) -> Purse {
-    Purse { left, cut: false }
-}
 
 // Where the retained log starts, its tail, its buffered words, and the end that a checkpoint's begin remembered.
 pub fn start_at(disk: u64) -> u64 {
@@ -166,18 +158,6 @@ fn make_room(rooms: &mut [u64], disk: u64, words: u64, money: Purse) -> Purse {
     flush(rooms, disk, money)
 }
 
-// Some stores of known number.
-pub fn spend(money: Purse, stores: u64) -> Purse {
-    let left = money.left;
-    if money.cut {
-        return money;
-    }
-    if left < stores {
-        return Purse { left: 0, cut: true };
-    }
-    purse_of(less(left, stores))
-}
-
 // All disks are flushed, in order.
 pub fn flush_all(rooms: &mut [u64], disks: u64, money: Purse) -> Purse {
     let mut i = 0;
@@ -196,13 +176,6 @@ pub fn mark(rooms: &mut [u64], disks: u64) {
         left -= 1;
         let end = end_of(rooms, left);
         put(rooms, mark_at(left), end);
-    }
-}
-
-// The same where a checkpoint's begin was taken.
-pub fn mark_if(rooms: &mut [u64], disks: u64, taken: bool) {
-    if taken {
-        mark(rooms, disks);
     }
 }
 

@@ -1,30 +1,57 @@
-// The plain table: the results, word for word, and the sheets of the open transactions.
-// A sheet memory has the open transactions' numbers first, 16 words (0: none), then entries of 36 words in the order made:
-// transaction (0: gone), the slot's address, its width, its value.
+// The plain table: the sheets of the open transactions, and the results, word for word.
+// Its memory, the book, is one slice: 80 words of log room (`rooms`); the open transactions' numbers, 16 words (0: none); what was last
+// read, a length and 39 words; the results, 8,192 words; then entries of 36 words in the order made: transaction (0: gone),
+// the slot's address, its width, its value.
 use crate::words::find;
 use crate::words::get;
 use crate::words::more;
 use crate::words::put;
 use crate::words::sum;
+use crate::words::tail;
 use crate::words::times;
 
-// Where an entry stands in the sheet memory.
-pub fn place(entry: u64) -> u64 {
-    sum(16, times(entry, 36))
+pub fn open_at(place: u64) -> u64 {
+    80 + place % 16
+}
+
+pub fn seen_at(i: u64) -> u64 {
+    96 + i % 40
+}
+
+pub fn result_at(address: u64) -> u64 {
+    sum(136, address)
+}
+
+pub fn entry_at(entry: u64) -> u64 {
+    sum(8328, times(entry, 36))
+}
+
+pub fn value_at(entry: u64) -> u64 {
+    sum(entry_at(entry), 3)
+}
+
+// The results, and what stands behind them.
+pub fn results_of(book: &[u64]) -> &[u64] {
+    tail(book, 136)
+}
+
+// The place of a transaction among those open, the first free one for 0; 16 where there is none.
+pub fn place_of(book: &[u64], number: u64) -> u64 {
+    find(tail(book, 80), 16, number)
 }
 
 // Whether a transaction is open.
-pub fn is_open(sheets: &[u64], number: u64) -> bool {
-    number > 0 && find(sheets, 16, number) < 16
+pub fn is_open(book: &[u64], number: u64) -> bool {
+    number > 0 && place_of(book, number) < 16
 }
 
 // The newest entry of an address, and 1; 0 where there is none.
-pub fn newest(sheets: &[u64], entries: u64, address: u64) -> u64 {
+pub fn newest(book: &[u64], entries: u64, address: u64) -> u64 {
     let mut left = entries;
     while left > 0 {
         let above = left;
         left -= 1;
-        if is_of(sheets, left, address) {
+        if is_of(book, left, address) {
             return above;
         }
     }
@@ -32,19 +59,19 @@ pub fn newest(sheets: &[u64], entries: u64, address: u64) -> u64 {
 }
 
 // Whether an entry stands and is of the address.
-fn is_of(sheets: &[u64], entry: u64, address: u64) -> bool {
-    let at = place(entry);
-    get(sheets, at) > 0 && get(sheets, sum(at, 1)) == address
+fn is_of(book: &[u64], entry: u64, address: u64) -> bool {
+    let at = entry_at(entry);
+    get(book, at) > 0 && get(book, sum(at, 1)) == address
 }
 
 // Adds an entry; its value is the first `width` words of the one lent.
-pub fn add(sheets: &mut [u64], entry: u64, number: u64, address: u64, width: u64, value: &[u64]) {
-    let at = place(entry);
-    put(sheets, at, number);
-    put(sheets, sum(at, 1), address);
-    put(sheets, sum(at, 2), width);
+pub fn add(book: &mut [u64], entry: u64, number: u64, address: u64, width: u64, value: &[u64]) {
+    let at = entry_at(entry);
+    put(book, at, number);
+    put(book, sum(at, 1), address);
+    put(book, sum(at, 2), width);
     if width < 33 {
-        put_words(sheets, sum(at, 3), value, width);
+        put_words(book, value_at(entry), value, width);
     }
 }
 
@@ -58,76 +85,75 @@ fn put_words(target: &mut [u64], at: u64, source: &[u64], n: u64) {
 }
 
 // Sets an entry's value in the results.
-fn set_entry(sheets: &[u64], entry: u64, results: &mut [u64]) {
-    let at = place(entry);
-    let address = get(sheets, sum(at, 1));
-    let mut left = get(sheets, sum(at, 2));
+fn set_entry(book: &mut [u64], entry: u64) {
+    let at = entry_at(entry);
+    let address = get(book, sum(at, 1));
+    let mut left = get(book, sum(at, 2));
     while left > 0 {
         left -= 1;
-        put(
-            results,
-            sum(address, left),
-            get(sheets, sum(at, sum(3, left))),
-        );
+        let word = get(book, sum(at, sum(3, left)));
+        put(book, result_at(sum(address, left)), word);
     }
 }
 
 // Closes a transaction: its entries go, first to last; a committed one's are set in the results.
-pub fn close(sheets: &mut [u64], entries: u64, number: u64, results: &mut [u64], commits: bool) {
+pub fn close(book: &mut [u64], entries: u64, number: u64, commits: bool) {
     let mut i = 0;
     while i < entries {
-        close_entry(sheets, i, number, results, commits);
+        close_entry(book, i, number, commits);
         i += 1;
     }
-    leave(sheets, number);
+    leave(book, number);
 }
 
 // The same of one entry, if it is the transaction's.
-fn close_entry(sheets: &mut [u64], entry: u64, number: u64, results: &mut [u64], commits: bool) {
-    let at = place(entry);
-    if get(sheets, at) != number {
+fn close_entry(book: &mut [u64], entry: u64, number: u64, commits: bool) {
+    let at = entry_at(entry);
+    if get(book, at) != number {
         return;
     }
-    put(sheets, at, 0);
+    put(book, at, 0);
     if commits {
-        set_entry(sheets, entry, results);
+        set_entry(book, entry);
     }
 }
 
 // Takes a transaction's number off the list of those open.
-fn leave(sheets: &mut [u64], number: u64) {
-    let at = find(sheets, 16, number);
-    if at < 16 {
-        put(sheets, at, 0);
+fn leave(book: &mut [u64], number: u64) {
+    let place = place_of(book, number);
+    if place < 16 {
+        put(book, open_at(place), 0);
     }
 }
 
 // All sheets go.
-pub fn clear(sheets: &mut [u64]) {
+pub fn clear(book: &mut [u64]) {
     let mut left = 16;
     while left > 0 {
         left -= 1;
-        put(sheets, left, 0);
+        put(book, open_at(left), 0);
     }
 }
 
-// In how many of its words an entry's value differs from what was read, and 1 where the lengths differ.
-pub fn entry_differs(sheets: &[u64], entry: u64, read: &[u64]) -> u64 {
-    let at = place(entry);
-    let width = get(sheets, sum(at, 2));
-    part_differs(sheets, sum(at, 3), width, read)
+// Notes the words that a read handed out.
+pub fn note_seen(book: &mut [u64], words: &[u64]) {
+    let length = words.len() as u64;
+    put(book, seen_at(0), length);
+    if length < 40 {
+        put_words(book, seen_at(1), words, length);
+    }
 }
 
-// The same of `width` words at a place of a slice.
-pub fn part_differs(s: &[u64], at: u64, width: u64, read: &[u64]) -> u64 {
+// In how many of its words what was read differs from `width` words at a place of the book, and 1 where the lengths differ.
+pub fn seen_differs(book: &[u64], at: u64, width: u64) -> u64 {
     let mut count = 0;
-    if (read.len() as u64) != width {
+    if get(book, seen_at(0)) != width {
         count = 1;
     }
     let mut left = width;
     while left > 0 {
         left -= 1;
-        if get(s, sum(at, left)) != get(read, left) {
+        if get(book, sum(at, left)) != get(book, sum(97, left)) {
             count = more(count);
         }
     }

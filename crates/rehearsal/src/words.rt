@@ -20,6 +20,18 @@ pub fn front(s: &[u64], n: u64) -> &[u64] {
     if j <= s.len() { &s[0..j] } else { s }
 }
 
+// The same, lent to be written.
+pub fn front_mut(s: &mut [u64], n: u64) -> &mut [u64] {
+    let j = n as usize;
+    if j <= s.len() { &mut s[0..j] } else { s }
+}
+
+// What stands from n on; nothing where there are fewer.
+pub fn tail(s: &[u64], n: u64) -> &[u64] {
+    let j = n as usize;
+    if j <= s.len() { &s[j..] } else { &s[0..0] }
+}
+
 // Counts that stop at the largest number.
 pub fn more(n: u64) -> u64 {
     if n < u64::MAX { n + 1 } else { n }

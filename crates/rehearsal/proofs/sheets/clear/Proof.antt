@@ -6,16 +6,19 @@ use Rattle.rehearsal.proofs.sheets.clear.Statement.{statement}
 use Rattle.rehearsal.proofs.sheets.clear.Tie as tie
 
 abbrev Inv-loop : tie.InvT-loop
-Inv-loop sheets₀ left₀ sheets left = length sheets ≡ length sheets₀
+Inv-loop book₀ left₀ book left = length book ≡ length book₀
 
 abbrev μ-loop : tie.MeasureT-loop
-μ-loop sheets₀ left₀ sheets left = left
+μ-loop book₀ left₀ book left = left
 
 loop-holds : tie.Need-loop-holds Inv-loop μ-loop
 loop-holds c = search needs
 
 sub-left : tie.Need-sub-left Inv-loop μ-loop
 sub-left c = search needs
+
+open-at-requires : tie.Need-open-at-requires Inv-loop μ-loop
+open-at-requires c κs = search needs
 
 put-requires : tie.Need-put-requires Inv-loop μ-loop
 put-requires c κs = search needs
@@ -40,6 +43,7 @@ clear-spec =
     μ-loop
     loop-holds
     sub-left
+    open-at-requires
     put-requires
     loop-less
     loop-again

@@ -7,10 +7,10 @@ use Rattle.rehearsal.proofs.sheets.close.Statement.{statement}
 use Rattle.rehearsal.proofs.sheets.close.Tie as tie
 
 abbrev Inv-loop : tie.InvT-loop
-Inv-loop sheets₀ entries number results₀ commits i₀ sheets results i = (length sheets ≡ length sheets₀) × (length results ≡ length results₀)
+Inv-loop book₀ entries number commits i₀ book i = length book ≡ length book₀
 
 abbrev μ-loop : tie.MeasureT-loop
-μ-loop sheets₀ entries number results₀ commits i₀ sheets results i = entries - i
+μ-loop book₀ entries number commits i₀ book i = entries - i
 
 loop-holds : tie.Need-loop-holds Inv-loop μ-loop
 loop-holds c = search needs
@@ -33,9 +33,6 @@ leave-requires c κs = search needs
 same-length : tie.Need-same-length Inv-loop μ-loop
 same-length c = search needs
 
-same-length-2 : tie.Need-same-length-2 Inv-loop μ-loop
-same-length-2 c = search needs
-
 returns : tie.Need-returns Inv-loop μ-loop
 returns c = search needs
 
@@ -52,5 +49,4 @@ close-spec =
     loop-again
     leave-requires
     same-length
-    same-length-2
     returns)

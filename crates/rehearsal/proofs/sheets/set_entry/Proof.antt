@@ -6,13 +6,13 @@ use Rattle.rehearsal.proofs.sheets.set_entry.Statement.{statement}
 use Rattle.rehearsal.proofs.sheets.set_entry.Tie as tie
 
 abbrev Inv-loop : tie.InvT-loop
-Inv-loop sheets entry results₀ at address left₀ results left = length results ≡ length results₀
+Inv-loop book₀ entry at address left₀ book left = length book ≡ length book₀
 
 abbrev μ-loop : tie.MeasureT-loop
-μ-loop sheets entry results₀ at address left₀ results left = left
+μ-loop book₀ entry at address left₀ book left = left
 
-place-requires : tie.Need-place-requires Inv-loop μ-loop
-place-requires c κs = search needs
+entry-at-requires : tie.Need-entry-at-requires Inv-loop μ-loop
+entry-at-requires c κs = search needs
 
 sum-requires : tie.Need-sum-requires Inv-loop μ-loop
 sum-requires c κs = search needs
@@ -38,11 +38,14 @@ sum-requires-3 c κs = search needs
 sum-requires-4 : tie.Need-sum-requires-4 Inv-loop μ-loop
 sum-requires-4 c κs = search needs
 
+get-requires-3 : tie.Need-get-requires-3 Inv-loop μ-loop
+get-requires-3 c κs = search needs
+
 sum-requires-5 : tie.Need-sum-requires-5 Inv-loop μ-loop
 sum-requires-5 c κs = search needs
 
-get-requires-3 : tie.Need-get-requires-3 Inv-loop μ-loop
-get-requires-3 c κs = search needs
+result-at-requires : tie.Need-result-at-requires Inv-loop μ-loop
+result-at-requires c κs = search needs
 
 put-requires : tie.Need-put-requires Inv-loop μ-loop
 put-requires c κs = search needs
@@ -65,7 +68,7 @@ set-entry-spec =
     (tie.spec
     Inv-loop
     μ-loop
-    place-requires
+    entry-at-requires
     sum-requires
     get-requires
     sum-requires-2
@@ -74,8 +77,9 @@ set-entry-spec =
     sub-left
     sum-requires-3
     sum-requires-4
-    sum-requires-5
     get-requires-3
+    sum-requires-5
+    result-at-requires
     put-requires
     loop-less
     loop-again

@@ -1,0 +1,165 @@
+// The calls of a pseudo-random list, one by one: what the next one is follows from a seed and the plain table.
+use rehearsal::calls::Call;
+use rehearsal::calls::Kind;
+use rehearsal::calls::call_of;
+use rehearsal::plain::Plain;
+use rehearsal::random::below;
+use rehearsal::random::next;
+use rehearsal::shape::Shape;
+use rehearsal::shape::slots_of;
+use rehearsal::shape::width_of;
+use rehearsal::sheets::open_at;
+use rehearsal::wanted::cause;
+use rehearsal::words::get;
+use rehearsal::words::sum;
+
+// Some open transaction, the first from a random place on; 0 where there is none.
+fn some_open(seed: u64, book: &[u64]) -> u64 {
+    let mut left: u64 = 16;
+    let from = below(seed, 16);
+    while left > 0 {
+        left -= 1;
+        let number = get(book, open_at(sum(from, left)));
+        if number > 0 {
+            return number;
+        }
+    }
+    0
+}
+
+// An open transaction; one in sixteen times any small number.
+fn some_number(seed: u64, next_number: u64, book: &[u64]) -> u64 {
+    if below(seed >> 4, 16) == 0 {
+        return below(seed >> 10, sum(next_number, 2));
+    }
+    some_open(seed, book)
+}
+
+// A number below n, half of the time below 2; now and then it is too large.
+fn some_below(seed: u64, n: u64) -> u64 {
+    if below(seed, 64) == 0 {
+        return sum(n, below(seed >> 6, 3));
+    }
+    let low = below(seed >> 9, 2);
+    if below(seed >> 7, 2) == 0 && low < n {
+        return low;
+    }
+    below(seed >> 9, n)
+}
+
+// A call that names a transaction, a page and a slot.
+fn named_call(kind: Kind, shape: Shape, plain: Plain, seed: u64, book: &[u64]) -> Call {
+    let first = next(seed);
+    let page = some_below(first, shape.pages);
+    let slot = some_below(next(first), slots_of(shape, page));
+    let number = some_number(seed, plain.next, book);
+    Call {
+        page,
+        slot,
+        ..call_of(kind, number)
+    }
+}
+
+// A value of the slot's length, one in 32 times of any length; one in eight is zero.
+fn update_call(shape: Shape, plain: Plain, seed: u64, book: &[u64]) -> Call {
+    let call = named_call(Kind::Update, shape, plain, seed, book);
+    let die = next(next(next(seed)));
+    let length = if below(die, 32) == 0 {
+        below(die >> 5, 34)
+    } else {
+        width_of(shape, call.page)
+    };
+    Call {
+        length,
+        filled: cause(below(die >> 11, 8) > 0, length),
+        seed: die,
+        ..call
+    }
+}
+
+// Half of the reads have no transaction.
+fn read_call(shape: Shape, plain: Plain, seed: u64, book: &[u64]) -> Call {
+    let call = named_call(Kind::Read, shape, plain, seed, book);
+    Call {
+        number: cause(below(seed >> 3, 2) == 0, call.number),
+        ..call
+    }
+}
+
+// A transaction's call.
+fn transaction_call(shape: Shape, plain: Plain, die: u64, seed: u64, book: &[u64]) -> Call {
+    match die {
+        0..=5 => call_of(Kind::Begin, 0),
+        6..=17 => update_call(shape, plain, seed, book),
+        18..=21 => read_call(shape, plain, seed, book),
+        22..=25 => call_of(Kind::Commit, some_number(seed, plain.next, book)),
+        _ => call_of(Kind::Abort, some_number(seed, plain.next, book)),
+    }
+}
+
+// A call that only the stage shut or replaying allows.
+fn misplaced_kind(die: u64) -> Kind {
+    match die {
+        0 => Kind::Format,
+        1 => Kind::RestartBegin,
+        2 => Kind::RestartStep,
+        _ => Kind::RestartEnd,
+    }
+}
+
+// A call of a checkpoint, perhaps in a stage that does not allow it.
+fn checkpoint_kind(die: u64) -> Kind {
+    match die {
+        0 => Kind::CheckpointBegin,
+        1 => Kind::CheckpointStep,
+        _ => Kind::CheckpointEnd,
+    }
+}
+
+// The checkpoint's next call: while pages are copied the next step, or the end.
+fn checkpoint_next(shape: Shape, plain: Plain) -> Kind {
+    if plain.stage == 2 {
+        return Kind::CheckpointBegin;
+    }
+    if plain.copied < shape.pages {
+        return Kind::CheckpointStep;
+    }
+    Kind::CheckpointEnd
+}
+
+// The next call of a list.
+pub fn list_call(shape: Shape, plain: Plain, seed: u64, book: &[u64]) -> Call {
+    let die = below(seed, 32);
+    if die == 31 {
+        return call_of(misplaced_kind(below(seed >> 5, 4)), 0);
+    }
+    if die == 30 {
+        return call_of(checkpoint_kind(below(seed >> 5, 3)), 0);
+    }
+    if die > 28 || plain.stage == 3 && die % 2 == 1 {
+        return call_of(checkpoint_next(shape, plain), 0);
+    }
+    transaction_call(shape, plain, die, seed, book)
+}
+
+// The next call of a restart, with so many steps left and this source not yet replayed; there is none above the number of disks.
+// Now and then a step of a source that has nothing left, or of none.
+pub fn restart_call(shape: Shape, stage: u64, steps: u64, source: u64, seed: u64) -> Call {
+    let disks = shape.disks;
+    if stage == 0 {
+        return call_of(Kind::RestartBegin, 0);
+    }
+    if steps == 0 || source > disks {
+        return call_of(Kind::RestartEnd, 0);
+    }
+    if below(seed >> 8, 16) == 0 {
+        return call_of(Kind::RestartStep, below(seed >> 16, sum(disks, 3)));
+    }
+    call_of(Kind::RestartStep, source)
+}
+
+// One in 256 calls is lent one slice that is a word short.
+pub fn lent_short(call: Call, seed: u64) -> Call {
+    let short = cause(below(seed, 256) == 0, sum(1, below(seed >> 8, 5)));
+    Call { short, ..call }
+}

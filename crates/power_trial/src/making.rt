@@ -1,0 +1,231 @@
+// A call of the store, made as it is described. Each takes the five slices, and lowers the budget by the stores that it makes.
+use rehearsal::calls::Call;
+use rehearsal::calls::Kind;
+use rehearsal::calls::lay_value;
+use rehearsal::shape::Shape;
+use rehearsal::shape::list_pages;
+use rehearsal::sheets::note_seen;
+use rehearsal::words::front;
+use store::Called;
+use store::State;
+
+// What a read hands out is noted in the book.
+pub fn make(
+    state: State,
+    shape: Shape,
+    call: Call,
+    anchor: &mut [u64],
+    pages: &mut [u64],
+    backups: &mut [u64],
+    logs: &mut [u64],
+    work: &mut [u64],
+    book: &mut [u64],
+    budget: &mut u64,
+) -> Called {
+    let kind = call.kind;
+    match kind {
+        Kind::Begin | Kind::Update | Kind::Commit | Kind::Abort => {
+            make_change(state, call, anchor, pages, backups, logs, work, budget)
+        }
+        Kind::Read => make_read(state, call, anchor, pages, backups, logs, work, book),
+        _ => make_other(
+            state,
+            shape,
+            call,
+            anchor,
+            pages,
+            backups,
+            logs,
+            work,
+            budget,
+        ),
+    }
+}
+
+fn make_other(
+    state: State,
+    shape: Shape,
+    call: Call,
+    anchor: &mut [u64],
+    pages: &mut [u64],
+    backups: &mut [u64],
+    logs: &mut [u64],
+    work: &mut [u64],
+    budget: &mut u64,
+) -> Called {
+    let kind = call.kind;
+    match kind {
+        Kind::Format => make_format(state, shape, anchor, pages, backups, logs, work, budget),
+        Kind::CheckpointBegin | Kind::CheckpointStep | Kind::CheckpointEnd => {
+            make_checkpoint(state, kind, anchor, pages, backups, logs, work, budget)
+        }
+        _ => make_restart(state, call, anchor, pages, backups, logs, work, budget),
+    }
+}
+
+fn make_change(
+    state: State,
+    call: Call,
+    anchor: &[u64],
+    pages: &mut [u64],
+    backups: &[u64],
+    logs: &mut [u64],
+    work: &mut [u64],
+    budget: &mut u64,
+) -> Called {
+    let kind = call.kind;
+    let number = call.number;
+    match kind {
+        Kind::Begin => store::transactions::begin(state, anchor, pages, backups, logs, work),
+        Kind::Update => make_update(state, call, anchor, pages, backups, logs, work, budget),
+        Kind::Commit => store::transactions::commit(
+            state,
+            number,
+            anchor,
+            pages,
+            backups,
+            logs,
+            work,
+            budget,
+        ),
+        _ => store::transactions::abort(state, number, anchor, pages, backups, logs, work, budget),
+    }
+}
+
+fn make_update(
+    state: State,
+    call: Call,
+    anchor: &[u64],
+    pages: &mut [u64],
+    backups: &[u64],
+    logs: &mut [u64],
+    work: &mut [u64],
+    budget: &mut u64,
+) -> Called {
+    let mut value = [0u64; 40];
+    lay_value(call, &mut value);
+    store::transactions::update(
+        state,
+        call.number,
+        call.page,
+        call.slot,
+        front(&value, call.length),
+        anchor,
+        pages,
+        backups,
+        logs,
+        work,
+        budget,
+    )
+}
+
+fn make_read(
+    state: State,
+    call: Call,
+    anchor: &[u64],
+    pages: &[u64],
+    backups: &[u64],
+    logs: &[u64],
+    work: &[u64],
+    book: &mut [u64],
+) -> Called {
+    let number = call.number;
+    let page = call.page;
+    let slot = call.slot;
+    let words = store::transactions::read(
+        state,
+        number,
+        page,
+        slot,
+        anchor,
+        pages,
+        backups,
+        logs,
+        work,
+    );
+    note_seen(book, words);
+    let answer = store::transactions::read_answer(
+        state,
+        number,
+        page,
+        slot,
+        anchor,
+        pages,
+        backups,
+        logs,
+        work,
+    );
+    Called { answer, state }
+}
+
+fn make_checkpoint(
+    state: State,
+    kind: Kind,
+    anchor: &mut [u64],
+    pages: &[u64],
+    backups: &mut [u64],
+    logs: &mut [u64],
+    work: &mut [u64],
+    budget: &mut u64,
+) -> Called {
+    match kind {
+        Kind::CheckpointBegin => {
+            store::checkpoints::checkpoint_begin(state, anchor, pages, backups, logs, work)
+        }
+        Kind::CheckpointStep => {
+            store::checkpoints::checkpoint_step(state, anchor, pages, backups, logs, work, budget)
+        }
+        _ => store::checkpoints::checkpoint_end(state, anchor, pages, backups, logs, work, budget),
+    }
+}
+
+fn make_format(
+    state: State,
+    shape: Shape,
+    anchor: &mut [u64],
+    pages: &mut [u64],
+    backups: &mut [u64],
+    logs: &mut [u64],
+    work: &mut [u64],
+    budget: &mut u64,
+) -> Called {
+    let mut slots = [0u64; 64];
+    let mut widths = [0u64; 64];
+    list_pages(shape, &mut slots, &mut widths);
+    store::formats::format(
+        state,
+        shape.pages,
+        shape.disks,
+        shape.ring,
+        slots,
+        widths,
+        anchor,
+        pages,
+        backups,
+        logs,
+        work,
+        budget,
+    )
+}
+
+fn make_restart(
+    state: State,
+    call: Call,
+    anchor: &mut [u64],
+    pages: &mut [u64],
+    backups: &mut [u64],
+    logs: &[u64],
+    work: &mut [u64],
+    budget: &mut u64,
+) -> Called {
+    let kind = call.kind;
+    match kind {
+        Kind::RestartBegin => {
+            store::restarts::restart_begin(state, anchor, pages, backups, logs, work)
+        }
+        Kind::RestartStep => {
+            store::restarts::restart_step(state, call.number, anchor, pages, backups, logs, work)
+        }
+        _ => store::restarts::restart_end(state, anchor, pages, backups, logs, work, budget),
+    }
+}

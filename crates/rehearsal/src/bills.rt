@@ -1,0 +1,153 @@
+// What a call that is not refused stores, and how it changes the log room.
+use crate::calls::Call;
+use crate::calls::Kind;
+use crate::plain::Plain;
+use crate::purse::Purse;
+use crate::purse::purse_of;
+use crate::purse::spend;
+use crate::refusals::refusal;
+use crate::rooms;
+use crate::shape::Shape;
+use crate::shape::start_of;
+use crate::shape::total_of;
+use crate::shape::width_of;
+use crate::sheets;
+use crate::wanted::Wanted;
+use crate::wanted::billed;
+use crate::wanted::refused;
+use crate::words::get;
+use crate::words::less;
+use crate::words::more;
+use crate::words::sum;
+
+// What a call under a budget is to answer.
+pub fn expected(
+    shape: Shape,
+    plain: Plain,
+    call: Call,
+    remains: u64,
+    budget: u64,
+    book: &mut [u64],
+) -> Wanted {
+    let number = refusal(shape, plain, call, remains, book);
+    if number > 0 {
+        return refused(number, budget);
+    }
+    let money = bill(shape, plain, call, purse_of(budget), book);
+    let kind = call.kind;
+    billed(money, value_of(plain, kind))
+}
+
+// A begin answers its number, a restart's end the new c.
+fn value_of(plain: Plain, kind: Kind) -> u64 {
+    match kind {
+        Kind::Begin => plain.next,
+        Kind::RestartEnd => more(plain.epoch),
+        _ => 0,
+    }
+}
+
+fn bill(shape: Shape, plain: Plain, call: Call, money: Purse, book: &mut [u64]) -> Purse {
+    let kind = call.kind;
+    match kind {
+        Kind::Begin => bill_begin(shape, money, book),
+        Kind::Update => bill_update(shape, call, money, book),
+        Kind::Commit => bill_commit(call.number, money, book),
+        Kind::Abort => bill_abort(plain.entries, call.number, money, book),
+        Kind::CheckpointBegin => bill_mark(shape, money, book),
+        Kind::CheckpointEnd => bill_close(shape, money, book),
+        _ => spend(money, stores_of(shape, plain.copied, kind)),
+    }
+}
+
+// The stores of a call that does not touch the logs. Format's are c, three sizes, both arrays, both rows, the tails, backup 1, c;
+// a checkpoint step's are its page; a restart end's are all pages, a start for each disk, and c.
+fn stores_of(shape: Shape, copied: u64, kind: Kind) -> u64 {
+    match kind {
+        Kind::Format => sum(149, sum(shape.disks, total_of(shape))),
+        Kind::CheckpointStep => less(start_of(shape, more(copied)), start_of(shape, copied)),
+        Kind::RestartEnd => sum(total_of(shape), sum(shape.disks, 1)),
+        _ => 0,
+    }
+}
+
+fn bill_begin(shape: Shape, money: Purse, book: &mut [u64]) -> Purse {
+    let place = sheets::place_of(book, 0);
+    let disk = rooms::idlest(book, shape.disks, shape.ring);
+    rooms::begin(book, place, disk);
+    money
+}
+
+fn bill_mark(shape: Shape, money: Purse, book: &mut [u64]) -> Purse {
+    rooms::mark(book, shape.disks);
+    money
+}
+
+fn bill_update(shape: Shape, call: Call, money: Purse, book: &mut [u64]) -> Purse {
+    let place = sheets::place_of(book, call.number);
+    let disk = get(book, rooms::disk_at(place));
+    let words = sum(width_of(shape, call.page), 3);
+    let after = rooms::append(book, disk, words, money);
+    if after.cut {
+        return after;
+    }
+    rooms::update(book, place, words);
+    after
+}
+
+// The closing record, and a flush.
+fn bill_commit(number: u64, money: Purse, book: &mut [u64]) -> Purse {
+    let place = sheets::place_of(book, number);
+    let disk = get(book, rooms::disk_at(place));
+    let appended = rooms::append(book, disk, 2, money);
+    let after = rooms::flush(book, disk, appended);
+    rooms::close(book, place);
+    after
+}
+
+// A compensation for each update, newest first, then the closing record.
+fn bill_abort(entries: u64, number: u64, money: Purse, book: &mut [u64]) -> Purse {
+    let place = sheets::place_of(book, number);
+    let disk = get(book, rooms::disk_at(place));
+    let undone = compensate(entries, number, disk, money, book);
+    let after = append_if(disk, 2, undone, book);
+    rooms::close(book, place);
+    after
+}
+
+// A record is appended where nothing was cut before it.
+fn append_if(disk: u64, words: u64, money: Purse, book: &mut [u64]) -> Purse {
+    if money.cut {
+        return money;
+    }
+    rooms::append(book, disk, words, money)
+}
+
+fn compensate(entries: u64, number: u64, disk: u64, money: Purse, book: &mut [u64]) -> Purse {
+    let mut left = entries;
+    let mut after = money;
+    while left > 0 {
+        left -= 1;
+        after = compensate_one(left, number, disk, after, book);
+    }
+    after
+}
+
+// The compensation of one entry, if it is the transaction's.
+fn compensate_one(entry: u64, number: u64, disk: u64, money: Purse, book: &mut [u64]) -> Purse {
+    let at = sheets::entry_at(entry);
+    if get(book, at) != number {
+        return money;
+    }
+    let words = sum(3, get(book, sum(at, 2)));
+    append_if(disk, words, money, book)
+}
+
+// The flushes, a start for each disk, and c.
+fn bill_close(shape: Shape, money: Purse, book: &mut [u64]) -> Purse {
+    let disks = shape.disks;
+    let flushed = rooms::flush_all(book, disks, money);
+    let after = spend(flushed, sum(disks, 1));
+    rooms::move_starts_if(book, disks, !after.cut);
+    after
+}
