@@ -1,4 +1,5 @@
 // The calls of a pseudo-random list, one by one: what the next one is follows from a seed and the plain table.
+// Each choice takes bits of the seed that no other choice of the same call takes.
 use rehearsal::calls::Call;
 use rehearsal::calls::Kind;
 use rehearsal::calls::call_of;
@@ -16,7 +17,7 @@ use rehearsal::words::sum;
 // Some open transaction, the first from a random place on; 0 where there is none.
 fn some_open(seed: u64, book: &[u64]) -> u64 {
     let mut left: u64 = 16;
-    let from = below(seed, 16);
+    let from = below(seed >> 14, 16);
     while left > 0 {
         left -= 1;
         let number = get(book, open_at(sum(from, left)));
@@ -81,7 +82,7 @@ fn update_call(shape: Shape, plain: Plain, seed: u64, book: &[u64]) -> Call {
 fn read_call(shape: Shape, plain: Plain, seed: u64, book: &[u64]) -> Call {
     let call = named_call(Kind::Read, shape, plain, seed, book);
     Call {
-        number: cause(below(seed >> 3, 2) == 0, call.number),
+        number: cause(below(seed >> 20, 2) == 0, call.number),
         ..call
     }
 }
@@ -160,6 +161,6 @@ pub fn restart_call(shape: Shape, stage: u64, steps: u64, source: u64, seed: u64
 
 // One in 256 calls is lent one slice that is a word short.
 pub fn lent_short(call: Call, seed: u64) -> Call {
-    let short = cause(below(seed, 256) == 0, sum(1, below(seed >> 8, 5)));
+    let short = cause(below(seed >> 24, 256) == 0, sum(1, below(seed >> 32, 5)));
     Call { short, ..call }
 }
