@@ -52,30 +52,28 @@ fn move_on(core: Core, disk: u64, next: u64) -> Reply
     }
 }
 
-// A change is XORed in if `replays` says so; the step is done either way.
+// A change is XORed in if `replays` says so.
 fn take_change(
     core: Core,
     disk: u64,
     page: u64,
     slot: u64,
     width: u64,
-    next: u64,
     replays: bool,
     pages: &mut [u64],
     logs: &[u64],
-) -> Reply
+)
     requires { ⌜ OnLog core disk (now pages) (now logs) × ChangeFits core disk page slot width ⌝ }
-    ensures { λ r. ⌜ (r ≡ finished (movedTo core disk next)) × (now (pages .exit) ≡ cond replays (xorAt (slotBase (core .sizes) page slot) (span (readLog (core .sizes) (now (logs .entry)) disk (tailOf (core .logs) disk) []) (positionOf core disk + 3) width) (now (pages .entry))) (now (pages .entry))) ⌝ }
+    ensures { λ _. ⌜ now (pages .exit) ≡ cond replays (xorAt (slotBase (core .sizes) page slot) (span (readLog (core .sizes) (now (logs .entry)) disk (tailOf (core .logs) disk) []) (positionOf core disk + 3) width) (now (pages .entry))) (now (pages .entry)) ⌝ }
 {
     let sizes = core.sizes;
-    let state_logs = core.logs;
-    let replay = core.replay;
+    let tails = core.logs.tails;
+    let positions = core.replay.positions;
     let d = disk as usize;
-    let tail = state_logs.tails[d];
-    let from = replay.positions[d] + 3;
+    let tail = tails[d];
+    let from = positions[d] + 3;
     let at = slot_base(sizes, page, slot);
     replay_span(replays, pages, at, sizes, logs, disk, tail, from, width);
-    move_on(core, disk, next)
 }
 
 // A closed transaction's record not in the backup, or a loose one's record in it, is XORed in.
@@ -84,11 +82,11 @@ fn log_step(core: Core, disk: u64, pages: &mut [u64], logs: &[u64]) -> Reply
     ensures { λ r. ⌜ ((anchor backups work : List ℕ) → StepsOn core (worldOf anchor (now (pages .entry)) backups (now (logs .entry)) work) disk r (worldOf anchor (now (pages .exit)) backups (now (logs .entry)) work)) ⌝ }
 {
     let sizes = core.sizes;
-    let state_logs = core.logs;
-    let replay = core.replay;
+    let tails = core.logs.tails;
+    let positions = core.replay.positions;
     let d = disk as usize;
-    let tail = state_logs.tails[d];
-    let position = replay.positions[d];
+    let tail = tails[d];
+    let position = positions[d];
     if tail <= position {
         return refuse(core, 15);
     }
@@ -111,10 +109,12 @@ fn log_step(core: Core, disk: u64, pages: &mut [u64], logs: &[u64]) -> Reply
             match fate {
                 Fate::Unreadable { position: p } => refuse_at(core, 7, disk, p),
                 Fate::Closed => {
-                    take_change(core, disk, page, slot, width, next, !in_backup, pages, logs)
+                    take_change(core, disk, page, slot, width, !in_backup, pages, logs);
+                    move_on(core, disk, next)
                 }
                 Fate::Unclosed => {
-                    take_change(core, disk, page, slot, width, next, in_backup, pages, logs)
+                    take_change(core, disk, page, slot, width, in_backup, pages, logs);
+                    move_on(core, disk, next)
                 }
             }
         }

@@ -15,14 +15,14 @@ use Rattle.restart.proofs.step.log_step.Tie as tie
 mul-tail : tie.Need-mul-tail
 mul-tail c = let few = eight (c .before .before .before .before .before .pre) in omega arith
 
-element-copy-out-tail : tie.Need-element-copy-out-tail
-element-copy-out-tail c = eight (c .before .before .before .before .before .pre)
+array-read-tail : tie.Need-array-read-tail
+array-read-tail c = eight (c .before .before .before .before .before .pre)
 
 mul-position : tie.Need-mul-position
-mul-position c = let few = eight (c .before .before .before .before .before .before .pre) in omega arith
+mul-position c = let few = eight (c .before .before .before .before .before .pre) in omega arith
 
-element-copy-out-position : tie.Need-element-copy-out-position
-element-copy-out-position c = eight (c .before .before .before .before .before .before .pre)
+array-read-position : tie.Need-array-read-position
+array-read-position c = eight (c .before .before .before .before .before .pre)
 
 refuse-requires : tie.Need-refuse-requires
 refuse-requires c κs = search needs
@@ -30,7 +30,7 @@ refuse-requires c κs = search needs
 returns : tie.Need-returns
 unfolding positionOf tailOf
 returns c =
-    let start = c .before .before .before .before .before .before .before .before .before in
+    let start = c .before .before .before .before .before .before .before in
     λ anchor backups work. rw (c .refuse .ensures) (step-none _ _ _ (start .pre .disk-in) (c .before .if1 .taken))
 
 sub-none : tie.Need-sub-none
@@ -44,7 +44,7 @@ part-none-end c = search needs
 
 decode-at-requires : tie.Need-decode-at-requires
 unfolding tailOf
-decode-at-requires c κs = (log-readable (c .before .before .before .before .before .before .before .before .before .pre), c .before .if1 .left)
+decode-at-requires c κs = (log-readable (c .before .before .before .before .before .before .before .pre), c .before .if1 .left)
 
 enum-told : tie.Need-enum-told
 enum-told c = search needs
@@ -56,7 +56,7 @@ enum-known-here : tie.Need-enum-known-here
 enum-known-here c = search needs
 
 move-on-requires : tie.Need-move-on-requires
-move-on-requires c κs = eight (c .before .before .before .before .before .before .before .before .before .before .before .before .before .pre)
+move-on-requires c κs = eight (c .before .before .before .before .before .before .before .before .before .before .before .pre)
 
 enum-known-here-2 : tie.Need-enum-known-here-2
 enum-known-here-2 c = search needs
@@ -64,7 +64,7 @@ enum-known-here-2 c = search needs
 fate-from-requires : tie.Need-fate-from-requires
 unfolding tailOf
 fate-from-requires c κs =
-    let start = c .before .before .before .before .before .before .before .before .before .before .before .before .before in
+    let start = c .before .before .before .before .before .before .before .before .before .before .before in
     log-readable (start .pre)
 
 enum-known-fate : tie.Need-enum-known-fate
@@ -81,8 +81,11 @@ unfolding nextRecord readDisk positionOf tailOf
 take-change-requires c κs =
     let at-here2 = c .before .before .before .before .before .before in
     let at-decode-at = at-here2 .before .before in
-    let start = at-decode-at .before .before .before .before .before .before .before .before .before .before in
+    let start = at-decode-at .before .before .before .before .before .before .before .before in
     (start .pre, change-fits (start .pre) (worldOf [] [] [] _ []) (sym (at-decode-at .decode-at .ensures) ∙ at-here2 .here2 .given .1))
+
+move-on-requires-2 : tie.Need-move-on-requires-2
+move-on-requires-2 c κs = eight (c .before .before .before .before .before .before .before .before .before .before .before .before .before .before .before .before .before .before .before .pre)
 
 enum-told-3 : tie.Need-enum-told-3
 enum-told-3 c = search needs
@@ -92,15 +95,18 @@ unfolding nextRecord readDisk positionOf tailOf
 take-change-requires-2 c κs =
     let at-here2 = c .before .before .before .before .before .before in
     let at-decode-at = at-here2 .before .before in
-    let start = at-decode-at .before .before .before .before .before .before .before .before .before .before in
+    let start = at-decode-at .before .before .before .before .before .before .before .before in
     (start .pre, change-fits (start .pre) (worldOf [] [] [] _ []) (sym (at-decode-at .decode-at .ensures) ∙ at-here2 .here2 .given .1))
+
+move-on-requires-3 : tie.Need-move-on-requires-3
+move-on-requires-3 c κs = eight (c .before .before .before .before .before .before .before .before .before .before .before .before .before .before .before .before .before .before .before .pre)
 
 returns-2 : tie.Need-returns-2
 unfolding nextRecord readDisk positionOf tailOf
 returns-2 c =
     let at-decode-at = c .before .before .before in
     let at-if1 = at-decode-at .before .before in
-    let start = at-if1 .before .before .before .before .before .before .before .before in
+    let start = at-if1 .before .before .before .before .before .before in
     λ anchor backups work.
     rw (c .refuse-at .ensures)
     (step-malformed _ _ _ (start .pre .disk-in) (at-if1 .if1 .left) (sym (at-decode-at .decode-at .ensures) ∙ c .before .enum-told .given .1))
@@ -111,7 +117,7 @@ returns-3 c =
     let at-here = c .before .before in
     let at-decode-at = at-here .before .before in
     let at-if1 = at-decode-at .before .before in
-    let start = at-if1 .before .before .before .before .before .before .before .before in
+    let start = at-if1 .before .before .before .before .before .before in
     λ anchor backups work.
     rw (c .move-on .ensures)
     (step-close _ _ _ (start .pre .disk-in) (at-if1 .if1 .left) (sym (at-decode-at .decode-at .ensures) ∙ at-here .here .given .1))
@@ -124,7 +130,7 @@ returns-4 c =
     let at-here2 = at-fate-from .before .before in
     let at-decode-at = at-here2 .before .before in
     let at-if1 = at-decode-at .before .before in
-    let start = at-if1 .before .before .before .before .before .before .before .before in
+    let start = at-if1 .before .before .before .before .before .before in
     λ anchor backups work.
     rw (c .refuse-at2 .ensures)
     (step-unreadable _ _ _ (start .pre .disk-in) (at-if1 .if1 .left) (sym (at-decode-at .decode-at .ensures) ∙ at-here2 .here2 .given .1)
@@ -136,17 +142,17 @@ same-length c = search needs
 returns-5 : tie.Need-returns-5
 unfolding nextRecord readDisk fateFrom positionOf tailOf inBackup
 returns-5 c =
-    let at-take-change = c .before .before in
+    let at-take-change = c .before .before .before in
     let at-enum-told2 = at-take-change .before .before in
     let at-fate-from = at-enum-told2 .before .before .before in
     let at-here2 = at-fate-from .before .before in
     let at-decode-at = at-here2 .before .before in
     let at-if1 = at-decode-at .before .before in
-    let start = at-if1 .before .before .before .before .before .before .before .before in
+    let start = at-if1 .before .before .before .before .before .before in
     λ anchor backups work.
-    rw (at-take-change .take-change .ensures .0)
+    rw (c .move-on2 .ensures)
     (step-change _ _ _ (start .pre .disk-in) (at-if1 .if1 .left) (sym (at-decode-at .decode-at .ensures) ∙ at-here2 .here2 .given .1)
-    (sym (at-fate-from .fate-from .ensures) ∙ at-enum-told2 .enum-told2 .given .1) refl refl (at-take-change .take-change .ensures .1))
+    (sym (at-fate-from .fate-from .ensures) ∙ at-enum-told2 .enum-told2 .given .1) refl refl (at-take-change .take-change .ensures))
 
 same-length-2 : tie.Need-same-length-2
 same-length-2 c = search needs
@@ -154,26 +160,26 @@ same-length-2 c = search needs
 returns-6 : tie.Need-returns-6
 unfolding nextRecord readDisk fateFrom positionOf tailOf inBackup
 returns-6 c =
-    let at-take-change2 = c .before .before in
+    let at-take-change2 = c .before .before .before in
     let at-enum-told3 = at-take-change2 .before .before in
     let at-fate-from = at-enum-told3 .before .before .before in
     let at-here2 = at-fate-from .before .before in
     let at-decode-at = at-here2 .before .before in
     let at-if1 = at-decode-at .before .before in
-    let start = at-if1 .before .before .before .before .before .before .before .before in
+    let start = at-if1 .before .before .before .before .before .before in
     λ anchor backups work.
-    rw (at-take-change2 .take-change2 .ensures .0)
+    rw (c .move-on3 .ensures)
     (step-change _ _ _ (start .pre .disk-in) (at-if1 .if1 .left) (sym (at-decode-at .decode-at .ensures) ∙ at-here2 .here2 .given .1)
-    (sym (at-fate-from .fate-from .ensures) ∙ at-enum-told3 .enum-told3 .given .1) refl refl (at-take-change2 .take-change2 .ensures .1))
+    (sym (at-fate-from .fate-from .ensures) ∙ at-enum-told3 .enum-told3 .given .1) refl refl (at-take-change2 .take-change2 .ensures))
 
 pub log-step-spec : {M : Type 1} → statement M
 log-step-spec =
     tie.close
     (tie.spec
     mul-tail
-    element-copy-out-tail
+    array-read-tail
     mul-position
-    element-copy-out-position
+    array-read-position
     refuse-requires
     returns
     sub-none
@@ -190,8 +196,10 @@ log-step-spec =
     refuse-at-requires-2
     enum-told-2
     take-change-requires
+    move-on-requires-2
     enum-told-3
     take-change-requires-2
+    move-on-requires-3
     returns-2
     returns-3
     returns-4

@@ -10,56 +10,49 @@ use Rattle.restart.proofs.step.take_change.Tie as tie
 mul-tail : tie.Need-mul-tail
 mul-tail c = let few = eight (c .before .before .before .before .before .pre .0) in omega arith
 
-element-copy-out-tail : tie.Need-element-copy-out-tail
-element-copy-out-tail c = eight (c .before .before .before .before .before .pre .0)
+array-read-tail : tie.Need-array-read-tail
+array-read-tail c = eight (c .before .before .before .before .before .pre .0)
 
 mul-from : tie.Need-mul-from
-mul-from c = let few = eight (c .before .before .before .before .before .before .pre .0) in omega arith
+mul-from c = let few = eight (c .before .before .before .before .before .pre .0) in omega arith
 
-element-copy-out-from : tie.Need-element-copy-out-from
-element-copy-out-from c = eight (c .before .before .before .before .before .before .pre .0)
+array-read-from : tie.Need-array-read-from
+array-read-from c = eight (c .before .before .before .before .before .pre .0)
 
 add-from : tie.Need-add-from
 unfolding positionOf tailOf
 add-from c =
-    let start = c .before .before .before .before .before .before .before in
+    let start = c .before .before .before .before .before in
     omega (arith, start .pre .1 .difference-ends, tail-low (start .pre .0))
 
 slot-base-requires : tie.Need-slot-base-requires
 slot-base-requires c κs =
-    let start = c .before .before .before .before .before .before .before in
+    let start = c .before .before .before .before .before in
     slot-place (start .pre .0) (start .pre .1)
 
 replay-span-requires : tie.Need-replay-span-requires
 unfolding positionOf tailOf
 replay-span-requires c κs =
-    let start = c .before .before .before .before .before .before .before .before .before in
+    let start = c .before .before .before .before .before .before .before in
     (log-readable (start .pre .0), slot-fits (start .pre .0) (start .pre .1) (c .before .slot-base .ensures .0), start .pre .1 .difference-ends)
-
-move-on-requires : tie.Need-move-on-requires
-move-on-requires c κs = eight (c .before .before .before .before .before .before .before .before .before .before .before .before .pre .0)
 
 same-length : tie.Need-same-length
 same-length c = search needs
 
 returns : tie.Need-returns
 unfolding positionOf tailOf
-returns c =
-    let at-replay-span = c .before .before .before in
-    let at-slot-base = at-replay-span .before .before in
-    (c .move-on .ensures, rw (at-slot-base .slot-base .ensures .0) at (at-replay-span .replay-span .ensures))
+returns c = rw (c .before .before .before .before .slot-base .ensures .0) at (c .before .before .replay-span .ensures)
 
 pub take-change-spec : {M : Type 1} → statement M
 take-change-spec =
     tie.close
     (tie.spec
     mul-tail
-    element-copy-out-tail
+    array-read-tail
     mul-from
-    element-copy-out-from
+    array-read-from
     add-from
     slot-base-requires
     replay-span-requires
-    move-on-requires
     same-length
     returns)
