@@ -1,5 +1,4 @@
 // The slices of a size lent to a call, out of larger ones, and whether a call that has to leave them did.
-use crate::desk::Desk;
 use crate::making::make;
 use rehearsal::calls::Call;
 use rehearsal::random::digest;
@@ -10,6 +9,7 @@ use rehearsal::shape::work_words;
 use rehearsal::words::front_mut;
 use rehearsal::words::less;
 use rehearsal::words::times;
+use script::desk::Desk;
 use store::Called;
 use store::State;
 

@@ -3,20 +3,16 @@
 // lent a slice that is a word short; of these it is also compared that they leave the slices (of the logs, the first 8,192 words).
 // Standard input may begin with a number: how many lists are tried on each size (1 where there is none). To run it longer:
 //     echo 100 | target/bin/power_trial
-mod choices;
-mod desk;
 mod lending;
 mod making;
-mod plan;
-mod sizes;
 mod turns;
 
-use crate::desk::new_desk;
-use crate::sizes::how_many;
-use crate::sizes::shape_at;
 use crate::turns::Trial;
 use crate::turns::turn;
 use rehearsal::text::read_number;
+use script::desk::new_desk;
+use script::sizes::how_many;
+use script::sizes::shape_at;
 ghost use Prim.Native.Nat.{_<_};
 
 // How many turns are left: none once the last size is done.

@@ -1,13 +1,6 @@
 // A trial, turn by turn: a call that is made and judged, or lost power, or the pages compared, or the counts told.
-use crate::desk;
-use crate::desk::Desk;
-use crate::desk::new_desk;
-use crate::desk::next_call;
 use crate::lending::Made;
 use crate::lending::watch;
-use crate::plan::Mode;
-use crate::sizes::shape_at;
-use crate::sizes::tell;
 use rehearsal::calls::Call;
 use rehearsal::calls::Kind;
 use rehearsal::random::below;
@@ -18,6 +11,13 @@ use rehearsal::wanted::cause;
 use rehearsal::words::more;
 use rehearsal::words::put;
 use rehearsal::words::wipe;
+use script::desk;
+use script::desk::Desk;
+use script::desk::new_desk;
+use script::desk::next_call;
+use script::plan::Mode;
+use script::sizes::shape_at;
+use script::sizes::tell;
 use store::State;
 
 pub struct Trial {

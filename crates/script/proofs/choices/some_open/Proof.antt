@@ -1,7 +1,7 @@
 -- `some_open` is safe and ends.
 use borrow.Author.Needs.{needs}
-use Rattle.power_trial.proofs.choices.some_open.Statement.{statement}
-use Rattle.power_trial.proofs.choices.some_open.Tie as tie
+use Rattle.script.proofs.choices.some_open.Statement.{statement}
+use Rattle.script.proofs.choices.some_open.Tie as tie
 
 abbrev Inv-loop : tie.InvT-loop
 Inv-loop seed book left₀ from left = Unit {0}
