@@ -12,6 +12,7 @@ use table::sound::replay_bounds;
 use table::sound::serving_bounds;
 ghost use mathlib.Core.Path.{_≡_};
 ghost use mathlib.Core.Bool.{true, false};
+ghost use lib.ListN.{length};
 ghost use Rattle.model.specs.Sizes.{sizesInBounds};
 ghost use Rattle.model.specs.State.{servingSound, replaySound, sound};
 ghost use Rattle.model.specs.Causes.{whenShut};
@@ -58,19 +59,19 @@ fn is_sound(core: Core) -> bool
 // 2 for a wrong anchor, 5 for another wrong slice, else 0.
 fn length_refusal(
     sizes: Sizes,
-    anchor: usize,
-    pages: usize,
-    backups: usize,
-    logs: usize,
-    work: usize,
+    anchor: &[u64],
+    pages: &[u64],
+    backups: &[u64],
+    logs: &[u64],
+    work: &[u64],
 ) -> u64
     requires { ⌜ sizesInBounds sizes ≡ true ⌝ }
-    ensures { λ r. ⌜ r ≡ lengthRefusal sizes anchor pages backups logs work ⌝ }
+    ensures { λ r. ⌜ r ≡ lengthRefusal sizes (length (now (anchor .entry))) (length (now (pages .entry))) (length (now (backups .entry))) (length (now (logs .entry))) (length (now (work .entry))) ⌝ }
 {
-    if anchor != 148 {
+    if anchor.len() != 148 {
         return 2;
     }
-    if lengths_right(sizes, pages, backups, logs, work) {
+    if lengths_right(sizes, pages.len(), backups.len(), logs.len(), work.len()) {
         0
     } else {
         5
@@ -81,14 +82,14 @@ fn length_refusal(
 pub fn first_refusal(
     allowed: bool,
     core: Core,
-    anchor: usize,
-    pages: usize,
-    backups: usize,
-    logs: usize,
-    work: usize,
+    anchor: &[u64],
+    pages: &[u64],
+    backups: &[u64],
+    logs: &[u64],
+    work: &[u64],
 ) -> u64
     requires { ⌜ (allowed ≡ true → whenShut (core .stage) ≡ false) ⌝ }
-    ensures { λ r. ⌜ r ≡ firstRefusal allowed core anchor pages backups logs work ⌝ }
+    ensures { λ r. ⌜ r ≡ firstRefusal allowed core (length (now (anchor .entry))) (length (now (pages .entry))) (length (now (backups .entry))) (length (now (logs .entry))) (length (now (work .entry))) ⌝ }
 {
     if !allowed {
         return 1;

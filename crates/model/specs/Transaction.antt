@@ -62,12 +62,17 @@ updated c number r =
     place : ℕ
     place = placeOf (c .table) number
 
+-- an update's rows after the three that every call has
+abbrev pub slotRows : Core → World → ℕ → ℕ → ℕ → List ℕ → List Row
+slotRows c w number page slot value =
+    row 8 (slotMissing (c .sizes) page slot) ∷ row 9 (notOpen c number) ∷ row 10 (valueWrong (c .sizes) page value)
+    ∷ row 11 (locked c w number page slot)
+    ∷ row 14 (not (hasRoom c (2 * wordsOf updateKind (widthIn (c .sizes) page)) (diskOf c number))) ∷ []
+
 unfoldable pub updateRows : Core → World → ℕ → ℕ → ℕ → List ℕ → List Row
 updateRows c w number page slot value =
     row 1 (stageForbids whenServing c) ∷ row 2 (anchorWrong w) ∷ row 5 (lengthsWrong (c .sizes) w)
-    ∷ row 8 (slotMissing (c .sizes) page slot) ∷ row 9 (notOpen c number) ∷ row 10 (valueWrong (c .sizes) page value)
-    ∷ row 11 (locked c w number page slot)
-    ∷ row 14 (not (hasRoom c (2 * wordsOf updateKind (widthIn (c .sizes) page)) (diskOf c number))) ∷ []
+    ∷ slotRows c w number page slot value
 
 -- the memory changes come after the stores of a flush
 unfoldable pub updateTask : Core → World → ℕ → ℕ → ℕ → List ℕ → Task

@@ -46,7 +46,7 @@ pub fn update(
     ensures { λ r. ⌜ (sound (state .core) ≡ true → sound (r .state .core) ≡ true) ⌝ }
 {
     let core = core_of(state);
-    let reply = txn::update::update(
+    let reply = access::update::update(
         core,
         number,
         page,
@@ -76,7 +76,7 @@ pub fn read<'a>(
 ) -> &'a [u64]
     ensures { λ r. ⌜ now r ≡ readWords (state .core) (worldOf (now (anchor .entry)) (now (pages .entry)) (now (backups .entry)) (now (logs .entry)) (now (work .entry))) reader page slot ⌝ }
 {
-    txn::read::read(
+    access::read::read(
         state.core,
         reader,
         page,
@@ -103,7 +103,7 @@ pub fn read_answer(
 ) -> Answer
     ensures { λ r. ⌜ Gives (read reader page slot) (state .core) (worldOf (now (anchor .entry)) (now (pages .entry)) (now (backups .entry)) (now (logs .entry)) (now (work .entry))) (record { answer = r; core = state .core }) 0 (worldOf (now (anchor .entry)) (now (pages .entry)) (now (backups .entry)) (now (logs .entry)) (now (work .entry))) ⌝ }
 {
-    txn::read::read_answer(
+    access::read::read_answer(
         state.core,
         reader,
         page,

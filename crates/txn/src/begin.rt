@@ -42,15 +42,7 @@ pub fn begin(
 {
     let stage = core.stage;
     let allowed = is_serving(stage);
-    let refusal = first_refusal(
-        allowed,
-        core,
-        anchor.len(),
-        pages.len(),
-        backups.len(),
-        logs.len(),
-        work.len(),
-    );
+    let refusal = first_refusal(allowed, core, anchor, pages, backups, logs, work);
     if refusal != 0 {
         return refuse(core, refusal);
     }

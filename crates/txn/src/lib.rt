@@ -1,7 +1,3 @@
-// The calls of a transaction but abort: begin, update, read and commit.
+// The calls that open a transaction and make its results last: begin and commit.
 pub mod begin;
-pub mod change;
 pub mod commit;
-pub mod read;
-pub mod slots;
-pub mod update;

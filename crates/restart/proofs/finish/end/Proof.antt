@@ -17,8 +17,8 @@ is-replaying-requires c κs = search needs
 
 first-refusal-requires : tie.Need-first-refusal-requires
 first-refusal-requires c κs =
-    let start = c .before .before .before .before .before .before in
-    λ allowed. replaying-not-shut (start .args .core .stage) (sym (c .is-replaying .ensures) ∙ allowed)
+    let start = c .before .before .before .before .before .before .before .before .before in
+    λ allowed. replaying-not-shut (start .args .core .stage) (sym (c .before .before .before .is-replaying .ensures) ∙ allowed)
 
 refuse-requires : tie.Need-refuse-requires
 refuse-requires c κs = search needs
@@ -26,7 +26,7 @@ refuse-requires c κs = search needs
 returns : tie.Need-returns
 returns c =
     let at-first-refusal = c .before .before in
-    let at-is-replaying = at-first-refusal .before in
+    let at-is-replaying = at-first-refusal .before .before .before .before in
     let start = at-is-replaying .before .before .before .before .before .before in
     let a = start .args in
     let w = worldOf (now (a .anchor)) (now (a .pages)) (now (a .backups)) (now (a .logs)) (now (a .work)) in
@@ -34,7 +34,7 @@ returns c =
 
 is-done-requires : tie.Need-is-done-requires
 is-done-requires c κs =
-    let at-is-replaying = c .before .before in
+    let at-is-replaying = c .before .before .before .before .before in
     let start = at-is-replaying .before .before .before .before .before .before in
     let a = start .args in
     let w = worldOf (now (a .anchor)) (now (a .pages)) (now (a .backups)) (now (a .logs)) (now (a .work)) in
@@ -48,7 +48,7 @@ returns-2 c =
     let at-is-done = c .before .before in
     let at-if1 = at-is-done .before in
     let at-first-refusal = at-if1 .before in
-    let at-is-replaying = at-first-refusal .before in
+    let at-is-replaying = at-first-refusal .before .before .before .before in
     let start = at-is-replaying .before .before .before .before .before .before in
     let a = start .args in
     let w = worldOf (now (a .anchor)) (now (a .pages)) (now (a .backups)) (now (a .logs)) (now (a .work)) in
@@ -59,7 +59,7 @@ open-replayed-requires : tie.Need-open-replayed-requires
 open-replayed-requires c κs =
     let at-if1 = c .before .before .before .before .before .before in
     let at-first-refusal = at-if1 .before in
-    let at-is-replaying = at-first-refusal .before in
+    let at-is-replaying = at-first-refusal .before .before .before .before in
     let start = at-is-replaying .before .before .before .before .before .before in
     let a = start .args in
     let w = worldOf (now (a .anchor)) (now (a .pages)) (now (a .backups)) (now (a .logs)) (now (a .work)) in
@@ -83,12 +83,30 @@ returns-3 c =
     let at-is-done = at-if2 .before in
     let at-if1 = at-is-done .before in
     let at-first-refusal = at-if1 .before in
-    let at-is-replaying = at-first-refusal .before in
+    let at-is-replaying = at-first-refusal .before .before .before .before in
     let start = at-is-replaying .before .before .before .before .before .before in
     let a = start .args in
     let w = worldOf (now (a .anchor)) (now (a .pages)) (now (a .backups)) (now (a .logs)) (now (a .work)) in
     end-given (now (a .budget)) (a .core) w (at-is-replaying .is-replaying .ensures) (at-first-refusal .first-refusal .ensures) (at-if1 .if1 .left) (at-is-done .is-done .ensures) (not-false _ (at-if2 .if2 .left)) _ _ _
     (at-open-replayed .open-replayed .ensures _)
+
+same-length-4 : tie.Need-same-length-4
+same-length-4 c = search needs
+
+same-length-5 : tie.Need-same-length-5
+same-length-5 c = search needs
+
+same-length-6 : tie.Need-same-length-6
+same-length-6 c = search needs
+
+same-length-7 : tie.Need-same-length-7
+same-length-7 c = search needs
+
+same-length-8 : tie.Need-same-length-8
+same-length-8 c = search needs
+
+same-length-9 : tie.Need-same-length-9
+same-length-9 c = search needs
 
 pub end-spec : {M : Type 1} → statement M
 end-spec =
@@ -97,12 +115,18 @@ end-spec =
     is-replaying-requires
     first-refusal-requires
     refuse-requires
-    returns
-    is-done-requires
-    refuse-requires-2
-    returns-2
-    open-replayed-requires
     same-length
     same-length-2
     same-length-3
+    returns
+    is-done-requires
+    refuse-requires-2
+    same-length-4
+    same-length-5
+    same-length-6
+    returns-2
+    open-replayed-requires
+    same-length-7
+    same-length-8
+    same-length-9
     returns-3)

@@ -17,8 +17,8 @@ is-replaying-requires c κs = search needs
 
 first-refusal-requires : tie.Need-first-refusal-requires
 first-refusal-requires c κs =
-    let start = c .before .before .before .before .before .before in
-    λ allowed. replaying-not-shut (start .args .core .stage) (sym (c .is-replaying .ensures) ∙ allowed)
+    let start = c .before .before .before .before .before .before .before in
+    λ allowed. replaying-not-shut (start .args .core .stage) (sym (c .before .is-replaying .ensures) ∙ allowed)
 
 refuse-requires : tie.Need-refuse-requires
 refuse-requires c κs = search needs
@@ -26,7 +26,7 @@ refuse-requires c κs = search needs
 returns : tie.Need-returns
 returns c =
     let at-first-refusal = c .before .before in
-    let at-is-replaying = at-first-refusal .before in
+    let at-is-replaying = at-first-refusal .before .before in
     let start = at-is-replaying .before .before .before .before .before .before in
     let a = start .args in
     let w = worldOf (now (a .anchor)) (now (a .pages)) (now (a .backups)) (now (a .logs)) (now (a .work)) in
@@ -36,7 +36,7 @@ log-step-requires : tie.Need-log-step-requires
 log-step-requires c κs =
     let at-if1 = c .before .before in
     let at-first-refusal = at-if1 .before in
-    let at-is-replaying = at-first-refusal .before in
+    let at-is-replaying = at-first-refusal .before .before in
     let start = at-is-replaying .before .before .before .before .before .before in
     let a = start .args in
     let w = worldOf (now (a .anchor)) (now (a .pages)) (now (a .backups)) (now (a .logs)) (now (a .work)) in
@@ -50,7 +50,7 @@ returns-2 c =
     let at-log-step = c .before .before in
     let at-if1 = at-log-step .before .before .before in
     let at-first-refusal = at-if1 .before in
-    let at-is-replaying = at-first-refusal .before in
+    let at-is-replaying = at-first-refusal .before .before in
     let start = at-is-replaying .before .before .before .before .before .before in
     let a = start .args in
     let w = worldOf (now (a .anchor)) (now (a .pages)) (now (a .backups)) (now (a .logs)) (now (a .work)) in
@@ -60,7 +60,7 @@ backup-step-requires : tie.Need-backup-step-requires
 backup-step-requires c κs =
     let at-if1 = c .before .before .before in
     let at-first-refusal = at-if1 .before in
-    let at-is-replaying = at-first-refusal .before in
+    let at-is-replaying = at-first-refusal .before .before in
     let start = at-is-replaying .before .before .before .before .before .before in
     let a = start .args in
     let w = worldOf (now (a .anchor)) (now (a .pages)) (now (a .backups)) (now (a .logs)) (now (a .work)) in
@@ -76,7 +76,7 @@ returns-3 c =
     let at-if3 = at-backup-step .before .before in
     let at-if1 = at-if3 .before .before in
     let at-first-refusal = at-if1 .before in
-    let at-is-replaying = at-first-refusal .before in
+    let at-is-replaying = at-first-refusal .before .before in
     let start = at-is-replaying .before .before .before .before .before .before in
     let a = start .args in
     let w = worldOf (now (a .anchor)) (now (a .pages)) (now (a .backups)) (now (a .logs)) (now (a .work)) in
@@ -90,13 +90,19 @@ returns-4 c =
     let at-if2 = c .before .before in
     let at-if1 = at-if2 .before in
     let at-first-refusal = at-if1 .before in
-    let at-is-replaying = at-first-refusal .before in
+    let at-is-replaying = at-first-refusal .before .before in
     let start = at-is-replaying .before .before .before .before .before .before in
     let a = start .args in
     let w = worldOf (now (a .anchor)) (now (a .pages)) (now (a .backups)) (now (a .logs)) (now (a .work)) in
     rw (c .refuse2 .ensures)
     (step-given (a .core) w (a .source) (at-is-replaying .is-replaying .ensures) (at-first-refusal .first-refusal .ensures) (at-if1 .if1 .left) _ _
     (step-missing (a .core) w (a .source) (omega (arith, at-if2 .if2 .left, c .before .if3 .left))))
+
+same-length-3 : tie.Need-same-length-3
+same-length-3 c = search needs
+
+same-length-4 : tie.Need-same-length-4
+same-length-4 c = search needs
 
 pub step-spec : {M : Type 1} → statement M
 step-spec =
@@ -105,12 +111,14 @@ step-spec =
     is-replaying-requires
     first-refusal-requires
     refuse-requires
+    same-length
     returns
     log-step-requires
-    same-length
+    same-length-2
     returns-2
     backup-step-requires
-    same-length-2
+    same-length-3
     returns-3
     refuse-requires-2
+    same-length-4
     returns-4)

@@ -23,17 +23,17 @@ is-serving-requires : tie.Need-is-serving-requires
 is-serving-requires c κs = search needs
 
 first-refusal-requires : tie.Need-first-refusal-requires
-first-refusal-requires c κs = λ e. serving-not-shut (c .before .before .before .before .before .before .args .core .stage) (sym (c .is-serving .ensures) ∙ e)
+first-refusal-requires c κs = λ e. serving-not-shut (c .before .before .before .before .before .before .before .before .args .core .stage) (sym (c .before .before .is-serving .ensures) ∙ e)
 
 refuse-requires : tie.Need-refuse-requires
 refuse-requires c κs = search needs
 
 returns : tie.Need-returns
 returns c =
-    let x = c .before .before .before .before .before .before .before .before .before .args in
+    let x = c .before .before .before .before .before .before .before .before .before .before .before .args in
     let w = (worldOf (x .anchor .now) (x .pages .now) (x .backups .now) (x .logs .now) (x .work .now)) in
     rw (c .refuse .ensures)
-    (refusal-given (commit (x .number) (x .budget .now)) (x .core) w _ 0 0 (commit-refused (x .core) w (x .number) (c .before .before .before .is-serving .ensures) (c .before .before .first-refusal .ensures) (c .before .if1 .taken)))
+    (refusal-given (commit (x .number) (x .budget .now)) (x .core) w _ 0 0 (commit-refused (x .core) w (x .number) (c .before .before .before .before .before .is-serving .ensures) (c .before .before .first-refusal .ensures) (c .before .if1 .taken)))
 
 is-open-requires : tie.Need-is-open-requires
 is-open-requires c κs = search needs
@@ -43,26 +43,26 @@ refuse-requires-2 c κs = search needs
 
 returns-2 : tie.Need-returns-2
 returns-2 c =
-    let x = c .before .before .before .before .before .before .before .before .before .before .before .args in
+    let x = c .before .before .before .before .before .before .before .before .before .before .before .before .before .args in
     let w = (worldOf (x .anchor .now) (x .pages .now) (x .backups .now) (x .logs .now) (x .work .now)) in
     rw (c .refuse2 .ensures)
     (refusal-given (commit (x .number) (x .budget .now)) (x .core) w 9 0 0
-    (commit-unopened (x .core) w (x .number) (c .before .before .before .before .before .is-serving .ensures) (c .before .before .before .before .first-refusal .ensures) (omega (arith, c .before .before .before .if1 .left))
+    (commit-unopened (x .core) w (x .number) (c .before .before .before .before .before .before .before .is-serving .ensures) (c .before .before .before .before .first-refusal .ensures) (omega (arith, c .before .before .before .if1 .left))
     (sym (c .before .before .is-open .ensures) ∙ not-true _ (c .before .if2 .taken))))
 
 home-of-transaction-requires : tie.Need-home-of-transaction-requires
 home-of-transaction-requires c κs =
-    let x = c .before .before .before .before .before .before .before .before .before .before .before .args in
+    let x = c .before .before .before .before .before .before .before .before .before .before .before .before .before .args in
     let w = worldOf (x .anchor .now) (x .pages .now) (x .backups .now) (x .logs .now) (x .work .now) in
-    let serves = serves-passed (x .core) w (first-passed whenServing (x .core) w (c .before .before .before .before .before .is-serving .ensures) (c .before .before .before .before .first-refusal .ensures) (omega (arith, c .before .before .before .if1 .left))) in
+    let serves = serves-passed (x .core) w (first-passed whenServing (x .core) w (c .before .before .before .before .before .before .before .is-serving .ensures) (c .before .before .before .before .first-refusal .ensures) (omega (arith, c .before .before .before .if1 .left))) in
     (serves .state, sym (c .before .before .is-open .ensures) ∙ not-false _ (c .before .if2 .left), serves .work-words)
 
 store-close-requires : tie.Need-store-close-requires
 unfolding homeOf endOf
 store-close-requires c κs =
-    let x = c .before .before .before .before .before .before .before .before .before .before .before .before .before .before .before .args in
+    let x = c .before .before .before .before .before .before .before .before .before .before .before .before .before .before .before .before .before .args in
     let w = worldOf (x .anchor .now) (x .pages .now) (x .backups .now) (x .logs .now) (x .work .now) in
-    let serves = serves-passed (x .core) w (first-passed whenServing (x .core) w (c .before .before .before .before .before .before .before .before .before .is-serving .ensures) (c .before .before .before .before .before .before .before .before .first-refusal .ensures) (omega (arith, c .before .before .before .before .before .before .before .if1 .left))) in
+    let serves = serves-passed (x .core) w (first-passed whenServing (x .core) w (c .before .before .before .before .before .before .before .before .before .before .before .is-serving .ensures) (c .before .before .before .before .before .before .before .before .first-refusal .ensures) (omega (arith, c .before .before .before .before .before .before .before .if1 .left))) in
     let opened = sym (c .before .before .before .before .before .before .is-open .ensures) ∙ not-false _ (c .before .before .before .before .before .if2 .left) in
     let home = c .before .before .before .home-of-transaction .ensures .0 in (
       within-there (x .core) (diskOf (x .core) (x .number)) home _ _ serves (open-below (x .core) (x .number) (serves .state) opened),
@@ -80,22 +80,22 @@ same-length-2 c = search needs
 
 returns-3 : tie.Need-returns-3
 returns-3 c =
-    let x = c .before .before .before .before .before .before .before .before .before .before .before .before .before .before .before .before .before .before .before .before .before .before .args in
+    let x = c .before .before .before .before .before .before .before .before .before .before .before .before .before .before .before .before .before .before .before .before .before .before .before .before .args in
     let w = worldOf (x .anchor .now) (x .pages .now) (x .backups .now) (x .logs .now) (x .work .now) in
     let opened = sym (c .before .before .before .before .before .before .before .before .before .before .before .before .before .is-open .ensures) ∙ not-false _ (c .before .before .before .before .before .before .before .before .before .before .before .before .if2 .left) in
     let home = c .before .before .before .before .before .before .before .before .before .before .home-of-transaction .ensures in
     let sized : SizedLogs (x .core .logs) = record { starts = home .1 .0; tails = home .1 .1; fills = home .1 .2 } in
     let cut : c .before .before .before .before .before .before .store-close .result ≡ false = not-true _ (c .before .if3 .taken) in
     task-given (commit (x .number) (x .budget .now)) (x .core) w _ _ _
-    (commit-accepted (x .core) w (x .number) (c .before .before .before .before .before .before .before .before .before .before .before .before .before .before .before .before .is-serving .ensures) (c .before .before .before .before .before .before .before .before .before .before .before .before .before .before .before .first-refusal .ensures) (omega (arith, c .before .before .before .before .before .before .before .before .before .before .before .before .before .before .if1 .left)) opened)
-    (commit-settled (x .core) w _ (x .number) (serves-passed (x .core) w (first-passed whenServing (x .core) w (c .before .before .before .before .before .before .before .before .before .before .before .before .before .before .before .before .is-serving .ensures) (c .before .before .before .before .before .before .before .before .before .before .before .before .before .before .before .first-refusal .ensures) (omega (arith, c .before .before .before .before .before .before .before .before .before .before .before .before .before .before .if1 .left))) .state) opened sized (home .0)
+    (commit-accepted (x .core) w (x .number) (c .before .before .before .before .before .before .before .before .before .before .before .before .before .before .before .before .before .before .is-serving .ensures) (c .before .before .before .before .before .before .before .before .before .before .before .before .before .before .before .first-refusal .ensures) (omega (arith, c .before .before .before .before .before .before .before .before .before .before .before .before .before .before .if1 .left)) opened)
+    (commit-settled (x .core) w _ (x .number) (serves-passed (x .core) w (first-passed whenServing (x .core) w (c .before .before .before .before .before .before .before .before .before .before .before .before .before .before .before .before .before .before .is-serving .ensures) (c .before .before .before .before .before .before .before .before .before .before .before .before .before .before .before .first-refusal .ensures) (omega (arith, c .before .before .before .before .before .before .before .before .before .before .before .before .before .before .if1 .left))) .state) opened sized (home .0)
     (c .before .before .before .before .before .before .store-close .ensures (x .core .sizes) (x .core .logs) w (lent-there (x .core) _ (home .0) w refl refl)) (rw cut (c .settle .ensures)))
 
 closed-core-requires : tie.Need-closed-core-requires
 closed-core-requires c κs =
-    let x = c .before .before .before .before .before .before .before .before .before .before .before .before .before .before .before .before .before .before .before .before .before .args in
+    let x = c .before .before .before .before .before .before .before .before .before .before .before .before .before .before .before .before .before .before .before .before .before .before .before .args in
     let w = worldOf (x .anchor .now) (x .pages .now) (x .backups .now) (x .logs .now) (x .work .now) in
-    let serves = serves-passed (x .core) w (first-passed whenServing (x .core) w (c .before .before .before .before .before .before .before .before .before .before .before .before .before .before .before .is-serving .ensures) (c .before .before .before .before .before .before .before .before .before .before .before .before .before .before .first-refusal .ensures) (omega (arith, c .before .before .before .before .before .before .before .before .before .before .before .before .before .if1 .left))) in
+    let serves = serves-passed (x .core) w (first-passed whenServing (x .core) w (c .before .before .before .before .before .before .before .before .before .before .before .before .before .before .before .before .before .is-serving .ensures) (c .before .before .before .before .before .before .before .before .before .before .before .before .before .before .first-refusal .ensures) (omega (arith, c .before .before .before .before .before .before .before .before .before .before .before .before .before .if1 .left))) in
     let opened = sym (c .before .before .before .before .before .before .before .before .before .before .before .before .is-open .ensures) ∙ not-false _ (c .before .before .before .before .before .before .before .before .before .before .before .if2 .left) in
     let home = c .before .before .before .before .before .before .before .before .before .home-of-transaction .ensures .0 in
     let below = open-below (x .core) (x .number) (serves .state) opened in (
@@ -114,16 +114,28 @@ same-length-4 c = search needs
 
 returns-4 : tie.Need-returns-4
 returns-4 c =
-    let x = c .before .before .before .before .before .before .before .before .before .before .before .before .before .before .before .before .before .before .before .before .before .before .before .args in
+    let x = c .before .before .before .before .before .before .before .before .before .before .before .before .before .before .before .before .before .before .before .before .before .before .before .before .before .args in
     let w = worldOf (x .anchor .now) (x .pages .now) (x .backups .now) (x .logs .now) (x .work .now) in
     let opened = sym (c .before .before .before .before .before .before .before .before .before .before .before .before .before .before .is-open .ensures) ∙ not-false _ (c .before .before .before .before .before .before .before .before .before .before .before .before .before .if2 .left) in
     let home = c .before .before .before .before .before .before .before .before .before .before .before .home-of-transaction .ensures in
     let sized : SizedLogs (x .core .logs) = record { starts = home .1 .0; tails = home .1 .1; fills = home .1 .2 } in
     let whole : c .before .before .before .before .before .before .before .store-close .result ≡ true = not-false _ (c .before .before .if3 .left) in
     task-given (commit (x .number) (x .budget .now)) (x .core) w _ _ _
-    (commit-accepted (x .core) w (x .number) (c .before .before .before .before .before .before .before .before .before .before .before .before .before .before .before .before .before .is-serving .ensures) (c .before .before .before .before .before .before .before .before .before .before .before .before .before .before .before .before .first-refusal .ensures) (omega (arith, c .before .before .before .before .before .before .before .before .before .before .before .before .before .before .before .if1 .left)) opened)
-    (commit-settled (x .core) w _ (x .number) (serves-passed (x .core) w (first-passed whenServing (x .core) w (c .before .before .before .before .before .before .before .before .before .before .before .before .before .before .before .before .before .is-serving .ensures) (c .before .before .before .before .before .before .before .before .before .before .before .before .before .before .before .before .first-refusal .ensures) (omega (arith, c .before .before .before .before .before .before .before .before .before .before .before .before .before .before .before .if1 .left))) .state) opened sized (home .0)
+    (commit-accepted (x .core) w (x .number) (c .before .before .before .before .before .before .before .before .before .before .before .before .before .before .before .before .before .before .before .is-serving .ensures) (c .before .before .before .before .before .before .before .before .before .before .before .before .before .before .before .before .first-refusal .ensures) (omega (arith, c .before .before .before .before .before .before .before .before .before .before .before .before .before .before .before .if1 .left)) opened)
+    (commit-settled (x .core) w _ (x .number) (serves-passed (x .core) w (first-passed whenServing (x .core) w (c .before .before .before .before .before .before .before .before .before .before .before .before .before .before .before .before .before .before .before .is-serving .ensures) (c .before .before .before .before .before .before .before .before .before .before .before .before .before .before .before .before .first-refusal .ensures) (omega (arith, c .before .before .before .before .before .before .before .before .before .before .before .before .before .before .before .if1 .left))) .state) opened sized (home .0)
     (c .before .before .before .before .before .before .before .store-close .ensures (x .core .sizes) (x .core .logs) w (lent-there (x .core) _ (home .0) w refl refl)) (rw (whole, ← c .before .closed-core .ensures) (c .settle2 .ensures)))
+
+same-length-5 : tie.Need-same-length-5
+same-length-5 c = search needs
+
+same-length-6 : tie.Need-same-length-6
+same-length-6 c = search needs
+
+same-length-7 : tie.Need-same-length-7
+same-length-7 c = search needs
+
+same-length-8 : tie.Need-same-length-8
+same-length-8 c = search needs
 
 pub commit-spec : {M : Type 1} → statement M
 commit-spec =
@@ -132,18 +144,22 @@ commit-spec =
     is-serving-requires
     first-refusal-requires
     refuse-requires
+    same-length
+    same-length-2
     returns
     is-open-requires
     refuse-requires-2
+    same-length-3
+    same-length-4
     returns-2
     home-of-transaction-requires
     store-close-requires
     settle-requires
-    same-length
-    same-length-2
+    same-length-5
+    same-length-6
     returns-3
     closed-core-requires
     settle-requires-2
-    same-length-3
-    same-length-4
+    same-length-7
+    same-length-8
     returns-4)
