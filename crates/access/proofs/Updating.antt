@@ -32,10 +32,11 @@ use Rattle.log.specs.Write.{Encodable}
 use Rattle.log.proofs.Words.{change-length}
 use Rattle.frame.specs.Checks.{firstRefusal, verdictOf}
 use Rattle.frame.specs.declared.home.Home.{Home}
-use Rattle.frame.specs.Home.{homeOf, withDisk}
+use Rattle.frame.specs.Home.{Serves, homeOf, withDisk}
 use Rattle.frame.specs.Settle.{settled, Concludes}
 use Rattle.frame.proofs.Verdicts.{first-refused, first-accepted, task-settled}
-use Rattle.access.specs.Tasks.{grown, Changes, replacing, Replaced, Changed}
+use Rattle.device.specs.Ran.{Ran}
+use Rattle.access.specs.Tasks.{grown, replacing, Replaced}
 use Rattle.access.proofs.Reading.{taken-number}
 use Rattle.access.proofs.SlotBounds.{There, slot-there}
 use Rattle.access.proofs.Differences.{difference-length}
@@ -46,6 +47,15 @@ width-right {n} {m} {k} e same = eq-eqb k m (same ∙ e)
 
 pub width-wrong : {n m k : ℕ} → n ≡ m → (k ≡ n → ⊥) → eqb k m ≡ false
 width-wrong {n} {m} {k} e other = ne-eqb k m (λ z. other (z ∙ sym e))
+
+-- What the checks of an update leave to its work.
+pub record Changes (c : Core) (number page slot : ℕ) (value p l k : List ℕ) : Type 0 where
+  pub serves : Serves c l k
+  pub opened : isOpen (c .table) number ≡ true
+  pub there : slotMissing (c .sizes) page slot ≡ false
+  pub width : length value ≡ widthIn (c .sizes) page
+  pub page-words : length p ≡ total (c .sizes)
+  pub room : hasRoom c (2 * wordsOf updateKind (widthIn (c .sizes) page)) (diskOf c number) ≡ true
 
 module _ (c : Core) (w : World) (number page slot : ℕ) (value : List ℕ) where
   -- the rows after the first three, by their tests
@@ -140,8 +150,14 @@ module _ (c : Core) (number : ℕ) (ok : servingSound c ≡ true) (opened : isOp
   unfolding grown updated homeOf endOf
   grown-updated words e q = rw (q, e) refl
 
+-- The same as the task of an update: its actions have run, and where the log of the disk then ends gives its state.
+record Changed (budget rest : ℕ) (c : Core) (number page slot : ℕ) (value : List ℕ) (before after : World) (r : Logged) : Type 0 where
+  pub ran : Ran budget rest (updateTask c before number page slot value .actions) before after (r .finished)
+  pub state : r .finished ≡ true → updateTask c before number page slot value .core
+      ≡ withLog c (withDisk (c .logs) (diskOf c number) (r .tail) (r .fill)) (updated c number (3 + length value))
+
 -- The record logged, the slot set and its owner are the task of an update.
-pub change-task : (c : Core) (w v : World) (number page slot : ℕ) (value : List ℕ) {h : Home} {head : Head} {at budget rest : ℕ} {r : Logged}
+change-task : (c : Core) (w v : World) (number page slot : ℕ) (value : List ℕ) {h : Home} {head : Head} {at budget rest : ℕ} {r : Logged}
     → length value ≡ widthIn (c .sizes) page → slotBase (c .sizes) page slot + length value ≤ length (w .pages)
     → h ≡ homeOf c (diskOf c number)
     → head ≡ record { kind = updateKind; page = page; slot = slot; number = number; epoch = epochOf (c .sizes) (w .work) page }
@@ -157,11 +173,14 @@ change-task c w v number page slot value {r} wide fits home head at did =
           (ap (λ (n : ℕ). withLog c (append (c .sizes) (c .logs) (w .work) (diskOf c number) (encode (updateRecord c w number page slot value)) .logs) (updated c number n)) (rw wide at words));
     }
 
--- The reply of an update whose task has run.
-pub update-concluded : (c : Core) (w v : World) (number page slot : ℕ) (value : List ℕ) {budget rest : ℕ} {r : Logged} {reply : Reply}
-    → Changed budget rest c number page slot value w v r
+-- The reply of an update whose record is logged and whose slot is set, or that is cut before.
+pub update-concluded : (c : Core) (w v : World) (number page slot : ℕ) (value : List ℕ) {h : Home} {head : Head} {at budget rest : ℕ} {r : Logged} {reply : Reply}
+    → Changes c number page slot value (w .pages) (w .logs) (w .work) → h ≡ homeOf c (diskOf c number)
+    → head ≡ record { kind = updateKind; page = page; slot = slot; number = number; epoch = epochOf (c .sizes) (w .work) page }
+    → at ≡ slotBase (c .sizes) page slot → Replaced budget rest (c .sizes) (c .logs) (h .disk) head at value w v r
     → reply ≡ settled (r .finished) budget rest 0 (withLog c (withDisk (c .logs) (diskOf c number) (r .tail) (r .fill)) (updated c number (3 + length value)))
     → Concludes budget rest (updateTask c w number page slot value) w v reply
 unfolding updateTask
-update-concluded c w v number page slot value did reply =
+update-concluded c w v number page slot value ok home head at replaced reply =
+    let did = change-task c w v number page slot value (ok .width) (changes-pages ok) home head at replaced in
     task-settled (updateTask c w number page slot value) (did .ran) reply (λ finished. sym (did .state finished))

@@ -2,7 +2,6 @@
 use frame::home::Home;
 use frame::home::with_disk;
 use layout::memory::page_epoch;
-use layout::places::slot_base;
 use log::write::Head;
 use log::write::Logged;
 use log::write::append_change;
@@ -29,7 +28,7 @@ ghost use Rattle.model.specs.Transaction.{diskOf, updated};
 ghost use Rattle.device.specs.Ran.{withSlices};
 ghost use Rattle.log.specs.Write.{Within, Encodable, changeOf, Lent, Appends, Ends};
 ghost use Rattle.frame.specs.Home.{homeOf, withDisk};
-ghost use Rattle.access.specs.Tasks.{withMemory, grown, Changes, Replaced, Changed};
+ghost use Rattle.access.specs.Tasks.{withMemory, grown, Replaced};
 
 // Appends a change whose difference is that of the slot at `at` in the page memory to its new value.
 fn log_change(
@@ -77,7 +76,7 @@ fn set_slot(pages: &mut [u64], work: &mut [u64], at: usize, value: &[u64], numbe
 }
 
 // Both, the second only if the first is not cut.
-fn log_and_set(
+pub fn log_and_set(
     home: Home,
     head: Head,
     at: usize,
@@ -118,7 +117,7 @@ fn updated_table(table: Table, number: u64, home: Home, words: u64) -> Table
 }
 
 // What a record of the transaction says beside its difference.
-fn head_of(core: Core, number: u64, page: u64, slot: u64, work: &[u64]) -> Head
+pub fn head_of(core: Core, number: u64, page: u64, slot: u64, work: &[u64]) -> Head
     requires { ⌜ (page < 64) × (length (now work) ≡ workWords (core .sizes)) ⌝ }
     ensures { λ r. ⌜ r ≡ record { kind = 0; page = page; slot = slot; number = number; epoch = epochOf (core .sizes) (now (work .entry)) page } ⌝ }
 {
@@ -129,29 +128,6 @@ fn head_of(core: Core, number: u64, page: u64, slot: u64, work: &[u64]) -> Head
         number,
         epoch: page_epoch(core.sizes, work, page),
     }
-}
-
-// The record logged, the slot set and its owner; and where the log of the disk ends then.
-pub fn change_slot(
-    core: Core,
-    home: Home,
-    number: u64,
-    page: u64,
-    slot: u64,
-    value: &[u64],
-    pages: &mut [u64],
-    logs: &mut [u64],
-    work: &mut [u64],
-    budget: &mut u64,
-) -> Logged
-    requires { ⌜ Changes core number page slot (now value) (now pages) (now logs) (now work) × (home ≡ homeOf core (diskOf core number)) ⌝ }
-    ensures { λ r. ⌜ ((w : World) → w .pages ≡ now (pages .entry) → w .logs ≡ now (logs .entry) → w .work ≡ now (work .entry)
-        → Changed (now (budget .entry)) (now (budget .exit)) core number page slot (now (value .entry)) w
-        (withMemory w (now (pages .exit)) (now (logs .exit)) (now (work .exit))) r) ⌝ }
-{
-    let head = head_of(core, number, page, slot, work);
-    let at = slot_base(core.sizes, page, slot) as usize;
-    log_and_set(home, head, at, value, pages, logs, work, budget)
 }
 
 // The state after an update of so many words, whose disk was `home` and whose log now ends as `added` says.

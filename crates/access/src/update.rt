@@ -1,6 +1,7 @@
 // Update: its checks, then the change.
-use crate::change::change_slot;
 use crate::change::changed_core;
+use crate::change::head_of;
+use crate::change::log_and_set;
 use crate::slots::is_locked;
 use crate::slots::slot_missing;
 use crate::slots::slot_width;
@@ -9,6 +10,7 @@ use frame::home::home_of_transaction;
 use frame::settle::refuse;
 use frame::settle::settle;
 use frame::stages::is_serving;
+use layout::places::slot_base;
 use model::Core;
 use model::Reply;
 use table::place::is_open;
@@ -25,11 +27,9 @@ ghost use Rattle.model.specs.Memory.{workWords};
 ghost use Rattle.model.specs.State.{isOpen, servingSound};
 ghost use Rattle.model.specs.Room.{hasRoom};
 ghost use Rattle.model.specs.Refusal.{verdict};
-ghost use Rattle.model.specs.Transaction.{diskOf, slotRows, updateTask};
+ghost use Rattle.model.specs.Transaction.{diskOf, slotRows};
 ghost use Rattle.model.specs.Call.{update, Gives};
 ghost use Rattle.frame.specs.Checks.{verdictOf};
-ghost use Rattle.frame.specs.Settle.{Concludes};
-ghost use Rattle.access.specs.Tasks.{withMemory, Changes};
 
 // The disk of an open transaction has log room for an update and for its compensation.
 fn has_update_room(core: Core, number: u64, page: u64) -> bool
@@ -66,44 +66,6 @@ fn slot_refusal(core: Core, number: u64, page: u64, slot: u64, value: &[u64], wo
     0
 }
 
-// The work of an update that its checks have passed.
-fn apply(
-    core: Core,
-    number: u64,
-    page: u64,
-    slot: u64,
-    value: &[u64],
-    pages: &mut [u64],
-    logs: &mut [u64],
-    work: &mut [u64],
-    budget: &mut u64,
-) -> Reply
-    requires { ⌜ Changes core number page slot (now value) (now pages) (now logs) (now work) ⌝ }
-    ensures { λ r. ⌜ ((w : World) → w .pages ≡ now (pages .entry) → w .logs ≡ now (logs .entry) → w .work ≡ now (work .entry)
-        → Concludes (now (budget .entry)) (now (budget .exit)) (updateTask core w number page slot (now (value .entry))) w
-        (withMemory w (now (pages .exit)) (now (logs .exit)) (now (work .exit))) r) ⌝ }
-{
-    let before = *budget;
-    let home = home_of_transaction(core, work.len(), number);
-    let added = change_slot(
-        core,
-        home,
-        number,
-        page,
-        slot,
-        value,
-        pages,
-        logs,
-        work,
-        budget,
-    );
-    if !added.finished {
-        return settle(false, before, *budget, 0, core);
-    }
-    let next = changed_core(core, number, home, added, value.len());
-    settle(true, before, *budget, 0, next)
-}
-
 pub fn update(
     core: Core,
     number: u64,
@@ -129,5 +91,14 @@ pub fn update(
     if refused != 0 {
         return refuse(core, refused);
     }
-    apply(core, number, page, slot, value, pages, logs, work, budget)
+    let before = *budget;
+    let home = home_of_transaction(core, work.len(), number);
+    let head = head_of(core, number, page, slot, work);
+    let at = slot_base(core.sizes, page, slot) as usize;
+    let added = log_and_set(home, head, at, value, pages, logs, work, budget);
+    if !added.finished {
+        return settle(false, before, *budget, 0, core);
+    }
+    let next = changed_core(core, number, home, added, value.len());
+    settle(true, before, *budget, 0, next)
 }

@@ -1,4 +1,5 @@
 // A checkpoint, all three calls.
+use store::Called;
 use store::State;
 use store::checkpoints::checkpoint_begin;
 use store::checkpoints::checkpoint_end;
@@ -25,6 +26,7 @@ fn copied(
     s
 }
 
+// What its end hands back.
 pub fn checkpointed(
     state: State,
     count: u64,
@@ -34,7 +36,7 @@ pub fn checkpointed(
     logs: &mut [u64],
     work: &mut [u64],
     budget: &mut u64,
-) -> State {
+) -> Called {
     let begun = checkpoint_begin(state, anchor, pages, backups, logs, work);
     let s = copied(
         begun.state,
@@ -46,6 +48,5 @@ pub fn checkpointed(
         work,
         budget,
     );
-    let done = checkpoint_end(s, anchor, pages, backups, logs, work, budget);
-    done.state
+    checkpoint_end(s, anchor, pages, backups, logs, work, budget)
 }

@@ -3,13 +3,11 @@ use crate::answers::is_refused;
 use crate::answers::value_of;
 use crate::copying::checkpointed;
 use crate::input::Plan;
-use crate::stream::SEED;
 use crate::stream::Turn;
 use crate::stream::no_turn;
 use crate::stream::product;
-use crate::stream::seed_after;
 use crate::stream::spread;
-use crate::stream::turn_of;
+use crate::stream::turn_after;
 use model::Answer;
 use std::num::wrapping_add_u64;
 use std::num::wrapping_sub_u64;
@@ -20,7 +18,7 @@ use store::transactions::begin;
 use store::transactions::commit;
 use store::transactions::update;
 
-// One call of the stream.
+// One call of a transaction.
 fn call(
     turn: Turn,
     number: u64,
@@ -57,28 +55,10 @@ fn call(
     commit(state, number, anchor, pages, backups, logs, work, budget)
 }
 
-// After a checkpoint, where the last call was refused.
-fn with_room(
-    again: bool,
-    state: State,
-    count: u64,
-    anchor: &mut [u64],
-    pages: &[u64],
-    backups: &mut [u64],
-    logs: &mut [u64],
-    work: &mut [u64],
-    budget: &mut u64,
-) -> State {
-    if again {
-        return checkpointed(state, count, anchor, pages, backups, logs, work, budget);
-    }
-    state
-}
-
 // What is kept from call to call: the number of the open transaction, whether the last call was refused, and counts.
 pub struct Tally {
     pub number: u64,
-    pub again: bool,
+    pub refused: bool,
     pub taken: u64,
     pub aborts: u64,
     pub checkpoints: u64,
@@ -103,26 +83,31 @@ fn is_abort(turn: Turn) -> bool {
 }
 
 fn counted(tally: Tally, turn: Turn, answer: Answer) -> Tally {
+    if turn.full {
+        return Tally {
+            refused: false,
+            checkpoints: wrapping_add_u64(tally.checkpoints, 1),
+            ..tally
+        };
+    }
     if is_refused(answer) {
         return Tally {
-            again: true,
+            refused: true,
             ..tally
         };
     }
     Tally {
         number: number_after(turn, tally.number, answer),
-        again: false,
         taken: wrapping_add_u64(tally.taken, 1),
         aborts: wrapping_add_u64(tally.aborts, one_if(is_abort(turn))),
-        checkpoints: wrapping_add_u64(tally.checkpoints, one_if(turn.again)),
-        stores: 0,
+        ..tally
     }
 }
 
 fn no_tally() -> Tally {
     Tally {
         number: 0,
-        again: false,
+        refused: false,
         taken: 0,
         aborts: 0,
         checkpoints: 0,
@@ -130,7 +115,47 @@ fn no_tally() -> Tally {
     }
 }
 
-// All calls of the stream, five for each transaction. A call is refused once at most: so twice as many are enough.
+// The stores are what is gone of the largest budget.
+fn with_stores(tally: Tally, budget: u64) -> Tally {
+    Tally {
+        stores: wrapping_sub_u64(18446744073709551615, budget),
+        ..tally
+    }
+}
+
+// One turn: a checkpoint, or a call.
+fn made(
+    turn: Turn,
+    tally: Tally,
+    state: State,
+    count: u64,
+    value: &mut [u64],
+    anchor: &mut [u64],
+    pages: &mut [u64],
+    backups: &mut [u64],
+    logs: &mut [u64],
+    work: &mut [u64],
+    budget: &mut u64,
+) -> Called {
+    if turn.full {
+        return checkpointed(state, count, anchor, pages, backups, logs, work, budget);
+    }
+    spread(value, turn.seed);
+    call(
+        turn,
+        tally.number,
+        state,
+        value,
+        anchor,
+        pages,
+        backups,
+        logs,
+        work,
+        budget,
+    )
+}
+
+// All calls of the stream, five for each transaction. A call is refused once at most: so three turns for each are enough.
 pub fn served(
     plan: Plan,
     begun: State,
@@ -142,33 +167,20 @@ pub fn served(
     work: &mut [u64],
 ) -> Tally {
     let calls = product(plan.transactions, 5);
-    let most = product(plan.transactions, 10);
+    let turns = product(plan.transactions, 15);
     let mut budget: u64 = 18446744073709551615;
     let mut state = begun;
-    let mut seed: u64 = SEED;
     let mut turn = no_turn();
     let mut tally = no_tally();
     let mut i: u64 = 0;
-    while i < most && tally.taken < calls {
+    while i < turns && tally.taken < calls {
         i += 1;
-        seed = seed_after(seed, tally.again);
-        turn = turn_of(turn, tally.again, seed, plan.pages, plan.slots);
-        spread(value, seed);
-        let ready = with_room(
-            turn.again,
+        turn = turn_after(turn, tally.refused, plan.pages, plan.slots);
+        let called = made(
+            turn,
+            tally,
             state,
             plan.pages,
-            anchor,
-            pages,
-            backups,
-            logs,
-            work,
-            &mut budget,
-        );
-        let called = call(
-            turn,
-            tally.number,
-            ready,
             value,
             anchor,
             pages,
@@ -181,8 +193,5 @@ pub fn served(
         let answer = called.answer;
         tally = counted(tally, turn, answer);
     }
-    Tally {
-        stores: wrapping_sub_u64(18446744073709551615, budget),
-        ..tally
-    }
+    with_stores(tally, budget)
 }

@@ -28,52 +28,50 @@ pub fn spread(value: &mut [u64], r: u64) {
     }
 }
 
-// Call number `phase` of a transaction: 0 begin, 1 to 3 updates, 4 the close; `again` where it was refused.
+// Call number `phase` of a transaction: 0 begin, 1 to 3 updates, 4 the close; with `full`, a checkpoint, because that call was refused.
 pub struct Turn {
+    pub seed: u64,
     pub phase: u64,
     pub page: u64,
     pub slot: u64,
     pub aborts: bool,
-    pub again: bool,
+    pub full: bool,
 }
 
-// The number of the next call: a call that is made again has its own.
-pub fn seed_after(seed: u64, again: bool) -> u64 {
-    if again { seed } else { next(seed) }
-}
-
-// The next call; one transaction in fifty aborts.
-pub fn turn_of(before: Turn, again: bool, r: u64, pages: u64, slots: u64) -> Turn {
-    if again {
-        return Turn { again, ..before };
-    }
-    let page = pick(r / 4294967296, pages);
-    let slot = pick(r, slots);
-    if before.phase == 4 {
+// The call after one: a refused call is made again after a checkpoint, by the same number. One transaction in fifty aborts.
+pub fn turn_after(before: Turn, refused: bool, pages: u64, slots: u64) -> Turn {
+    if refused {
         return Turn {
-            phase: 0,
-            page,
-            slot,
-            aborts: r % 50 == 0,
-            again,
+            full: true,
+            ..before
         };
     }
+    if before.full {
+        return Turn {
+            full: false,
+            ..before
+        };
+    }
+    let r = next(before.seed);
+    let closed = before.phase == 4;
     Turn {
-        phase: before.phase % 4 + 1,
-        page,
-        slot,
-        aborts: before.aborts,
-        again,
+        seed: r,
+        phase: if closed { 0 } else { before.phase % 4 + 1 },
+        page: pick(r / 4294967296, pages),
+        slot: pick(r, slots),
+        aborts: if closed { r % 50 == 0 } else { before.aborts },
+        full: false,
     }
 }
 
 // Before the first call.
 pub fn no_turn() -> Turn {
     Turn {
+        seed: SEED,
         phase: 4,
         page: 0,
         slot: 0,
         aborts: false,
-        again: false,
+        full: false,
     }
 }

@@ -59,23 +59,45 @@ fn is_sound(core: Core) -> bool
 // 2 for a wrong anchor, 5 for another wrong slice, else 0.
 fn length_refusal(
     sizes: Sizes,
-    anchor: &[u64],
-    pages: &[u64],
-    backups: &[u64],
-    logs: &[u64],
-    work: &[u64],
+    anchor: usize,
+    pages: usize,
+    backups: usize,
+    logs: usize,
+    work: usize,
 ) -> u64
     requires { ⌜ sizesInBounds sizes ≡ true ⌝ }
-    ensures { λ r. ⌜ r ≡ lengthRefusal sizes (length (now (anchor .entry))) (length (now (pages .entry))) (length (now (backups .entry))) (length (now (logs .entry))) (length (now (work .entry))) ⌝ }
+    ensures { λ r. ⌜ r ≡ lengthRefusal sizes anchor pages backups logs work ⌝ }
 {
-    if anchor.len() != 148 {
+    if anchor != 148 {
         return 2;
     }
-    if lengths_right(sizes, pages.len(), backups.len(), logs.len(), work.len()) {
+    if lengths_right(sizes, pages, backups, logs, work) {
         0
     } else {
         5
     }
+}
+
+// By the lengths alone, which are handed over as numbers.
+fn refusal_of_lengths(
+    allowed: bool,
+    core: Core,
+    anchor: usize,
+    pages: usize,
+    backups: usize,
+    logs: usize,
+    work: usize,
+) -> u64
+    requires { ⌜ (allowed ≡ true → whenShut (core .stage) ≡ false) ⌝ }
+    ensures { λ r. ⌜ r ≡ firstRefusal allowed core anchor pages backups logs work ⌝ }
+{
+    if !allowed {
+        return 1;
+    }
+    if !is_sound(core) {
+        return 1;
+    }
+    length_refusal(core.sizes, anchor, pages, backups, logs, work)
 }
 
 // The number of the first of rows 1, 2 and 5 that applies, 0 where none does. A shut state is for no call that asks here.
@@ -91,11 +113,13 @@ pub fn first_refusal(
     requires { ⌜ (allowed ≡ true → whenShut (core .stage) ≡ false) ⌝ }
     ensures { λ r. ⌜ r ≡ firstRefusal allowed core (length (now (anchor .entry))) (length (now (pages .entry))) (length (now (backups .entry))) (length (now (logs .entry))) (length (now (work .entry))) ⌝ }
 {
-    if !allowed {
-        return 1;
-    }
-    if !is_sound(core) {
-        return 1;
-    }
-    length_refusal(core.sizes, anchor, pages, backups, logs, work)
+    refusal_of_lengths(
+        allowed,
+        core,
+        anchor.len(),
+        pages.len(),
+        backups.len(),
+        logs.len(),
+        work.len(),
+    )
 }

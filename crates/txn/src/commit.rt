@@ -39,15 +39,12 @@ fn store_close(
         → home .disk < length (l .tails) → home .disk < length (l .fills)
         → Ran (now (budget .entry)) (now (budget .exit)) (closing s l w (home .disk) number) w (withSlices w (now (logs .exit)) (now (work .exit))) r) ⌝ }
 {
-    let disk = home.disk;
-    let ring = home.ring;
-    let buffer = home.buffer;
     let added = append_close(
         logs,
         work,
-        disk,
-        ring,
-        buffer,
+        home.disk,
+        home.ring,
+        home.buffer,
         home.tail,
         home.fill,
         2,
@@ -60,9 +57,9 @@ fn store_close(
     flush_disk(
         logs,
         work,
-        disk,
-        ring,
-        buffer,
+        home.disk,
+        home.ring,
+        home.buffer,
         added.tail,
         added.fill,
         budget,

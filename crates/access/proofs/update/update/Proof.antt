@@ -1,16 +1,19 @@
 -- `access::update::update` meets its contract: a refusal is the first row that applies, and else the task. Assumes nothing.
-use mathlib.Core.Path.{refl, sym, _∙_}
+use mathlib.Core.Path.{_≡_, refl, sym, _∙_}
+use mathlib.Core.Bool.{true, false}
 use native.Mathlib.Omega.{arith}
+use borrow.Author.Tests.{not-true, not-false}
 use Rattle.model.specs.World.{worldOf}
 use Rattle.model.specs.Refusal.{verdict}
 use Rattle.model.specs.Causes.{whenServing}
-use Rattle.model.specs.Transaction.{updateRows}
+use Rattle.model.specs.Transaction.{diskOf, updateRows}
 use Rattle.model.specs.Call.{update}
 use Rattle.frame.proofs.Passing.{serving-not-shut}
 use Rattle.frame.proofs.Verdicts.{first-passed, refusal-given, task-given}
-use Rattle.frame.proofs.Homes.{serves-passed}
+use Rattle.model.proofs.Store.Accepted.{open-below}
+use Rattle.frame.proofs.Homes.{serves-passed, lent-there, within-there}
 use Rattle.access.proofs.Reading.{refused-number}
-use Rattle.access.proofs.Updating.{update-refused, update-passed, update-accepted, update-taken}
+use Rattle.access.proofs.Updating.{update-refused, update-passed, update-accepted, update-taken, update-concluded, changes-slot, changes-encodable, changes-pages, changes-owner}
 use borrow.Author.Needs.{needs}
 use Rattle.access.proofs.update.update.Statement.{statement}
 use Rattle.access.proofs.update.update.Tie as tie
@@ -50,19 +53,75 @@ returns-2 c =
     (refusal-given (update (x .number) (x .page) (x .slot) (x .value .now) (x .budget .now)) (x .core) w (c .before .before .slot-refusal .result) 0 0
     (refused-number (update-passed (x .core) w (x .number) (x .page) (x .slot) (x .value .now) (c .before .before .before .before .before .before .before .before .before .is-serving .ensures) (c .before .before .before .before .before .first-refusal .ensures) (omega (arith, c .before .before .before .before .if1 .left)) ∙ c .before .before .slot-refusal .ensures w refl) (c .before .if2 .taken)))
 
-apply-requires : tie.Need-apply-requires
-apply-requires c κs =
+home-of-transaction-requires : tie.Need-home-of-transaction-requires
+home-of-transaction-requires c κs =
+    let x = c .before .before .before .before .before .before .before .before .before .before .before .before .before .before .before .before .args in
+    let w = worldOf (x .anchor .now) (x .pages .now) (x .backups .now) (x .logs .now) (x .work .now) in
+    let ok = update-taken (x .core) w (x .number) (x .page) (x .slot) (x .value .now) (update-accepted (x .core) w (x .number) (x .page) (x .slot) (x .value .now) (c .before .before .before .before .before .before .before .before .before .is-serving .ensures) (c .before .before .before .before .before .first-refusal .ensures) (omega (arith, c .before .before .before .before .if1 .left)) (c .before .before .slot-refusal .ensures w refl) (c .before .if2 .left)) in
+    (ok .serves .state, ok .opened, ok .serves .work-words)
+
+head-of-requires : tie.Need-head-of-requires
+head-of-requires c κs =
+    let x = c .before .before .before .before .before .before .before .before .before .before .before .before .before .before .before .before .before .before .args in
+    let w = worldOf (x .anchor .now) (x .pages .now) (x .backups .now) (x .logs .now) (x .work .now) in
+    let ok = update-taken (x .core) w (x .number) (x .page) (x .slot) (x .value .now) (update-accepted (x .core) w (x .number) (x .page) (x .slot) (x .value .now) (c .before .before .before .before .before .before .before .before .before .before .before .is-serving .ensures) (c .before .before .before .before .before .before .before .first-refusal .ensures) (omega (arith, c .before .before .before .before .before .before .if1 .left)) (c .before .before .before .before .slot-refusal .ensures w refl) (c .before .before .before .if2 .left)) in
+    (changes-slot ok .page-small, ok .serves .work-words)
+
+slot-base-requires : tie.Need-slot-base-requires
+slot-base-requires c κs =
     let x = c .before .before .before .before .before .before .before .before .before .before .before .before .before .before .before .before .before .before .before .args in
     let w = worldOf (x .anchor .now) (x .pages .now) (x .backups .now) (x .logs .now) (x .work .now) in
-    update-taken (x .core) w (x .number) (x .page) (x .slot) (x .value .now) (update-accepted (x .core) w (x .number) (x .page) (x .slot) (x .value .now) (c .before .before .before .before .before .before .before .before .before .before .before .before .is-serving .ensures) (c .before .before .before .before .before .before .before .before .first-refusal .ensures) (omega (arith, c .before .before .before .before .before .before .before .if1 .left)) (c .before .before .before .before .before .slot-refusal .ensures w refl) (c .before .before .before .before .if2 .left))
+    let ok = update-taken (x .core) w (x .number) (x .page) (x .slot) (x .value .now) (update-accepted (x .core) w (x .number) (x .page) (x .slot) (x .value .now) (c .before .before .before .before .before .before .before .before .before .before .before .before .is-serving .ensures) (c .before .before .before .before .before .before .before .before .first-refusal .ensures) (omega (arith, c .before .before .before .before .before .before .before .if1 .left)) (c .before .before .before .before .before .slot-refusal .ensures w refl) (c .before .before .before .before .if2 .left)) in
+    (changes-slot ok .page-small, omega (arith, changes-slot ok .slot-small))
+
+log-and-set-requires : tie.Need-log-and-set-requires
+log-and-set-requires c κs =
+    let x = c .before .before .before .before .before .before .before .before .before .before .before .before .before .before .before .before .before .before .before .before .before .before .before .before .args in
+    let w = worldOf (x .anchor .now) (x .pages .now) (x .backups .now) (x .logs .now) (x .work .now) in
+    let ok = update-taken (x .core) w (x .number) (x .page) (x .slot) (x .value .now) (update-accepted (x .core) w (x .number) (x .page) (x .slot) (x .value .now) (c .before .before .before .before .before .before .before .before .before .before .before .before .before .before .before .before .before .is-serving .ensures) (c .before .before .before .before .before .before .before .before .before .before .before .before .before .first-refusal .ensures) (omega (arith, c .before .before .before .before .before .before .before .before .before .before .before .before .if1 .left)) (c .before .before .before .before .before .before .before .before .before .before .slot-refusal .ensures w refl) (c .before .before .before .before .before .before .before .before .before .if2 .left)) in
+    let at = c .before .before .before .before .slot-base .ensures .0 in (
+      within-there (x .core) (diskOf (x .core) (x .number)) (c .before .before .before .before .before .before .before .home-of-transaction .ensures .0) _ _ (ok .serves) (open-below (x .core) (x .number) (ok .serves .state) (ok .opened)),
+      rw (c .before .before .before .before .before .head-of .ensures) (changes-encodable ok),
+      rw at (changes-pages ok),
+      rw at (changes-owner ok),
+    )
+
+settle-requires : tie.Need-settle-requires
+settle-requires c κs = search needs
 
 returns-3 : tie.Need-returns-3
 returns-3 c =
-    let x = c .before .before .before .before .before .before .before .before .before .before .before .before .before .before .before .before .before .before .before .before .before .before .before .before .before .before .args in
+    let x = c .before .before .before .before .before .before .before .before .before .before .before .before .before .before .before .before .before .before .before .before .before .before .before .before .before .before .before .before .before .before .before .before .before .before .args in
     let w = worldOf (x .anchor .now) (x .pages .now) (x .backups .now) (x .logs .now) (x .work .now) in
-    task-given (update (x .number) (x .page) (x .slot) (x .value .now) (x .budget .now)) (x .core) w _ _ _
-    (update-accepted (x .core) w (x .number) (x .page) (x .slot) (x .value .now) (c .before .before .before .before .before .before .before .before .before .before .before .before .before .before .before .before .before .before .before .is-serving .ensures) (c .before .before .before .before .before .before .before .before .before .before .before .before .before .before .before .first-refusal .ensures) (omega (arith, c .before .before .before .before .before .before .before .before .before .before .before .before .before .before .if1 .left)) (c .before .before .before .before .before .before .before .before .before .before .before .before .slot-refusal .ensures w refl) (c .before .before .before .before .before .before .before .before .before .before .before .if2 .left))
-    (c .before .before .before .before .before .before .apply .ensures w refl refl refl)
+    let accepted = update-accepted (x .core) w (x .number) (x .page) (x .slot) (x .value .now) (c .before .before .before .before .before .before .before .before .before .before .before .before .before .before .before .before .before .before .before .before .before .before .before .before .before .before .before .is-serving .ensures) (c .before .before .before .before .before .before .before .before .before .before .before .before .before .before .before .before .before .before .before .before .before .before .before .first-refusal .ensures) (omega (arith, c .before .before .before .before .before .before .before .before .before .before .before .before .before .before .before .before .before .before .before .before .before .before .if1 .left)) (c .before .before .before .before .before .before .before .before .before .before .before .before .before .before .before .before .before .before .before .before .slot-refusal .ensures w refl) (c .before .before .before .before .before .before .before .before .before .before .before .before .before .before .before .before .before .before .before .if2 .left) in
+    let cut : c .before .before .before .before .before .before .before .before .before .log-and-set .result .finished ≡ false = not-true _ (c .before .if3 .taken) in
+    let home = c .before .before .before .before .before .before .before .before .before .before .before .before .before .before .before .before .before .home-of-transaction .ensures .0 in
+    task-given (update (x .number) (x .page) (x .slot) (x .value .now) (x .budget .now)) (x .core) w _ _ _ accepted
+    (update-concluded (x .core) w _ (x .number) (x .page) (x .slot) (x .value .now) (update-taken (x .core) w (x .number) (x .page) (x .slot) (x .value .now) accepted) home (c .before .before .before .before .before .before .before .before .before .before .before .before .before .before .before .head-of .ensures) (c .before .before .before .before .before .before .before .before .before .before .before .before .before .before .slot-base .ensures .0)
+    (c .before .before .before .before .before .before .before .before .before .log-and-set .ensures (x .core .sizes) (x .core .logs) w (lent-there (x .core) (diskOf (x .core) (x .number)) home w refl refl) refl)
+    (rw cut (c .settle .ensures)))
+
+changed-core-requires : tie.Need-changed-core-requires
+changed-core-requires c κs =
+    let x = c .before .before .before .before .before .before .before .before .before .before .before .before .before .before .before .before .before .before .before .before .before .before .before .before .before .before .before .before .before .before .before .before .before .args in
+    let w = worldOf (x .anchor .now) (x .pages .now) (x .backups .now) (x .logs .now) (x .work .now) in
+    let ok = update-taken (x .core) w (x .number) (x .page) (x .slot) (x .value .now) (update-accepted (x .core) w (x .number) (x .page) (x .slot) (x .value .now) (c .before .before .before .before .before .before .before .before .before .before .before .before .before .before .before .before .before .before .before .before .before .before .before .before .before .before .is-serving .ensures) (c .before .before .before .before .before .before .before .before .before .before .before .before .before .before .before .before .before .before .before .before .before .before .first-refusal .ensures) (omega (arith, c .before .before .before .before .before .before .before .before .before .before .before .before .before .before .before .before .before .before .before .before .before .if1 .left)) (c .before .before .before .before .before .before .before .before .before .before .before .before .before .before .before .before .before .before .before .slot-refusal .ensures w refl) (c .before .before .before .before .before .before .before .before .before .before .before .before .before .before .before .before .before .before .if2 .left)) in
+    (ok .serves .state, ok .opened, c .before .before .before .before .before .before .before .before .before .before .before .before .before .before .before .before .home-of-transaction .ensures .0, omega (arith, changes-slot ok .width-max, ok .width))
+
+settle-requires-2 : tie.Need-settle-requires-2
+settle-requires-2 c κs = search needs
+
+returns-4 : tie.Need-returns-4
+returns-4 c =
+    let x = c .before .before .before .before .before .before .before .before .before .before .before .before .before .before .before .before .before .before .before .before .before .before .before .before .before .before .before .before .before .before .before .before .before .before .before .args in
+    let w = worldOf (x .anchor .now) (x .pages .now) (x .backups .now) (x .logs .now) (x .work .now) in
+    let accepted = update-accepted (x .core) w (x .number) (x .page) (x .slot) (x .value .now) (c .before .before .before .before .before .before .before .before .before .before .before .before .before .before .before .before .before .before .before .before .before .before .before .before .before .before .before .before .is-serving .ensures) (c .before .before .before .before .before .before .before .before .before .before .before .before .before .before .before .before .before .before .before .before .before .before .before .before .first-refusal .ensures) (omega (arith, c .before .before .before .before .before .before .before .before .before .before .before .before .before .before .before .before .before .before .before .before .before .before .before .if1 .left)) (c .before .before .before .before .before .before .before .before .before .before .before .before .before .before .before .before .before .before .before .before .before .slot-refusal .ensures w refl) (c .before .before .before .before .before .before .before .before .before .before .before .before .before .before .before .before .before .before .before .before .if2 .left) in
+    let whole : c .before .before .before .before .before .before .before .before .before .before .log-and-set .result .finished ≡ true = not-false _ (c .before .before .if3 .left) in
+    let home = c .before .before .before .before .before .before .before .before .before .before .before .before .before .before .before .before .before .before .home-of-transaction .ensures .0 in
+    task-given (update (x .number) (x .page) (x .slot) (x .value .now) (x .budget .now)) (x .core) w _ _ _ accepted
+    (update-concluded (x .core) w _ (x .number) (x .page) (x .slot) (x .value .now) (update-taken (x .core) w (x .number) (x .page) (x .slot) (x .value .now) accepted) home (c .before .before .before .before .before .before .before .before .before .before .before .before .before .before .before .before .head-of .ensures) (c .before .before .before .before .before .before .before .before .before .before .before .before .before .before .before .slot-base .ensures .0)
+    (c .before .before .before .before .before .before .before .before .before .before .log-and-set .ensures (x .core .sizes) (x .core .logs) w (lent-there (x .core) (diskOf (x .core) (x .number)) home w refl refl) refl)
+    (rw (whole, ← c .before .changed-core .ensures) (c .settle2 .ensures)))
 
 same-length : tie.Need-same-length
 same-length c = search needs
@@ -91,6 +150,15 @@ same-length-8 c = search needs
 same-length-9 : tie.Need-same-length-9
 same-length-9 c = search needs
 
+same-length-10 : tie.Need-same-length-10
+same-length-10 c = search needs
+
+same-length-11 : tie.Need-same-length-11
+same-length-11 c = search needs
+
+same-length-12 : tie.Need-same-length-12
+same-length-12 c = search needs
+
 pub update-spec : {M : Type 1} → statement M
 update-spec =
     tie.close
@@ -108,8 +176,18 @@ update-spec =
     same-length-5
     same-length-6
     returns-2
-    apply-requires
+    home-of-transaction-requires
+    head-of-requires
+    slot-base-requires
+    log-and-set-requires
+    settle-requires
     same-length-7
     same-length-8
     same-length-9
-    returns-3)
+    returns-3
+    changed-core-requires
+    settle-requires-2
+    same-length-10
+    same-length-11
+    same-length-12
+    returns-4)
