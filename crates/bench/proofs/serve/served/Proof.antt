@@ -8,10 +8,10 @@ use Rattle.bench.proofs.serve.served.Statement.{statement}
 use Rattle.bench.proofs.serve.served.Tie as tie
 
 abbrev Inv-loop : tie.InvT-loop
-Inv-loop plan value₀ anchor₀ pages₀ backups₀ logs₀ work₀ calls most budget₀ state₀ seed₀ turn₀ tally₀ i₀ value anchor pages backups logs work budget state seed turn tally i = (i ≤ most) × (length value ≡ length value₀) × (length anchor ≡ length anchor₀) × (length pages ≡ length pages₀) × (length backups ≡ length backups₀) × (length logs ≡ length logs₀) × (length work ≡ length work₀)
+Inv-loop plan value₀ anchor₀ pages₀ backups₀ logs₀ work₀ calls turns budget₀ state₀ turn₀ tally₀ i₀ value anchor pages backups logs work budget state turn tally i = (i ≤ turns) × (length value ≡ length value₀) × (length anchor ≡ length anchor₀) × (length pages ≡ length pages₀) × (length backups ≡ length backups₀) × (length logs ≡ length logs₀) × (length work ≡ length work₀)
 
 abbrev μ-loop : tie.MeasureT-loop
-μ-loop plan value₀ anchor₀ pages₀ backups₀ logs₀ work₀ calls most budget₀ state₀ seed₀ turn₀ tally₀ i₀ value anchor pages backups logs work budget state seed turn tally i = most - i
+μ-loop plan value₀ anchor₀ pages₀ backups₀ logs₀ work₀ calls turns budget₀ state₀ turn₀ tally₀ i₀ value anchor pages backups logs work budget state turn tally i = turns - i
 
 product-requires : tie.Need-product-requires Inv-loop μ-loop
 product-requires c κs = search needs
@@ -31,42 +31,33 @@ loop-holds c = search needs
 add-i : tie.Need-add-i Inv-loop μ-loop
 add-i c = search needs
 
-seed-after-requires : tie.Need-seed-after-requires Inv-loop μ-loop
-seed-after-requires c κs = search needs
+turn-after-requires : tie.Need-turn-after-requires Inv-loop μ-loop
+turn-after-requires c κs = search needs
 
-turn-of-requires : tie.Need-turn-of-requires Inv-loop μ-loop
-turn-of-requires c κs = search needs
-
-spread-requires : tie.Need-spread-requires Inv-loop μ-loop
-spread-requires c κs = search needs
-
-with-room-requires : tie.Need-with-room-requires Inv-loop μ-loop
-with-room-requires c κs = search needs
-
-call-requires : tie.Need-call-requires Inv-loop μ-loop
-call-requires c κs = search needs
+made-requires : tie.Need-made-requires Inv-loop μ-loop
+made-requires c κs = search needs
 
 counted-requires : tie.Need-counted-requires Inv-loop μ-loop
 counted-requires c κs = search needs
 
 loop-less : tie.Need-loop-less Inv-loop μ-loop
-loop-less c = omega (arith, c .before .before .before .before .before .before .before .before .before .before .before .before .before .before .before .before .before .before .before .before .before .before .before .before .before .before .before .before .before .before .before .before .before .before .before .before .before .before .before .loop-test .taken)
+loop-less c = omega (arith, c .before .before .before .before .before .before .before .before .before .before .before .before .before .before .before .before .before .before .before .before .before .before .before .before .before .loop-test .taken)
 
 loop-again : tie.Need-loop-again Inv-loop μ-loop
 loop-again c =
-    let test = c .before .before .before .before .before .before .before .before .before .before .before .before .before .before .before .before .before .before .before .before .before .before .before .before .before .before .before .before .before .before .before .before .before .before .before .before .before .before .before .loop-test in
-    let inv = c .before .before .before .before .before .before .before .before .before .before .before .before .before .before .before .before .before .before .before .before .before .before .before .before .before .before .before .before .before .before .before .before .before .before .before .before .before .before .before .before .loop .inv in (
+    let test = c .before .before .before .before .before .before .before .before .before .before .before .before .before .before .before .before .before .before .before .before .before .before .before .before .before .loop-test in
+    let inv = c .before .before .before .before .before .before .before .before .before .before .before .before .before .before .before .before .before .before .before .before .before .before .before .before .before .before .loop .inv in (
       omega (arith, test .taken),
-      search (needs, inv .1, c .before .before .before .before .before .before .before .before .before .before .before .before .before .before .before .before .before .before .before .before .before .before .before .before .before .before .before .before .before .before .before .before .value),
-      search (needs, inv .2, c .before .before .before .before .before .before .before .before .before .before .before .before .before .before .before .before .before .before .before .before .before .before .before .anchor),
+      search (needs, inv .1, c .before .before .before .before .before .before .before .before .before .before .before .before .before .value),
+      search (needs, inv .2, c .before .before .before .before .before .before .before .before .before .before .before .anchor),
       search (needs, inv .3),
-      search (needs, inv .4, c .before .before .before .before .before .before .before .before .before .before .before .before .before .before .before .before .before .before .before .before .before .backups),
+      search (needs, inv .4, c .before .before .before .before .before .before .before .backups),
       search (needs, inv .5),
       search (needs, inv .6),
     )
 
-wrapping-sub-u64-requires : tie.Need-wrapping-sub-u64-requires Inv-loop μ-loop
-wrapping-sub-u64-requires c κs = search needs
+with-stores-requires : tie.Need-with-stores-requires Inv-loop μ-loop
+with-stores-requires c κs = search needs
 
 same-length : tie.Need-same-length Inv-loop μ-loop
 same-length c = search needs
@@ -101,15 +92,12 @@ served-spec =
     no-tally-requires
     loop-holds
     add-i
-    seed-after-requires
-    turn-of-requires
-    spread-requires
-    with-room-requires
-    call-requires
+    turn-after-requires
+    made-requires
     counted-requires
     loop-less
     loop-again
-    wrapping-sub-u64-requires
+    with-stores-requires
     same-length
     same-length-2
     same-length-3
