@@ -1,5 +1,5 @@
 // The bounds of the sizes, and the lengths that they give the lent slices.
-use crate::places::total;
+use crate::places::total_in_bounds;
 use crate::places::words_of;
 use model::Sizes;
 ghost use mathlib.Core.Path.{_≡_};
@@ -16,7 +16,7 @@ pub fn lengths_right(sizes: Sizes, pages: usize, backups: usize, logs: usize, wo
     requires { ⌜ sizesInBounds sizes ≡ true ⌝ }
     ensures { λ r. ⌜ r ≡ (eqb pages (total sizes) && eqb backups (2 * total sizes) && eqb logs (logWords sizes) && eqb work (workWords sizes)) ⌝ }
 {
-    let words = total(sizes) as usize;
+    let words = total_in_bounds(sizes) as usize;
     let disks = sizes.disks as usize;
     let ring = sizes.ring as usize;
     if pages != words {

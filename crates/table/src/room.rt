@@ -27,7 +27,7 @@ fn capped(a: u64, b: u64) -> u64
 }
 
 // Adds what one place reserves to the sum of its disk.
-fn add_place(sums: &mut [u64], number: u64, disk: u64, words: u64)
+pub fn add_place(sums: &mut [u64], number: u64, disk: u64, words: u64)
     requires { ⌜ (length (now sums) ≡ 8) × ((d : ℕ) → d < 8 → getD (now sums) d 0 ≤ cap) ⌝ }
     ensures { λ _. ⌜ ((d : ℕ) → d < 8 → getD (now (sums .exit)) d 0 ≡ min cap (getD (now (sums .entry)) d 0 + cond (not (eqb number 0) && eqb disk d) words 0)) ⌝ }
 {

@@ -1,16 +1,17 @@
 // The tests that a state made by the calls passes, but for those of its sizes.
 use crate::room::LIMIT;
-use crate::room::reserved_each;
+use crate::room::add_place;
 use crate::room::room_for;
 use model::Core;
 use model::Logs;
 ghost use mathlib.Core.Path.{_≡_};
-ghost use mathlib.Core.Bool.{_&&_};
-ghost use Prim.Native.Nat.{_+_, _≤_};
+ghost use mathlib.Core.Bool.{true, _&&_};
+ghost use Prim.Native.Nat.{ℕ, _+_, _≤_, _<_, min};
 ghost use lib.Dec.{leb, ltb};
+ghost use lib.ListN.{getD, replicate};
 ghost use Rattle.model.specs.Below.{within, allBelow};
-ghost use Rattle.model.specs.State.{limit, places, diskSound, placeSound, checkpointSound};
-ghost use Rattle.table.specs.Parts.{logsOf, coreOf, roomFor, logSound, entrySound, endWithin, positionWithin};
+ghost use Rattle.model.specs.State.{limit, places, reservedOn, diskSound, placeSound, checkpointSound};
+ghost use Rattle.table.specs.Parts.{cap, tableOf, logsOf, coreOf, roomFor, logSound, entrySound, endWithin, positionWithin};
 
 // start ≤ position ≤ tail + fill, without the sum, which may not fit a word.
 fn covers(start: u64, tail: u64, fill: u64, position: u64) -> bool
@@ -90,8 +91,9 @@ fn entry_sound<'a>(
     covers(starts[d], tails[d], fills[d], first)
 }
 
-// The bounds of every entry; `homes` are the disks of the table.
+// The bounds of every entry, `homes` being the disks of the table; and, if all are within them, the words reserved on each disk.
 fn places_sound<'a>(
+    sums: &mut [u64],
     disks: usize,
     starts: &'a [u64; 8],
     tails: &'a [u64; 8],
@@ -101,7 +103,8 @@ fn places_sound<'a>(
     firsts: &'a [u64; 16],
     reserved: &'a [u64; 16],
 ) -> bool
-    requires { ⌜ disks ≤ 8 ⌝ }
+    requires { ⌜ (disks ≤ 8) × (now sums ≡ replicate 8 0) ⌝ }
+    ensures { λ r. ⌜ (r ≡ true → (d : ℕ) → d < 8 → getD (now (sums .exit)) d 0 ≡ min cap (reservedOn (tableOf (now (numbers .entry)) (now (homes .entry)) (now (reserved .entry))) d)) ⌝ }
     ensures { λ r. ⌜ r ≡ allBelow (placeSound (coreOf disks 0 (logsOf (now (starts .entry)) (now (tails .entry)) (now (fills .entry))) (record { numbers = now (numbers .entry); disks = now (homes .entry); firsts = now (firsts .entry); reserved = now (reserved .entry) }))) places ⌝ }
 {
     let mut i: usize = 0;
@@ -118,6 +121,7 @@ fn places_sound<'a>(
         ) {
             return false;
         }
+        add_place(sums, numbers[i], homes[i], reserved[i]);
         i += 1;
     }
     true
@@ -132,11 +136,9 @@ pub fn serving_bounds(core: Core) -> bool
     let ring = core.sizes.ring;
     let logs = core.logs;
     let table = core.table;
-    let sums = reserved_each(&table.numbers, &table.disks, &table.reserved);
-    if !disks_sound(disks, ring, &logs.starts, &logs.tails, &logs.fills, &sums) {
-        return false;
-    }
-    places_sound(
+    let mut sums = [0u64; 8];
+    if !places_sound(
+        &mut sums,
         disks,
         &logs.starts,
         &logs.tails,
@@ -145,7 +147,10 @@ pub fn serving_bounds(core: Core) -> bool
         &table.disks,
         &table.firsts,
         &table.reserved,
-    )
+    ) {
+        return false;
+    }
+    disks_sound(disks, ring, &logs.starts, &logs.tails, &logs.fills, &sums)
 }
 
 // Each remembered end lies in its log.

@@ -9,18 +9,21 @@ use Rattle.layout.proofs.Laws.{product-max}
 use Rattle.layout.proofs.bounds.lengths_right.Statement.{statement}
 use Rattle.layout.proofs.bounds.lengths_right.Tie as tie
 
-total-requires : tie.Need-total-requires
-total-requires c κs = bounded _ (c .pre) .pages-max
+total-in-bounds-requires : tie.Need-total-in-bounds-requires
+total-in-bounds-requires c κs = search needs
+
+cast-words : tie.Need-cast-words
+cast-words c = search needs
 
 returns : tie.Need-returns
-returns c = rw (← c .before .total .ensures .0, ne-eqb _ _ (c .if1 .taken))
+returns c = rw (← c .before .total-in-bounds .ensures, ne-eqb _ _ (c .if1 .taken))
 
 mul-if2 : tie.Need-mul-if2
 mul-if2 c = search needs
 
 returns-2 : tie.Need-returns-2
 returns-2 c =
-    rw (← c .before .before .total .ensures .0, eq-eqb _ _ (c .before .if1 .left), ne-eqb _ _ (c .if2 .taken))
+    rw (← c .before .before .total-in-bounds .ensures, eq-eqb _ _ (c .before .if1 .left), ne-eqb _ _ (c .if2 .taken))
 
 add-if3 : tie.Need-add-if3
 add-if3 c = omega (arith, bounded _ (c .before .before .before .pre) .ring-max)
@@ -35,7 +38,7 @@ returns-3 : tie.Need-returns-3
 unfolding logWords diskAt
 returns-3 c =
     rw (
-      ← c .before .before .before .total .ensures .0,
+      ← c .before .before .before .total-in-bounds .ensures,
       eq-eqb _ _ (c .before .before .if1 .left),
       eq-eqb _ _ (c .before .if2 .left),
       ne-eqb _ _ (c .if3 .taken),
@@ -54,7 +57,7 @@ returns-4 : tie.Need-returns-4
 unfolding logWords diskAt workWords epochAt bufferAt
 returns-4 c =
     rw (
-      ← c .before .before .before .total .ensures .0,
+      ← c .before .before .before .total-in-bounds .ensures,
       eq-eqb _ _ (c .before .before .if1 .left),
       eq-eqb _ _ (c .before .if2 .left),
       eq-eqb _ _ (c .if3 .left),
@@ -64,7 +67,8 @@ pub lengths-right-spec : {M : Type 1} → statement M
 lengths-right-spec =
     tie.close
     (tie.spec
-    total-requires
+    total-in-bounds-requires
+    cast-words
     returns
     mul-if2
     returns-2
