@@ -23,6 +23,7 @@ use Rattle.model.proofs.Updates.{Falls, updates-fall}
 use Rattle.model.proofs.Growth.{SizedLogs, Longer}
 use Rattle.model.proofs.Sound.Abort.{undo-grown}
 use Rattle.device.proofs.Ran.{ran-whole}
+use Rattle.log.specs.declared.newest.Site.{Site}
 use Rattle.log.specs.declared.newest.Newest.the-variants.{At, Absent}
 use Rattle.log.specs.Reading.{newestIn, newestBelow, newestOf}
 use Rattle.log.proofs.NewestBelow.{newest-head, newest-first, newest-after}
@@ -106,7 +107,7 @@ module _ (s : Sizes) (disk number from : ℕ) (l₀ : Logs) (pages₀ logs₀ wo
           ∙ ap (newestBelow bound Absent) (p .parts) ∙ p .newest
 
       -- none is left
-      pub pending-last : ((position page slot width : ℕ) → At position page slot width ≡ newestOf (p .left) → ⊥) → (anchor backups : List ℕ)
+      pub pending-last : ((site : Site) → At site ≡ newestOf (p .left) → ⊥) → (anchor backups : List ℕ)
           → Did budget₀ budget (undoAll s l₀ (worldOf anchor pages₀ backups logs₀ work₀) number disk all) (worldOf anchor pages₀ backups logs₀ work₀)
           (worldOf anchor pages backups logs work) (record { finished = true; logs = l })
       unfolding newestOf
@@ -115,14 +116,14 @@ module _ (s : Sizes) (disk number from : ℕ) (l₀ : Logs) (pages₀ logs₀ wo
           w : World
           w = worldOf anchor pages backups logs work
 
-          go : (us : List Update) → ((position page slot width : ℕ) → At position page slot width ≡ newestOf us → ⊥)
+          go : (us : List Update) → ((site : Site) → At site ≡ newestOf us → ⊥)
               → Did budget budget (undoAll s l w number disk us) w w (record { finished = true; logs = l })
           go [] h = undone-none s l w number disk budget
-          go (u ∷ us) h = absurd (h (u .position) (u .page) (u .slot) (length (u .diff)) refl)
+          go (u ∷ us) h = absurd (h _ refl)
 
-      module _ {position page slot width : ℕ} (at : At position page slot width ≡ newestOf (p .left)) where
+      module _ {site : Site} (at : At site ≡ newestOf (p .left)) where
         abbrev u : Update
-        u = updateAt s l disk logs work position page slot width
+        u = updateAt s l disk logs work site
 
         -- it is the first of those that are left
         record First : Type 0 where
@@ -134,27 +135,27 @@ module _ (s : Sizes) (disk number from : ℕ) (l₀ : Logs) (pages₀ logs₀ wo
         unfolding newestOf updateAt
         first = go (p .left) refl at
           where
-            go : (us : List Update) → p .left ≡ us → At position page slot width ≡ newestOf us → First
+            go : (us : List Update) → p .left ≡ us → At site ≡ newestOf us → First
             go [] x e = let z : _≡_ {A = ℕ} 0 1 = cc in absurd (omega arith)
             go (v ∷ vs) x e =
                 let f = found v (rw (p .parts, x) (Memᴰ·append-right (p .undone) (List·Memᴰ·head refl))) in
-                let a : v .position ≡ position = cc in
-                let b : v .page ≡ page = cc in
-                let c : v .slot ≡ slot = cc in
-                let n : length (v .diff) ≡ width = cc in
-                let d : v .diff ≡ span (reader s l disk logs work) (position + 3) width =
+                let a : v .position ≡ site .position = cc in
+                let b : v .page ≡ site .page = cc in
+                let c : v .slot ≡ site .slot = cc in
+                let n : length (v .diff) ≡ site .width = cc in
+                let d : v .diff ≡ span (reader s l disk logs work) (site .position + 3) (site .width) =
                 f .words
                 ∙ span-cong read (reader s l disk logs work) (v .position + 3) (length (v .diff))
                 (λ q h k. p .kept q (omega (arith, f .above)) (omega (arith, f .inside)))
                 ∙ rw (a, n) refl in
-                let same : v ≡ u = update-is v position page slot _ a b c d in
+                let same : v ≡ u = update-is v (site .position) (site .page) (site .slot) _ a b c d in
                 record { others = vs; is = rw (← same) x; there = rw same at f }
 
-        long : length (u .diff) ≡ width
+        long : length (u .diff) ≡ site .width
         unfolding updateAt
-        long = length-span (reader s l disk logs work) (position + 3) width
+        long = length-span (reader s l disk logs work) (site .position + 3) (site .width)
 
-        pub pending-one : Compensable s l disk position page slot width pages logs work
+        pub pending-one : Compensable s l disk site pages logs work
         unfolding updateAt
         pending-one =
             let there = first .there in
@@ -165,7 +166,7 @@ module _ (s : Sizes) (disk number from : ℕ) (l₀ : Logs) (pages₀ logs₀ wo
               inside = omega (arith, there .inside, long, p .longer);
             }
 
-        pub pending-below : position < bound
+        pub pending-below : site .position < bound
         pending-below = at-below bound (p .undone ++ p .left) (p .newest ∙ sym at)
 
         -- it is cut
@@ -219,14 +220,14 @@ module _ (s : Sizes) (disk number from : ℕ) (l₀ : Logs) (pages₀ logs₀ wo
           split : all ≡ p .undone ++ u ∷ first .others
           split = p .parts ∙ ap (λ (x : List Update). p .undone ++ x) (first .is)
 
-          pub pending-step : Pending (one .logs) pages′ logs′ work′ rest position
+          pub pending-step : Pending (one .logs) pages′ logs′ work′ rest (site .position)
           unfolding updateAt
           pending-step =
               record {
                 undone = p .undone ++ u ∷ [];
                 left = first .others;
                 parts = split ∙ sym (append-assoc (p .undone) (u ∷ []) (first .others));
-                newest = ap (newestBelow position Absent) (append-assoc (p .undone) (u ∷ []) (first .others)) ∙ newest-after (p .undone) u (first .others) (subst Falls split falls);
+                newest = ap (newestBelow (site .position) Absent) (append-assoc (p .undone) (u ∷ []) (first .others)) ∙ newest-after (p .undone) u (first .others) (subst Falls split falls);
                 bound-low = omega (arith, pending-below, p .bound-low);
                 longer = omega (arith, p .longer, grown .end-longer);
                 kept = λ q h k. p .kept q h k ∙ unread q h k;

@@ -12,8 +12,9 @@ use Rattle.model.specs.declared.Fault.the-variants.{Sound}
 use Rattle.model.specs.Scan.{Scan, end, bad, faultIn, Update}
 use Rattle.model.proofs.Faults.{fault-bad}
 use Rattle.model.proofs.Reading.{ending, either-ending}
+use Rattle.log.specs.declared.newest.Site.{Site}
 use Rattle.log.specs.declared.newest.Newest.the-variants.{At, Absent}
-use Rattle.log.specs.Reading.{newestBelow}
+use Rattle.log.specs.Reading.{foundAt, newestBelow}
 
 -- a log in which no fault is found is read to its end
 pub sound-end : (disk : ℕ) (sc : Scan) → faultIn disk sc Sound ≡ Sound → ending sc ≡ end
@@ -27,13 +28,13 @@ sound-end disk sc e = go (either-ending sc)
         absurd (omega arith)
 
 -- what is found below a bound lies below it
-pub at-below : (bound : ℕ) (us : List Update) {position page slot width : ℕ} → newestBelow bound Absent us ≡ At position page slot width → position < bound
+pub at-below : (bound : ℕ) (us : List Update) {site : Site} → newestBelow bound Absent us ≡ At site → site .position < bound
 unfolding newestBelow
 at-below bound [] e = let z : _≡_ {A = ℕ} 0 1 = cc in absurd (omega arith)
-at-below bound (u ∷ us) {position} {page} {slot} {width} e = go (ltb (u .position) bound) refl e (at-below bound us)
+at-below bound (u ∷ us) {site} e = go (ltb (u .position) bound) refl e (at-below bound us)
   where
     go : (b : Bool) → ltb (u .position) bound ≡ b
-        → cond b (At (u .position) (u .page) (u .slot) (length (u .diff))) (newestBelow bound Absent us) ≡ At position page slot width
-        → (newestBelow bound Absent us ≡ At position page slot width → position < bound) → position < bound
-    go true x e rest = let same : u .position ≡ position = cc in omega (arith, ltb-true (u .position) bound x)
+        → cond b (foundAt (u .position) (u .page) (u .slot) (length (u .diff))) (newestBelow bound Absent us) ≡ At site
+        → (newestBelow bound Absent us ≡ At site → site .position < bound) → site .position < bound
+    go true x e rest = let same : u .position ≡ site .position = cc in omega (arith, ltb-true (u .position) bound x)
     go false x e rest = rest e

@@ -15,6 +15,7 @@ use Rattle.model.specs.Memory.{bufferAt, workWords, bufferOf}
 use Rattle.model.specs.State.{limit, tailOf, fillOf, endOf}
 use Rattle.model.specs.Append.{Appended}
 use Rattle.device.specs.Ran.{Ran}
+use Rattle.log.specs.declared.newest.Site.{Site}
 use Rattle.abort.specs.declared.window.Window.{Window}
 use Rattle.abort.specs.declared.record.Progress.{Progress}
 
@@ -57,17 +58,22 @@ reader s l disk logs work = readLog s logs disk (tailOf l disk) (bufferOf s work
 unfoldable pub logFrom : Sizes → Logs → ℕ → List ℕ → List ℕ → ℕ → Scan
 logFrom s l disk logs work from = scan s (reader s l disk logs work) (endOf l disk) from
 
--- the update of a slot whose record stands at a position
-unfoldable pub updateAt : Sizes → Logs → ℕ → List ℕ → List ℕ → (position page slot width : ℕ) → Update
-updateAt s l disk logs work position page slot width =
-    record { position = position; page = page; slot = slot; diff = span (reader s l disk logs work) (position + 3) width }
+-- the update whose record stands at a site
+unfoldable pub updateAt : Sizes → Logs → ℕ → List ℕ → List ℕ → Site → Update
+updateAt s l disk logs work site =
+    record {
+      position = site .position;
+      page = site .page;
+      slot = site .slot;
+      diff = span (reader s l disk logs work) (site .position + 3) (site .width);
+    }
 
--- A record of an update of a slot stands at the position.
-pub record Compensable (s : Sizes) (l : Logs) (disk position page slot width : ℕ) (pages logs work : List ℕ) : Type 0 where
+-- A slot of the sizes, and a record that ends within the log.
+pub record Compensable (s : Sizes) (l : Logs) (disk : ℕ) (site : Site) (pages logs work : List ℕ) : Type 0 where
   pub serving : Serving s l disk logs work
   pub page-words : length pages ≡ total s
-  pub slotted : InSlot s page slot width
-  pub inside : position + 3 + width ≤ endOf l disk
+  pub slotted : InSlot s (site .page) (site .slot) (site .width)
+  pub inside : site .position + 3 + site .width ≤ endOf l disk
 
 -- The log from a position on has no malformed record, and there is room for what takes back the updates found there.
 pub record Undoable (s : Sizes) (l : Logs) (disk number from : ℕ) (pages logs work : List ℕ) : Type 0 where

@@ -5,6 +5,7 @@ use crate::record::Progress;
 use crate::record::log_compensation;
 use layout::places::slot_base;
 use log::newest::Newest;
+use log::newest::Site;
 use model::Logs;
 use model::Sizes;
 use words::xor_in;
@@ -15,37 +16,34 @@ ghost use Rattle.model.specs.World.{worldOf};
 ghost use Rattle.model.specs.Abort.{compensate, undoAll};
 ghost use Rattle.abort.specs.Undo.{Did, logFrom, updateAt, Compensable, Undoable};
 
-// Takes back the update at a position: its compensation is appended, and the slot changed back.
+// Takes back the update at a site: its compensation is appended, and the slot changed back.
 fn undo_one(
     sizes: Sizes,
     state: Logs,
     disk: u64,
     number: u64,
-    position: u64,
-    page: u64,
-    slot: u64,
-    width: u64,
+    site: Site,
     pages: &mut [u64],
     logs: &mut [u64],
     work: &mut [u64],
     budget: &mut u64,
 ) -> Progress
-    requires { ⌜ Compensable sizes state disk position page slot width (now pages) (now logs) (now work) ⌝ }
+    requires { ⌜ Compensable sizes state disk site (now pages) (now logs) (now work) ⌝ }
     ensures { λ r. ⌜ ((anchor backups : List ℕ) → Did (now (budget .entry)) (now (budget .exit))
         (compensate sizes state (worldOf anchor (now (pages .entry)) backups (now (logs .entry)) (now (work .entry))) number disk
-        (updateAt sizes state disk (now (logs .entry)) (now (work .entry)) position page slot width))
+        (updateAt sizes state disk (now (logs .entry)) (now (work .entry)) site))
         (worldOf anchor (now (pages .entry)) backups (now (logs .entry)) (now (work .entry)))
         (worldOf anchor (now (pages .exit)) backups (now (logs .exit)) (now (work .exit))) r) ⌝ }
 {
-    let words = difference_at(sizes, state, disk, position, width, logs, work);
-    let n = width as usize;
+    let words = difference_at(sizes, state, disk, site.position, site.width, logs, work);
+    let n = site.width as usize;
     let one = log_compensation(
         sizes,
         state,
         disk,
         number,
-        page,
-        slot,
+        site.page,
+        site.slot,
         &words[..n],
         logs,
         work,
@@ -54,7 +52,7 @@ fn undo_one(
     if !one.finished {
         return one;
     }
-    let at = slot_base(sizes, page, slot) as usize;
+    let at = slot_base(sizes, site.page, site.slot) as usize;
     xor_in(pages, at, &words, 0, n);
     one
 }
@@ -79,40 +77,21 @@ pub fn undo_all(
         (worldOf anchor (now (pages .exit)) backups (now (logs .exit)) (now (work .exit))) r) ⌝ }
 {
     let d = disk as usize;
-    let mut reached = state;
+    let mut after = state;
     let mut bound = state.tails[d] + state.fills[d];
     loop {
-        let newest = newest_before(sizes, reached, disk, number, from, bound, logs, work);
-        let Newest::At {
-            position,
-            page,
-            slot,
-            width,
-        } = newest
-        else {
+        let newest = newest_before(sizes, after, disk, number, from, bound, logs, work);
+        let Newest::At { site } = newest else {
             return Progress {
                 finished: true,
-                logs: reached,
+                logs: after,
             };
         };
-        let one = undo_one(
-            sizes,
-            reached,
-            disk,
-            number,
-            position,
-            page,
-            slot,
-            width,
-            pages,
-            logs,
-            work,
-            budget,
-        );
+        let one = undo_one(sizes, after, disk, number, site, pages, logs, work, budget);
         if !one.finished {
             return one;
         }
-        reached = one.logs;
-        bound = position;
+        after = one.logs;
+        bound = site.position;
     }
 }

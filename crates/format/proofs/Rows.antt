@@ -55,7 +55,7 @@ module _ (c : Core) (w : World) (s : Sizes) where
         unfolding formatRows verdict stageForbids anchorWrong sizesWrong lengthsWrong
         format-accepted e = rw (shut, shut-sound c shut, eq-eqb (length (w .anchor)) 148 long, inside, e) refl
 
--- What `lay_out` may rely on, of sizes that are those handed to the call.
+-- What the stores and the memory rely on, of sizes that are those handed to the call.
 module _ (s sizes : Sizes) (w : World) (same : sizes ≡ s) where
   pub lengths-tested : {r : Bool}
       → r

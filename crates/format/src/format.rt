@@ -10,41 +10,10 @@ use layout::bounds::lengths_right;
 use layout::bounds::narrow;
 use model::Core;
 use model::Reply;
-use model::Sizes;
-ghost use mathlib.Core.Path.{_≡_};
 ghost use Rattle.model.specs.World.{worldOf};
-ghost use Rattle.model.specs.Format.{formatTask};
 ghost use Rattle.model.specs.Call.{format, Gives};
-ghost use Rattle.frame.specs.Settle.{Concludes};
-ghost use Rattle.format.specs.Parts.{Devices, Memories};
 
-// The stores, and the memory once all of them are made. `slots` and `widths` are those of the sizes, as words.
-fn lay_out(
-    sizes: Sizes,
-    slots: [u64; 64],
-    widths: [u64; 64],
-    anchor: &mut [u64],
-    pages: &mut [u64],
-    backups: &mut [u64],
-    logs: &mut [u64],
-    work: &mut [u64],
-    budget: &mut u64,
-) -> Reply
-    requires { ⌜ Devices sizes (now anchor) (now backups) (now logs) × (slots ≡ sizes .slots) × (widths ≡ sizes .widths) ⌝ }
-    requires { ⌜ Memories sizes (now pages) (now work) ⌝ }
-    ensures { λ r. ⌜ Concludes (now (budget .entry)) (now (budget .exit)) (formatTask sizes)
-        (worldOf (now (anchor .entry)) (now (pages .entry)) (now (backups .entry)) (now (logs .entry)) (now (work .entry)))
-        (worldOf (now (anchor .exit)) (now (pages .exit)) (now (backups .exit)) (now (logs .exit)) (now (work .exit))) r ⌝ }
-{
-    let before = *budget;
-    let next = open_core(sizes, 1, [0u64; 8]);
-    if !store_devices(sizes, slots, widths, anchor, backups, logs, budget) {
-        return settle(false, before, *budget, 0, next);
-    }
-    make_fresh(sizes, pages, work);
-    settle(true, before, *budget, 0, next)
-}
-
+// The stores, and the memory once all of them are made.
 pub fn format(
     core: Core,
     pages_count: u64,
@@ -75,15 +44,11 @@ pub fn format(
     if !lengths_right(sizes, pages.len(), backups.len(), logs.len(), work.len()) {
         return refuse(core, 5);
     }
-    lay_out(
-        sizes,
-        slots,
-        widths,
-        anchor,
-        pages,
-        backups,
-        logs,
-        work,
-        budget,
-    )
+    let before = *budget;
+    let next = open_core(sizes, 1, [0u64; 8]);
+    if !store_devices(sizes, slots, widths, anchor, backups, logs, budget) {
+        return settle(false, before, *budget, 0, next);
+    }
+    make_fresh(sizes, pages, work);
+    settle(true, before, *budget, 0, next)
 }

@@ -18,8 +18,8 @@ use Rattle.model.proofs.Members.{Every}
 use Rattle.model.proofs.Reading.{ending, either-ending, Rises, scan-rises, scan-bad}
 use Rattle.model.proofs.Updates.{Falls}
 use Rattle.log.specs.declared.newest.Newest.{Newest}
-use Rattle.log.specs.declared.newest.Newest.the-variants.{At, Absent, Broken}
-use Rattle.log.specs.Reading.{newestIn, newestBelow, newestOf}
+use Rattle.log.specs.declared.newest.Newest.the-variants.{Absent, Broken}
+use Rattle.log.specs.Reading.{foundAt, newestIn, newestBelow, newestOf}
 
 -- a malformed record below the bound hides what was found before it
 unfoldable pub brokenBelow : ℕ → Scan → Newest → Newest
@@ -36,7 +36,7 @@ module _ (bound : ℕ) where
 
   -- an update that is found where b holds
   below-one : (other : Newest) (b : Bool) (u : Update) → u .position < bound
-      → newestBelow bound other (cond b (u ∷ []) []) ≡ cond b (At (u .position) (u .page) (u .slot) (length (u .diff))) other
+      → newestBelow bound other (cond b (u ∷ []) []) ≡ cond b (foundAt (u .position) (u .page) (u .slot) (length (u .diff))) other
   unfolding newestBelow
   below-one other true u h = simp (lt-ltb (u .position) bound h)
   below-one other false u h = refl
@@ -86,9 +86,9 @@ module _ (bound : ℕ) where
         found x = brokenBelow bound (ending rest) (newestBelow bound x (updatesIn t rest))
 
         go : (b : Bool) → ltb p bound ≡ b → ((x : Newest) → newestIn t bound x rest ≡ found x)
-            → cond b (newestIn t bound (cond mine (At p page slot (length diff)) other) rest) other
+            → cond b (newestIn t bound (cond mine (foundAt p page slot (length diff)) other) rest) other
             ≡ found (newestBelow bound other (cond mine (u ∷ []) []))
-        go true e ih = ih (cond mine (At p page slot (length diff)) other) ∙ ap found (sym (below-one other mine u (ltb-true p bound e)))
+        go true e ih = ih (cond mine (foundAt p page slot (length diff)) other) ∙ ap found (sym (below-one other mine u (ltb-true p bound e)))
         go false e ih =
             let l : bound ≤ p = ltb-false p bound e in
             sym (ap found (above-one other mine u l) ∙ all-above (suc p) rest other (h .1) (omega arith))
@@ -98,7 +98,7 @@ unfolding newestBelow
 below-not-broken bound q [] e = let z : _≡_ {A = ℕ} 0 1 = cc in omega arith
 below-not-broken bound q (u ∷ us) e = go (ltb (u .position) bound) e (below-not-broken bound q us)
   where
-    go : (b : Bool) → cond b (At (u .position) (u .page) (u .slot) (length (u .diff))) (newestBelow bound Absent us) ≡ Broken q
+    go : (b : Bool) → cond b (foundAt (u .position) (u .page) (u .slot) (length (u .diff))) (newestBelow bound Absent us) ≡ Broken q
         → (newestBelow bound Absent us ≡ Broken q → ⊥) → ⊥
     go true e rest = let z : _≡_ {A = ℕ} 0 1 = cc in omega arith
     go false e rest = rest e

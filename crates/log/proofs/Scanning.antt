@@ -25,20 +25,20 @@ use Rattle.model.proofs.Restart.Gain.{length-span}
 use Rattle.model.proofs.Updates.{update-words-append}
 use Rattle.model.proofs.Scan.{scan-end, scan-step, scan-change, scan-close, scan-bad}
 use Rattle.log.specs.declared.newest.Newest.{Newest}
-use Rattle.log.specs.declared.newest.Newest.the-variants.{At, Broken}
-use Rattle.log.specs.Reading.{scanDisk, faultsFrom, isUpdateOf, newerOf, newestIn}
+use Rattle.log.specs.declared.newest.Newest.the-variants.{Broken}
+use Rattle.log.specs.Reading.{scanDisk, faultsFrom, isUpdateOf, foundAt, newerOf, newestIn}
 
 -- an update of the transaction takes the place of what was found before, no other record does
 module _ (t p : ℕ) (sofar : Newest) {r : Decoded} {kind page slot number epoch width next : ℕ} {b : Bool}
     (e : r ≡ Change kind page slot number epoch width next) (is : b ≡ isUpdateOf t (Change kind page slot number epoch width next)) where
-  newer-change : cond b (At p page slot width) sofar ≡ newerOf t p r sofar
+  newer-change : cond b (foundAt p page slot width) sofar ≡ newerOf t p r sofar
   newer-change = rw (is, e)
 
-  pub newer-update : b ≡ true → At p page slot width ≡ newerOf t p r sofar
-  newer-update u = ap (λ (x : Bool). cond x (At p page slot width) sofar) (sym u) ∙ newer-change
+  pub newer-update : b ≡ true → foundAt p page slot width ≡ newerOf t p r sofar
+  newer-update u = ap (λ (x : Bool). cond x (foundAt p page slot width) sofar) (sym u) ∙ newer-change
 
   pub newer-other : b ≡ false → sofar ≡ newerOf t p r sofar
-  newer-other u = ap (λ (x : Bool). cond x (At p page slot width) sofar) (sym u) ∙ newer-change
+  newer-other u = ap (λ (x : Bool). cond x (foundAt p page slot width) sofar) (sym u) ∙ newer-change
 
 module _ (s : Sizes) (read : ℕ → ℕ) (stop : ℕ) where
   -- what is known of a record r that was decoded at p

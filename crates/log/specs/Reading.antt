@@ -55,10 +55,14 @@ isUpdateOf number (Change kind page slot n epoch width next) = eqb kind updateKi
 isUpdateOf number (Close kind n next) = false
 isUpdateOf number Malformed = false
 
+-- the search came to an update
+abbrev pub foundAt : (position page slot width : ℕ) → Newest
+foundAt position page slot width = At (record { position = position; page = page; slot = slot; width = width })
+
 -- the update decoded at p if it is one of the transaction, and else what was found before it
 abbrev pub newerOf : ℕ → ℕ → Decoded → Newest → Newest
 newerOf number p (Change kind page slot n epoch width next) sofar =
-    cond (eqb kind updateKind && eqb n number) (At p page slot width) sofar
+    cond (eqb kind updateKind && eqb n number) (foundAt p page slot width) sofar
 newerOf number p (Close kind n next) sofar = sofar
 newerOf number p Malformed sofar = sofar
 
@@ -69,16 +73,16 @@ newestIn number bound sofar (bad p) = cond (ltb p bound) (Broken p) sofar
 newestIn number bound sofar (item p (close kind n) rest) = cond (ltb p bound) (newestIn number bound sofar rest) sofar
 newestIn number bound sofar (item p (change kind page slot n epoch diff) rest) =
     cond (ltb p bound)
-    (newestIn number bound (cond (eqb kind updateKind && eqb n number) (At p page slot (length diff)) sofar) rest)
+    (newestIn number bound (cond (eqb kind updateKind && eqb n number) (foundAt p page slot (length diff)) sofar) rest)
     sofar
 
 -- of a transaction's updates, newest first: the head of those below a bound, and `other` where there is none
 unfoldable pub newestBelow : ℕ → Newest → List Update → Newest
 newestBelow bound other [] = other
 newestBelow bound other (u ∷ us) =
-    cond (ltb (u .position) bound) (At (u .position) (u .page) (u .slot) (length (u .diff))) (newestBelow bound other us)
+    cond (ltb (u .position) bound) (foundAt (u .position) (u .page) (u .slot) (length (u .diff))) (newestBelow bound other us)
 
 -- the newest of a transaction's updates, newest first
 unfoldable pub newestOf : List Update → Newest
 newestOf [] = Absent
-newestOf (u ∷ us) = At (u .position) (u .page) (u .slot) (length (u .diff))
+newestOf (u ∷ us) = foundAt (u .position) (u .page) (u .slot) (length (u .diff))

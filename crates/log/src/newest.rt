@@ -8,18 +8,19 @@ ghost use Rattle.model.specs.Decode.{readLog};
 ghost use Rattle.model.specs.Scan.{scan, updatesIn, updateWords};
 ghost use Rattle.log.specs.Reading.{Readable, isUpdateOf, newerOf, newestIn};
 
+// Where an update's record stands, the slot that it changed, and the slot's width.
+pub struct Site {
+    pub position: u64,
+    pub page: u64,
+    pub slot: u64,
+    pub width: u64,
+}
+
 // What the search for a transaction's newest update finds.
 pub enum Newest {
-    At {
-        position: u64,
-        page: u64,
-        slot: u64,
-        width: u64,
-    },
+    At { site: Site },
     Absent,
-    Broken {
-        position: u64,
-    },
+    Broken { position: u64 },
 }
 
 // Is it an update record of the transaction?
@@ -54,12 +55,13 @@ fn newer(here: Decoded, number: u64, position: u64, sofar: Newest) -> Newest
             ..
         } => {
             if is_update_of(here, number) {
-                return Newest::At {
+                let site = Site {
                     position,
                     page,
                     slot,
                     width,
                 };
+                return Newest::At { site };
             }
             sofar
         }

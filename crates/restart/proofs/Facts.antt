@@ -10,16 +10,16 @@ use Rattle.model.specs.Sizes.{slotBase}
 use Rattle.model.specs.World.{World}
 use Rattle.model.specs.State.{limit, tailOf}
 use Rattle.model.specs.Causes.{whenReplaying}
-use Rattle.model.specs.Restart.{readDisk, nextRecord}
+use Rattle.model.specs.Restart.{positionOf, readDisk, nextRecord}
 use Rattle.model.proofs.Bounds.{Bounded, bounded}
-use Rattle.model.proofs.Decode.{found-change}
+use Rattle.model.proofs.Decode.{ChangeAt, found-change}
 use Rattle.model.proofs.Geometry.{slot-end-total}
 use Rattle.model.proofs.Lengths.{Lengths, lengths-right}
 use Rattle.model.proofs.Sound.Test.{ReplaySound, replay-sound}
 use Rattle.frame.proofs.Verdicts.{Passed}
 use Rattle.log.specs.Reading.{Readable}
 use Rattle.log.proofs.Ready.{readable}
-use Rattle.restart.specs.Rest.{Replays, OnLog, ChangeFits}
+use Rattle.restart.specs.Rest.{Replays, OnLog}
 
 module _ (c : Core) (r : Replays c) where
   pub replaying : ReplaySound c
@@ -52,19 +52,17 @@ module _ {c : Core} {disk : ℕ} {pages logs : List ℕ} (on : OnLog c disk page
       readable (c .sizes) (sizes-bounded c (on .replays)) logs disk (tailOf (c .logs) disk) [] (tailOf (c .logs) disk) (on .log-words)
       (on .disk-in) (omega arith) (omega (arith, tail-low))
 
-  -- a change found there fits
-  pub change-fits : (w : World) {kind page slot number epoch width next : ℕ}
-      → nextRecord c w disk ≡ Change kind page slot number epoch width next → ChangeFits c disk page slot width
-  unfolding nextRecord
-  change-fits w e =
-      let f = found-change (c .sizes) (readDisk c w disk) (tailOf (c .logs) disk) e in
-      record { page-in = f .page-in; slot-in = f .slot-in; width-is = f .width-eq; difference-ends = omega (arith, f .next-eq, f .next-le) }
+  -- A change found there: its slot is one of the pages', and its difference ends within the log.
+  module _ (w : World) {kind page slot number epoch width next : ℕ} (e : nextRecord c w disk ≡ Change kind page slot number epoch width next) where
+    found : ChangeAt (c .sizes) (tailOf (c .logs) disk) (positionOf c disk) kind page slot number width next
+    unfolding nextRecord
+    found = found-change (c .sizes) (readDisk c w disk) (tailOf (c .logs) disk) e
 
-  module _ {page slot width : ℕ} (f : ChangeFits c disk page slot width) where
     pub slot-place : (page < 64) × (slot < 65536)
-    slot-place =
-        let b = sizes-bounded c (on .replays) in
-        (omega (arith, f .page-in, b .pages-max), omega (arith, f .slot-in, b .used page (f .page-in) .slots-max))
+    slot-place = (found .page-lt, omega (arith, found .slot-lt))
 
     pub slot-fits : {at : ℕ} → at ≡ slotBase (c .sizes) page slot → at + width ≤ length pages
-    slot-fits e = omega (arith, e, slot-end-total (c .sizes) page slot (f .page-in) (f .slot-in), f .width-is, on .page-words)
+    slot-fits s = omega (arith, s, slot-end-total (c .sizes) page slot (found .page-in) (found .slot-in), found .width-eq, on .page-words)
+
+    pub difference-ends : positionOf c disk + 3 + width ≤ tailOf (c .logs) disk
+    difference-ends = omega (arith, found .next-eq, found .next-le)

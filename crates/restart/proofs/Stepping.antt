@@ -10,7 +10,7 @@ use Rattle.model.specs.declared.Core.{Core}
 use Rattle.model.specs.declared.Decoded.{Decoded}
 use Rattle.model.specs.declared.Decoded.the-variants.{Change, Close, Malformed}
 use Rattle.model.specs.declared.Fate.{Fate}
-use Rattle.model.specs.declared.Fate.the-variants.{Unreadable}
+use Rattle.model.specs.declared.Fate.the-variants.{Closed, Unclosed, Unreadable}
 use Rattle.model.specs.declared.Fault.the-variants.{Sound, BadRecord}
 use Rattle.model.specs.declared.Reply.{Reply}
 use Rattle.model.specs.Word.{part}
@@ -63,6 +63,12 @@ module _ (c : Core) (w : World) (source : ℕ) where
       rw (e, le-ltb (c .sizes .disks) source h, ne-eqb (remaining c source) 0 (λ z. omega arith), same)
       (nothing-spent actions k w v (rw same at (storeless-finishes (restartStep source) c w refl)) did)
 
+-- A search ahead that meets no malformed record is no fault.
+fate-sound : (disk : ℕ) (f : Fate) → ((p : ℕ) → f ≡ Unreadable p → ⊥) → fateFault disk f ≡ Sound
+fate-sound disk Closed unmet = refl
+fate-sound disk Unclosed unmet = refl
+fate-sound disk (Unreadable p) unmet = absurd (unmet p refl)
+
 -- A log.
 module _ (c : Core) (w : World) (disk : ℕ) (h : disk < c .sizes .disks) where
   pub step-none : tailOf (c .logs) disk ≤ positionOf c disk → StepsOn c w disk (refusedWith c 15 0 0) w
@@ -95,13 +101,13 @@ module _ (c : Core) (w : World) (disk : ℕ) (h : disk < c .sizes .disks) where
       pub step-unreadable : {p : ℕ} → fateFrom c w disk number next ≡ Unreadable p → StepsOn c w disk (refusedWith c 7 disk p) w
       step-unreadable {p} f = fault-refused c w disk disk p (fault-here e ∙ ap (fateFault disk) f)
 
-      pub step-change : {f : Fate} {b : Bool} {after : List ℕ} → fateFrom c w disk number next ≡ f → fateFault disk f ≡ Sound
+      pub step-change : {f : Fate} {b : Bool} {after : List ℕ} → fateFrom c w disk number next ≡ f → ((p : ℕ) → f ≡ Unreadable p → ⊥)
           → b ≡ replays (c .epoch) f epoch
           → after ≡ cond b (xorAt (slotBase (c .sizes) page slot) (span (readDisk c w disk) (positionOf c disk + 3) width) (w .pages)) (w .pages)
           → StepsOn c w disk (finished (movedTo c disk next)) (withPages w after)
       unfolding perform
-      step-change {f} {b} {after} fate sound is did =
-          steps-taken c w disk (fault-here e ∙ ap (fateFault disk) fate ∙ sound) (omega arith) some (task-here e)
+      step-change {f} {b} {after} fate unmet is did =
+          steps-taken c w disk (fault-here e ∙ ap (fateFault disk) fate ∙ fate-sound disk f unmet) (omega arith) some (task-here e)
           (rw (fate, ← is, did) (go b))
         where
           diff : List ℕ

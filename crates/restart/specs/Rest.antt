@@ -2,7 +2,7 @@
 use mathlib.Core.Path.{_≡_}
 use mathlib.Core.List.{List, [], _∷_}
 use mathlib.Core.Bool.{true}
-use Prim.Native.Nat.{ℕ, _+_, _≤_, _<_}
+use Prim.Native.Nat.{ℕ, _<_}
 use lib.Dec.{eqb}
 use lib.ListN.{length, replicate}
 use Rattle.model.specs.declared.Stage.the-variants.{Replaying}
@@ -10,13 +10,13 @@ use Rattle.model.specs.declared.Sizes.{Sizes}
 use Rattle.model.specs.declared.Core.{Core}
 use Rattle.model.specs.declared.Answer.the-variants.{Finished}
 use Rattle.model.specs.declared.Reply.{Reply}
-use Rattle.model.specs.Sizes.{slotsIn, widthIn, total, logWords}
+use Rattle.model.specs.Sizes.{total, logWords}
 use Rattle.model.specs.Anchor.{epochOn, sizesOn}
 use Rattle.model.specs.World.{World}
-use Rattle.model.specs.State.{noTable, noCheckpoint, tailOf, sound}
+use Rattle.model.specs.State.{noTable, noCheckpoint, sound}
 use Rattle.model.specs.Refusal.{Row, row, verdict, conclude}
 use Rattle.model.specs.Causes.{whenReplaying, tailRow, faultFrom, faultRow, sourceMissing, spent}
-use Rattle.model.specs.Restart.{restartBeginTask, positionOf, remaining, stepFault, restartStepTask}
+use Rattle.model.specs.Restart.{restartBeginTask, remaining, stepFault, restartStepTask}
 
 -- a replaying state that a call made
 pub record Replays (c : Core) : Type 0 where
@@ -29,13 +29,6 @@ pub record OnLog (c : Core) (disk : ℕ) (pages logs : List ℕ) : Type 0 where
   pub disk-in : disk < c .sizes .disks
   pub page-words : length pages ≡ total (c .sizes)
   pub log-words : length logs ≡ logWords (c .sizes)
-
--- a change at the log's next position: its slot is one of the pages', and its difference ends within the log
-pub record ChangeFits (c : Core) (disk page slot width : ℕ) : Type 0 where
-  pub page-in : page < c .sizes .pages
-  pub slot-in : slot < slotsIn (c .sizes) page
-  pub width-is : width ≡ widthIn (c .sizes) page
-  pub difference-ends : positionOf c disk + 3 + width ≤ tailOf (c .logs) disk
 
 -- a call that stores nothing and leaves this state
 abbrev pub finished : Core → Reply

@@ -15,18 +15,14 @@ use model::Reply;
 use replay::take::replay_span;
 use replay::take::xor_page;
 ghost use mathlib.Core.Path.{_≡_};
-ghost use mathlib.Core.List.{List, []};
-ghost use mathlib.Core.Bool.{cond};
-ghost use Prim.Native.Nat.{ℕ, _+_, _*_, _<_};
+ghost use mathlib.Core.List.{List};
+ghost use Prim.Native.Nat.{ℕ, _*_, _<_};
 ghost use lib.ListN.{length};
-ghost use Rattle.model.specs.Sizes.{slotBase, total};
-ghost use Rattle.model.specs.Decode.{readLog, span};
-ghost use Rattle.model.specs.Image.{xorAt};
+ghost use Rattle.model.specs.Sizes.{total};
 ghost use Rattle.model.specs.World.{worldOf};
-ghost use Rattle.model.specs.State.{tailOf};
-ghost use Rattle.model.specs.Restart.{positionOf, movedTo};
+ghost use Rattle.model.specs.Restart.{replays, movedTo};
 ghost use Rattle.model.specs.Call.{Gives, restartStep};
-ghost use Rattle.restart.specs.Rest.{Replays, OnLog, ChangeFits, finished, StepsOn};
+ghost use Rattle.restart.specs.Rest.{Replays, OnLog, finished, StepsOn};
 
 // A step done: the log's next record stands at `next`.
 fn move_on(core: Core, disk: u64, next: u64) -> Reply
@@ -52,31 +48,19 @@ fn move_on(core: Core, disk: u64, next: u64) -> Reply
     }
 }
 
-// A change is XORed in if `replays` says so.
-fn take_change(
-    core: Core,
-    disk: u64,
-    page: u64,
-    slot: u64,
-    width: u64,
-    replays: bool,
-    pages: &mut [u64],
-    logs: &[u64],
-)
-    requires { ⌜ OnLog core disk (now pages) (now logs) × ChangeFits core disk page slot width ⌝ }
-    ensures { λ _. ⌜ now (pages .exit) ≡ cond replays (xorAt (slotBase (core .sizes) page slot) (span (readLog (core .sizes) (now (logs .entry)) disk (tailOf (core .logs) disk) []) (positionOf core disk + 3) width) (now (pages .entry))) (now (pages .entry)) ⌝ }
+// A closed transaction's record not in the backup, or a loose one's record in it, is XORed in.
+fn is_replayed(current: u64, fate: Fate, epoch: u64) -> bool
+    ensures { λ r. ⌜ r ≡ replays current fate epoch ⌝ }
 {
-    let sizes = core.sizes;
-    let tails = core.logs.tails;
-    let positions = core.replay.positions;
-    let d = disk as usize;
-    let tail = tails[d];
-    let from = positions[d] + 3;
-    let at = slot_base(sizes, page, slot);
-    replay_span(replays, pages, at, sizes, logs, disk, tail, from, width);
+    let in_backup = epoch < current;
+    match fate {
+        Fate::Closed => !in_backup,
+        Fate::Unclosed => in_backup,
+        Fate::Unreadable { .. } => false,
+    }
 }
 
-// A closed transaction's record not in the backup, or a loose one's record in it, is XORed in.
+// Takes the next record of a log.
 fn log_step(core: Core, disk: u64, pages: &mut [u64], logs: &[u64]) -> Reply
     requires { ⌜ OnLog core disk (now pages) (now logs) ⌝ }
     ensures { λ r. ⌜ ((anchor backups work : List ℕ) → StepsOn core (worldOf anchor (now (pages .entry)) backups (now (logs .entry)) work) disk r (worldOf anchor (now (pages .exit)) backups (now (logs .entry)) work)) ⌝ }
@@ -105,18 +89,14 @@ fn log_step(core: Core, disk: u64, pages: &mut [u64], logs: &[u64]) -> Reply
             ..
         } => {
             let fate = fate_from(sizes, logs, disk, tail, none, tail, next, number);
-            let in_backup = epoch < core.epoch;
-            match fate {
-                Fate::Unreadable { position: p } => refuse_at(core, 7, disk, p),
-                Fate::Closed => {
-                    take_change(core, disk, page, slot, width, !in_backup, pages, logs);
-                    move_on(core, disk, next)
-                }
-                Fate::Unclosed => {
-                    take_change(core, disk, page, slot, width, in_backup, pages, logs);
-                    move_on(core, disk, next)
-                }
+            if let Fate::Unreadable { position: p } = fate {
+                return refuse_at(core, 7, disk, p);
             }
+            let replays = is_replayed(core.epoch, fate, epoch);
+            let at = slot_base(sizes, page, slot);
+            let from = position + 3;
+            replay_span(replays, pages, at, sizes, logs, disk, tail, from, width);
+            move_on(core, disk, next)
         }
     }
 }

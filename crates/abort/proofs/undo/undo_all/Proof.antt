@@ -20,11 +20,11 @@ not-told (inl e) z = omega arith
 not-told (inr e) z = omega arith
 
 abbrev Inv-loop : tie.InvT-loop
-Inv-loop sizes disk number from pages₀ logs₀ work₀ budget₀ d reached₀ bound₀ pages logs work budget reached bound =
-    Pending sizes disk number from reached₀ pages₀ logs₀ work₀ budget₀ reached pages logs work budget bound
+Inv-loop sizes disk number from pages₀ logs₀ work₀ budget₀ d after₀ bound₀ pages logs work budget after bound =
+    Pending sizes disk number from after₀ pages₀ logs₀ work₀ budget₀ after pages logs work budget bound
 
 abbrev μ-loop : tie.MeasureT-loop
-μ-loop sizes disk number from pages₀ logs₀ work₀ budget₀ d reached₀ bound₀ pages logs work budget reached bound = bound
+μ-loop sizes disk number from pages₀ logs₀ work₀ budget₀ d after₀ bound₀ pages logs work budget after bound = bound
 
 mul-bound : tie.Need-mul-bound Inv-loop μ-loop
 mul-bound c =
@@ -88,7 +88,7 @@ returns c =
     let turn = c .before .before .before .before .loop in
     let p = turn .inv in
     let e = c .before .newest-before .ensures ∙ pending-newest _ _ _ _ _ _ _ _ _ (pre) p in
-    pending-last _ _ _ _ _ _ _ _ _ (pre) p (λ position page slot width x. not-told (rw (e ∙ sym x) at (c .match .keys2)) refl)
+    pending-last _ _ _ _ _ _ _ _ _ (pre) p (λ site x. not-told (rw (e ∙ sym x) at (c .match .keys2)) refl)
 
 undo-one-requires : tie.Need-undo-one-requires Inv-loop μ-loop
 undo-one-requires c κs =

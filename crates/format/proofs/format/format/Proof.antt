@@ -1,10 +1,12 @@
--- `format::format::format` meets its contract: each refusal is the first row that applies. Assumes nothing.
+-- `format::format::format` meets its contract: each refusal is the first row that applies, and memory is made fresh once all is stored.
+-- Assumes nothing.
 use native.Mathlib.Omega.{arith}
 use mathlib.Core.Path.{sym, ap, _∙_}
 use borrow.Author.Tests.{not-true, not-false}
 use Rattle.model.specs.declared.Sizes.{Sizes}
 use Rattle.model.specs.World.{worldOf}
 use Rattle.frame.proofs.Verdicts.{refusal-given, task-given}
+use Rattle.format.proofs.Joined.{lay-cut, lay-whole}
 use Rattle.format.proofs.Rows.{format-forbidden, format-anchor, format-sizes, format-lengths, format-accepted, lengths-tested, devices-right, memories-right}
 use borrow.Author.Needs.{needs}
 use Rattle.format.proofs.format.format.Statement.{statement}
@@ -65,18 +67,22 @@ returns-4 c =
     (format-lengths (x .core) w _ (sym (c .before .before .before .before .before .before .before .before .is-shut .ensures) ∙ not-false _ (c .before .before .before .before .before .before .before .if1 .left)) (omega (arith, c .before .before .before .before .before .before .if2 .left)) (sym (c .before .before .before .before .before .in-bounds .ensures) ∙ not-false _ (c .before .before .before .before .if3 .left))
     (lengths-tested _ _ w (c .before .before .before .narrow .ensures) (c .before .before .lengths-right .ensures) ∙ not-true _ (c .before .if4 .taken))))
 
-lay-out-requires : tie.Need-lay-out-requires
-lay-out-requires c κs =
+open-core-requires : tie.Need-open-core-requires
+open-core-requires c κs = search needs
+
+store-devices-requires : tie.Need-store-devices-requires
+store-devices-requires c κs =
     let x = c .before .before .before .before .before .before .before .before .before .before .before .before .before .before .before .before .before .before .before .args in
     let w = worldOf (x .anchor .now) (x .pages .now) (x .backups .now) (x .logs .now) (x .work .now) in
-    let right = lengths-tested _ _ w (c .before .before .before .before .before .before .before .before .narrow .ensures) (c .before .before .before .before .before .before .before .lengths-right .ensures) ∙ not-false _ (c .before .before .before .before .before .before .if4 .left) in (
-      (
-        devices-right _ _ w (c .before .before .before .before .before .before .before .before .narrow .ensures) (sym (c .before .before .before .before .before .before .before .before .before .before .in-bounds .ensures) ∙ not-false _ (c .before .before .before .before .before .before .before .before .before .if3 .left)) right (omega (arith, c .before .before .before .before .before .before .before .before .before .before .before .if2 .left)),
-        sym (ap (λ (s : Sizes). s .slots) (c .before .before .before .before .before .before .before .before .narrow .ensures)),
-        sym (ap (λ (s : Sizes). s .widths) (c .before .before .before .before .before .before .before .before .narrow .ensures)),
-      ),
-      memories-right _ _ w (c .before .before .before .before .before .before .before .before .narrow .ensures) (sym (c .before .before .before .before .before .before .before .before .before .before .in-bounds .ensures) ∙ not-false _ (c .before .before .before .before .before .before .before .before .before .if3 .left)) right,
+    let right = lengths-tested _ _ w (c .before .before .before .before .before .before .before .before .narrow .ensures) (c .before .before .before .before .before .before .before .lengths-right .ensures) ∙ not-false _ (c .before .before .before .before .before .before .if4 .left) in
+    let inside = sym (c .before .before .before .before .before .before .before .before .before .before .in-bounds .ensures) ∙ not-false _ (c .before .before .before .before .before .before .before .before .before .if3 .left) in (
+      devices-right _ _ w (c .before .before .before .before .before .before .before .before .narrow .ensures) inside right (omega (arith, c .before .before .before .before .before .before .before .before .before .before .before .if2 .left)),
+      sym (ap (λ (s : Sizes). s .slots) (c .before .before .before .before .before .before .before .before .narrow .ensures)),
+      sym (ap (λ (s : Sizes). s .widths) (c .before .before .before .before .before .before .before .before .narrow .ensures)),
     )
+
+settle-requires : tie.Need-settle-requires
+settle-requires c κs = search needs
 
 same-length : tie.Need-same-length
 same-length c = search needs
@@ -87,20 +93,50 @@ same-length-2 c = search needs
 same-length-3 : tie.Need-same-length-3
 same-length-3 c = search needs
 
+returns-5 : tie.Need-returns-5
+returns-5 c =
+    let x = c .before .before .before .before .before .before .before .before .before .before .before .before .before .before .before .before .before .before .before .before .before .before .before .before .before .before .before .before .args in
+    let w = worldOf (x .anchor .now) (x .pages .now) (x .backups .now) (x .logs .now) (x .work .now) in
+    task-given _ (x .core) w _ _ _
+    (format-accepted (x .core) w _ (sym (c .before .before .before .before .before .before .before .before .before .before .before .before .before .before .before .before .before .before .before .before .before .before .is-shut .ensures) ∙ not-false _ (c .before .before .before .before .before .before .before .before .before .before .before .before .before .before .before .before .before .before .before .before .before .if1 .left)) (omega (arith, c .before .before .before .before .before .before .before .before .before .before .before .before .before .before .before .before .before .before .before .before .if2 .left)) (sym (c .before .before .before .before .before .before .before .before .before .before .before .before .before .before .before .before .before .before .before .in-bounds .ensures) ∙ not-false _ (c .before .before .before .before .before .before .before .before .before .before .before .before .before .before .before .before .before .before .if3 .left))
+    (lengths-tested _ _ w (c .before .before .before .before .before .before .before .before .before .before .before .before .before .before .before .before .before .narrow .ensures) (c .before .before .before .before .before .before .before .before .before .before .before .before .before .before .before .before .lengths-right .ensures) ∙ not-false _ (c .before .before .before .before .before .before .before .before .before .before .before .before .before .before .before .if4 .left)))
+    (rw (c .before .before .before .before .before .before .before .before .before .before .before .before .before .before .before .before .before .narrow .ensures) at (lay-cut _ (c .before .before .before .before .before .before .before .before .store-devices .ensures (x .pages .now) (x .work .now)) (not-true _ (c .before .if5 .taken)) (c .settle .ensures)))
+
+make-fresh-requires : tie.Need-make-fresh-requires
+make-fresh-requires c κs =
+    let x = c .before .before .before .before .before .before .before .before .before .before .before .before .before .before .before .before .before .before .before .before .before .before .before .before .before .before .before .before .before .args in
+    let w = worldOf (x .anchor .now) (x .pages .now) (x .backups .now) (x .logs .now) (x .work .now) in
+    let right = lengths-tested _ _ w (c .before .before .before .before .before .before .before .before .before .before .before .before .before .before .before .before .before .before .narrow .ensures) (c .before .before .before .before .before .before .before .before .before .before .before .before .before .before .before .before .before .lengths-right .ensures) ∙ not-false _ (c .before .before .before .before .before .before .before .before .before .before .before .before .before .before .before .before .if4 .left) in
+    let inside = sym (c .before .before .before .before .before .before .before .before .before .before .before .before .before .before .before .before .before .before .before .before .in-bounds .ensures) ∙ not-false _ (c .before .before .before .before .before .before .before .before .before .before .before .before .before .before .before .before .before .before .before .if3 .left) in
+    memories-right _ _ w (c .before .before .before .before .before .before .before .before .before .before .before .before .before .before .before .before .before .before .narrow .ensures) inside right
+
+settle-requires-2 : tie.Need-settle-requires-2
+settle-requires-2 c κs = search needs
+
 same-length-4 : tie.Need-same-length-4
 same-length-4 c = search needs
 
 same-length-5 : tie.Need-same-length-5
 same-length-5 c = search needs
 
-returns-5 : tie.Need-returns-5
-returns-5 c =
-    let x = c .before .before .before .before .before .before .before .before .before .before .before .before .before .before .before .before .before .before .before .before .before .before .before .before .before .before .before .before .before .before .args in
+same-length-6 : tie.Need-same-length-6
+same-length-6 c = search needs
+
+same-length-7 : tie.Need-same-length-7
+same-length-7 c = search needs
+
+same-length-8 : tie.Need-same-length-8
+same-length-8 c = search needs
+
+returns-6 : tie.Need-returns-6
+returns-6 c =
+    let x = c .before .before .before .before .before .before .before .before .before .before .before .before .before .before .before .before .before .before .before .before .before .before .before .before .before .before .before .before .before .before .before .before .before .before .before .args in
     let w = worldOf (x .anchor .now) (x .pages .now) (x .backups .now) (x .logs .now) (x .work .now) in
     task-given _ (x .core) w _ _ _
-    (format-accepted (x .core) w _ (sym (c .before .before .before .before .before .before .before .before .before .before .before .before .before .before .before .before .before .before .before .before .before .before .before .before .is-shut .ensures) ∙ not-false _ (c .before .before .before .before .before .before .before .before .before .before .before .before .before .before .before .before .before .before .before .before .before .before .before .if1 .left)) (omega (arith, c .before .before .before .before .before .before .before .before .before .before .before .before .before .before .before .before .before .before .before .before .before .before .if2 .left)) (sym (c .before .before .before .before .before .before .before .before .before .before .before .before .before .before .before .before .before .before .before .before .before .in-bounds .ensures) ∙ not-false _ (c .before .before .before .before .before .before .before .before .before .before .before .before .before .before .before .before .before .before .before .before .if3 .left))
-    (lengths-tested _ _ w (c .before .before .before .before .before .before .before .before .before .before .before .before .before .before .before .before .before .before .before .narrow .ensures) (c .before .before .before .before .before .before .before .before .before .before .before .before .before .before .before .before .before .before .lengths-right .ensures) ∙ not-false _ (c .before .before .before .before .before .before .before .before .before .before .before .before .before .before .before .before .before .if4 .left)))
-    (rw (c .before .before .before .before .before .before .before .before .before .before .before .before .before .before .before .before .before .before .before .narrow .ensures) at (c .before .before .before .before .before .before .before .before .before .before .lay-out .ensures))
+    (format-accepted (x .core) w _ (sym (c .before .before .before .before .before .before .before .before .before .before .before .before .before .before .before .before .before .before .before .before .before .before .before .before .before .before .before .before .before .is-shut .ensures) ∙ not-false _ (c .before .before .before .before .before .before .before .before .before .before .before .before .before .before .before .before .before .before .before .before .before .before .before .before .before .before .before .before .if1 .left)) (omega (arith, c .before .before .before .before .before .before .before .before .before .before .before .before .before .before .before .before .before .before .before .before .before .before .before .before .before .before .before .if2 .left)) (sym (c .before .before .before .before .before .before .before .before .before .before .before .before .before .before .before .before .before .before .before .before .before .before .before .before .before .before .in-bounds .ensures) ∙ not-false _ (c .before .before .before .before .before .before .before .before .before .before .before .before .before .before .before .before .before .before .before .before .before .before .before .before .before .if3 .left))
+    (lengths-tested _ _ w (c .before .before .before .before .before .before .before .before .before .before .before .before .before .before .before .before .before .before .before .before .before .before .before .before .narrow .ensures) (c .before .before .before .before .before .before .before .before .before .before .before .before .before .before .before .before .before .before .before .before .before .before .before .lengths-right .ensures) ∙ not-false _ (c .before .before .before .before .before .before .before .before .before .before .before .before .before .before .before .before .before .before .before .before .before .before .if4 .left)))
+    (rw (c .before .before .before .before .before .before .before .before .before .before .before .before .before .before .before .before .before .before .before .before .before .before .before .before .narrow .ensures) at
+    (lay-whole _ (c .before .before .before .before .before .before .before .before .before .before .before .before .before .before .before .store-devices .ensures (x .pages .now) (x .work .now)) (not-false _ (c .before .before .before .before .before .before .before .before .if5 .left)) (c .before .before .before .before .before .make-fresh .ensures _ _ _ _) (c .before .before .before .before .before .before .before .before .before .before .before .before .before .before .before .before .before .before .before .before .open-core .ensures) (c .settle2 .ensures)))
 
 pub format-spec : {M : Type 1} → statement M
 format-spec =
@@ -118,10 +154,18 @@ format-spec =
     lengths-right-requires
     refuse-requires-4
     returns-4
-    lay-out-requires
+    open-core-requires
+    store-devices-requires
+    settle-requires
     same-length
     same-length-2
     same-length-3
+    returns-5
+    make-fresh-requires
+    settle-requires-2
     same-length-4
     same-length-5
-    returns-5)
+    same-length-6
+    same-length-7
+    same-length-8
+    returns-6)

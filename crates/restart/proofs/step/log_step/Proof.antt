@@ -1,16 +1,22 @@
 -- `restart::step::log_step` meets its contract: by the record at the next position, and by its transaction's fate. Assumes nothing.
-use mathlib.Core.Path.{refl, sym, _∙_}
+use mathlib.Core.Path.{_≡_, refl, sym, _∙_}
+use mathlib.Core.Logic.{_⊎_, inl, inr}
 use mathlib.Core.List.{[]}
+use Prim.Native.Nat.{ℕ}
 use native.Mathlib.Omega.{arith}
 use borrow.Author.Needs.{needs}
 use Rattle.model.specs.World.{worldOf}
 use Rattle.model.specs.State.{tailOf}
-use Rattle.model.specs.Record.{inBackup}
 use Rattle.model.specs.Restart.{positionOf, readDisk, nextRecord, fateFrom}
-use Rattle.restart.proofs.Facts.{eight, log-readable, change-fits}
+use Rattle.restart.proofs.Facts.{eight, tail-low, log-readable, slot-place, slot-fits, difference-ends}
 use Rattle.restart.proofs.Stepping.{step-none, step-malformed, step-close, step-unreadable, step-change}
 use Rattle.restart.proofs.step.log_step.Statement.{statement}
 use Rattle.restart.proofs.step.log_step.Tie as tie
+
+-- the search ahead meets no malformed record
+not-told : {m : ℕ} → (m ≡ 0) ⊎ (m ≡ 1) → m ≡ 2 → ⊥
+not-told (inl e) z = omega arith
+not-told (inr e) z = omega arith
 
 mul-tail : tie.Need-mul-tail
 mul-tail c = let few = eight (c .before .before .before .before .before .pre) in omega arith
@@ -73,60 +79,11 @@ enum-known-fate c = search needs
 refuse-at-requires-2 : tie.Need-refuse-at-requires-2
 refuse-at-requires-2 c κs = search needs
 
-enum-told-2 : tie.Need-enum-told-2
-enum-told-2 c = search needs
-
-take-change-requires : tie.Need-take-change-requires
-unfolding nextRecord readDisk positionOf tailOf
-take-change-requires c κs =
-    let at-here2 = c .before .before .before .before .before .before in
-    let at-decode-at = at-here2 .before .before in
-    let start = at-decode-at .before .before .before .before .before .before .before .before in
-    (start .pre, change-fits (start .pre) (worldOf [] [] [] _ []) (sym (at-decode-at .decode-at .ensures) ∙ at-here2 .here2 .given .1))
-
-move-on-requires-2 : tie.Need-move-on-requires-2
-move-on-requires-2 c κs = eight (c .before .before .before .before .before .before .before .before .before .before .before .before .before .before .before .before .before .before .before .pre)
-
-enum-told-3 : tie.Need-enum-told-3
-enum-told-3 c = search needs
-
-take-change-requires-2 : tie.Need-take-change-requires-2
-unfolding nextRecord readDisk positionOf tailOf
-take-change-requires-2 c κs =
-    let at-here2 = c .before .before .before .before .before .before in
-    let at-decode-at = at-here2 .before .before in
-    let start = at-decode-at .before .before .before .before .before .before .before .before in
-    (start .pre, change-fits (start .pre) (worldOf [] [] [] _ []) (sym (at-decode-at .decode-at .ensures) ∙ at-here2 .here2 .given .1))
-
-move-on-requires-3 : tie.Need-move-on-requires-3
-move-on-requires-3 c κs = eight (c .before .before .before .before .before .before .before .before .before .before .before .before .before .before .before .before .before .before .before .pre)
-
 returns-2 : tie.Need-returns-2
-unfolding nextRecord readDisk positionOf tailOf
-returns-2 c =
-    let at-decode-at = c .before .before .before in
-    let at-if1 = at-decode-at .before .before in
-    let start = at-if1 .before .before .before .before .before .before in
-    λ anchor backups work.
-    rw (c .refuse-at .ensures)
-    (step-malformed _ _ _ (start .pre .disk-in) (at-if1 .if1 .left) (sym (at-decode-at .decode-at .ensures) ∙ c .before .enum-told .given .1))
-
-returns-3 : tie.Need-returns-3
-unfolding nextRecord readDisk positionOf tailOf
-returns-3 c =
-    let at-here = c .before .before in
-    let at-decode-at = at-here .before .before in
-    let at-if1 = at-decode-at .before .before in
-    let start = at-if1 .before .before .before .before .before .before in
-    λ anchor backups work.
-    rw (c .move-on .ensures)
-    (step-close _ _ _ (start .pre .disk-in) (at-if1 .if1 .left) (sym (at-decode-at .decode-at .ensures) ∙ at-here .here .given .1))
-
-returns-4 : tie.Need-returns-4
 unfolding nextRecord readDisk fateFrom positionOf tailOf
-returns-4 c =
+returns-2 c =
     let at-fate = c .before .before in
-    let at-fate-from = at-fate .before .before .before in
+    let at-fate-from = at-fate .before .before in
     let at-here2 = at-fate-from .before .before in
     let at-decode-at = at-here2 .before .before in
     let at-if1 = at-decode-at .before .before in
@@ -136,41 +93,80 @@ returns-4 c =
     (step-unreadable _ _ _ (start .pre .disk-in) (at-if1 .if1 .left) (sym (at-decode-at .decode-at .ensures) ∙ at-here2 .here2 .given .1)
     (sym (at-fate-from .fate-from .ensures) ∙ at-fate .fate .given .1))
 
+is-replayed-requires : tie.Need-is-replayed-requires
+is-replayed-requires c κs = search needs
+
+slot-base-requires : tie.Need-slot-base-requires
+unfolding nextRecord readDisk positionOf tailOf
+slot-base-requires c κs =
+    let at-here2 = c .before .before .before .before in
+    let at-decode-at = at-here2 .before .before in
+    let start = at-decode-at .before .before .before .before .before .before .before .before in
+    slot-place (start .pre) (worldOf [] [] [] _ []) (sym (at-decode-at .decode-at .ensures) ∙ at-here2 .here2 .given .1)
+
+add-from : tie.Need-add-from
+unfolding nextRecord readDisk positionOf tailOf
+add-from c =
+    let at-here2 = c .before .before .before .before .before in
+    let at-decode-at = at-here2 .before .before in
+    let start = at-decode-at .before .before .before .before .before .before .before .before in
+    let ends = difference-ends (start .pre) (worldOf [] [] [] _ []) (sym (at-decode-at .decode-at .ensures) ∙ at-here2 .here2 .given .1) in
+    omega (arith, ends, tail-low (start .pre))
+
+replay-span-requires : tie.Need-replay-span-requires
+unfolding nextRecord readDisk positionOf tailOf
+replay-span-requires c κs =
+    let at-here2 = c .before .before .before .before .before .before in
+    let at-decode-at = at-here2 .before .before in
+    let start = at-decode-at .before .before .before .before .before .before .before .before in
+    let e = sym (at-decode-at .decode-at .ensures) ∙ at-here2 .here2 .given .1 in (
+      log-readable (start .pre),
+      slot-fits (start .pre) (worldOf [] [] [] _ []) e (c .before .slot-base .ensures .0),
+      difference-ends (start .pre) (worldOf [] [] [] _ []) e,
+    )
+
+move-on-requires-2 : tie.Need-move-on-requires-2
+move-on-requires-2 c κs = eight (c .before .before .before .before .before .before .before .before .before .before .before .before .before .before .before .before .before .before .before .pre)
+
+returns-3 : tie.Need-returns-3
+unfolding nextRecord readDisk positionOf tailOf
+returns-3 c =
+    let at-decode-at = c .before .before .before in
+    let at-if1 = at-decode-at .before .before in
+    let start = at-if1 .before .before .before .before .before .before in
+    λ anchor backups work.
+    rw (c .refuse-at .ensures)
+    (step-malformed _ _ _ (start .pre .disk-in) (at-if1 .if1 .left) (sym (at-decode-at .decode-at .ensures) ∙ c .before .enum-told .given .1))
+
+returns-4 : tie.Need-returns-4
+unfolding nextRecord readDisk positionOf tailOf
+returns-4 c =
+    let at-here = c .before .before in
+    let at-decode-at = at-here .before .before in
+    let at-if1 = at-decode-at .before .before in
+    let start = at-if1 .before .before .before .before .before .before in
+    λ anchor backups work.
+    rw (c .move-on .ensures)
+    (step-close _ _ _ (start .pre .disk-in) (at-if1 .if1 .left) (sym (at-decode-at .decode-at .ensures) ∙ at-here .here .given .1))
+
 same-length : tie.Need-same-length
 same-length c = search needs
 
 returns-5 : tie.Need-returns-5
-unfolding nextRecord readDisk fateFrom positionOf tailOf inBackup
+unfolding nextRecord readDisk fateFrom positionOf tailOf
 returns-5 c =
-    let at-take-change = c .before .before .before in
-    let at-enum-told2 = at-take-change .before .before in
-    let at-fate-from = at-enum-told2 .before .before .before in
-    let at-here2 = at-fate-from .before .before in
+    let at-replay-span = c .before .before .before in
+    let at-slot-base = at-replay-span .before .before in
+    let at-match2 = at-slot-base .before .before in
+    let at-here2 = at-match2 .before .before .before in
     let at-decode-at = at-here2 .before .before in
     let at-if1 = at-decode-at .before .before in
     let start = at-if1 .before .before .before .before .before .before in
     λ anchor backups work.
     rw (c .move-on2 .ensures)
     (step-change _ _ _ (start .pre .disk-in) (at-if1 .if1 .left) (sym (at-decode-at .decode-at .ensures) ∙ at-here2 .here2 .given .1)
-    (sym (at-fate-from .fate-from .ensures) ∙ at-enum-told2 .enum-told2 .given .1) refl refl (at-take-change .take-change .ensures))
-
-same-length-2 : tie.Need-same-length-2
-same-length-2 c = search needs
-
-returns-6 : tie.Need-returns-6
-unfolding nextRecord readDisk fateFrom positionOf tailOf inBackup
-returns-6 c =
-    let at-take-change2 = c .before .before .before in
-    let at-enum-told3 = at-take-change2 .before .before in
-    let at-fate-from = at-enum-told3 .before .before .before in
-    let at-here2 = at-fate-from .before .before in
-    let at-decode-at = at-here2 .before .before in
-    let at-if1 = at-decode-at .before .before in
-    let start = at-if1 .before .before .before .before .before .before in
-    λ anchor backups work.
-    rw (c .move-on3 .ensures)
-    (step-change _ _ _ (start .pre .disk-in) (at-if1 .if1 .left) (sym (at-decode-at .decode-at .ensures) ∙ at-here2 .here2 .given .1)
-    (sym (at-fate-from .fate-from .ensures) ∙ at-enum-told3 .enum-told3 .given .1) refl refl (at-take-change2 .take-change2 .ensures))
+    (sym (at-match2 .before .fate-from .ensures)) (λ p x. not-told (rw x at (at-match2 .match2 .keys2)) refl) (at-slot-base .before .is-replayed .ensures)
+    (rw (at-slot-base .slot-base .ensures .0) at (at-replay-span .replay-span .ensures)))
 
 pub log-step-spec : {M : Type 1} → statement M
 log-step-spec =
@@ -194,16 +190,13 @@ log-step-spec =
     fate-from-requires
     enum-known-fate
     refuse-at-requires-2
-    enum-told-2
-    take-change-requires
-    move-on-requires-2
-    enum-told-3
-    take-change-requires-2
-    move-on-requires-3
     returns-2
+    is-replayed-requires
+    slot-base-requires
+    add-from
+    replay-span-requires
+    move-on-requires-2
     returns-3
     returns-4
     same-length
-    returns-5
-    same-length-2
-    returns-6)
+    returns-5)
