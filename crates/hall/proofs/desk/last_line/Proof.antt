@@ -5,7 +5,9 @@ use Rattle.hall.proofs.desk.last_line.Statement.{statement}
 use Rattle.hall.proofs.desk.last_line.Tie as tie
 
 take-line-requires : tie.Need-take-line-requires
-take-line-requires c κs = search needs
+take-line-requires c κs =
+    let s = c .before .before .before .before .before .before .before .before .before .before .before .before .before .pre in
+    (s .0, s .1 .holds)
 
 same-length : tie.Need-same-length
 same-length c = search needs
