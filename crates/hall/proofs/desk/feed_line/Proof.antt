@@ -18,7 +18,7 @@ part-line-length-end : tie.Need-part-line-length-end
 part-line-length-end c = search needs
 
 line-length-requires : tie.Need-line-length-requires
-line-length-requires c κs = search needs
+line-length-requires c κs = tt
 
 add-end : tie.Need-add-end
 add-end c = search needs
@@ -33,7 +33,7 @@ part-read-piece-end : tie.Need-part-read-piece-end
 part-read-piece-end c = search needs
 
 read-piece-requires : tie.Need-read-piece-requires
-read-piece-requires c κs = search needs
+read-piece-requires c κs = tt
 
 add-next : tie.Need-add-next
 add-next c = search needs
@@ -47,22 +47,22 @@ take-line-requires c κs =
     (_, piece-read _ _ _ (s .0) (s .1 .holds) (take (a .at + n - a .at) (drop (a .at) (a .bytes .now))) _ (c .before .before .before .before .before .before .before .before .before .read-piece .ensures))
 
 same-length : tie.Need-same-length
-same-length c = search needs
+same-length c = c .before .before .before .before .before .before .before .before .before .before .before .anchor .given
 
 same-length-2 : tie.Need-same-length-2
-same-length-2 c = search needs
+same-length-2 c = c .before .before .before .before .before .before .before .before .before .pages .given
 
 same-length-3 : tie.Need-same-length-3
-same-length-3 c = search needs
+same-length-3 c = c .before .before .before .before .before .before .before .backups .given
 
 same-length-4 : tie.Need-same-length-4
-same-length-4 c = search needs
+same-length-4 c = c .before .before .before .before .before .logs .given
 
 same-length-5 : tie.Need-same-length-5
-same-length-5 c = search needs
+same-length-5 c = c .before .before .before .work .given
 
 same-length-6 : tie.Need-same-length-6
-same-length-6 c = search needs
+same-length-6 c = c .before .out .given
 
 returns : tie.Need-returns
 returns c =
