@@ -10,12 +10,18 @@ use Rattle.model.specs.declared.Answer.the-variants.{Finished, Refused, Interru
 use Rattle.model.specs.World.{World}
 use Rattle.model.specs.Refusal.{Result}
 use Rattle.model.specs.Restart.{remaining}
-use Rattle.model.specs.Call.{restartStep, restartEnd, resultOf}
+use Rattle.model.specs.Call.{restartBegin, restartStep, restartEnd, resultOf}
 use Rattle.model.proofs.Booleans.{true-false}
 use Rattle.commands.specs.declared.outcome.Outcome.{Outcome}
 use Rattle.commands.specs.Shown.{valueIn, shownOf}
-use Rattle.commands.specs.Restarting.{isFinished, stepped, replayedAll, restartedAll}
+use Rattle.commands.specs.Restarting.{isFinished, stepped, toEnd, replayedAll, restartedAll}
 use Rattle.commands.specs.Meaning.{Line, showingOwn}
+
+-- one source after the other
+pub replayed-through : (c : Core) (w : World) {begun first second all : Result} → begun ≡ resultOf restartBegin c w → first ≡ toEnd 0 begun
+    → second ≡ toEnd 1 first → all ≡ toEnd 2 second → all ≡ replayedAll c w
+unfolding replayedAll
+replayed-through c w b f s a = rw (← b, ← f, ← s) a
 
 module _ (source : ℕ) (r : Result) where
   pub stepped-refused : (n : ℕ) → isFinished (r .answer) ≡ false → stepped n source r ≡ r

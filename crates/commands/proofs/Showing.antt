@@ -4,6 +4,7 @@ use Prim.Native.Nat.{ℕ}
 use mathlib.Core.List.{List, [], _∷_}
 use native.Mathlib.Omega.{arith}
 use lib.ListN.{length, getD}
+use lib.Bits.{bitXor}
 use Rattle.model.specs.declared.Core.{Core}
 use Rattle.model.specs.declared.Answer.{Answer}
 use Rattle.model.specs.declared.Answer.the-variants.{Finished, Refused, Interrupted}
@@ -17,6 +18,11 @@ module _ (k : Call) (c : Core) (w v : World) (left : ℕ) (answer : Answer) (cor
   pub shows : (value : ℕ) → outcome ≡ shownOf answer value → record { outcome = outcome; core = next; world = v } ≡ showing value (resultOf k c w)
   unfolding Gives
   shows value e = rw (e, same) (ap (showing value) gives)
+
+  -- the value is a difference
+  pub shows-difference : {before word : ℕ} (value : ℕ) → before ≡ word → outcome ≡ shownOf answer (bitXor before value)
+      → record { outcome = outcome; core = next; world = v } ≡ showing (bitXor word value) (resultOf k c w)
+  shows-difference {before} {word} value same e = shows (bitXor word value) (rw same at e)
 
   -- the value is the one answered
   pub shows-own : outcome ≡ shownOf answer (valueIn answer) → record { outcome = outcome; core = next; world = v } ≡ showingOwn (resultOf k c w)

@@ -6,6 +6,7 @@ use crate::outcome::Done;
 use crate::outcome::OTHER;
 use crate::outcome::Outcome;
 use crate::restarts::run_restart;
+use crate::transactions::Seen;
 use crate::transactions::run_abort;
 use crate::transactions::run_begin;
 use crate::transactions::run_commit;
@@ -47,32 +48,17 @@ pub fn run(
             page,
             slot,
             value,
-        } => run_set(
-            state,
-            number,
-            page,
-            slot,
-            value,
-            anchor,
-            pages,
-            backups,
-            logs,
-            work,
-        ),
+        } => {
+            let seen = Seen { number, page, slot };
+            run_set(state, seen, value, anchor, pages, backups, logs, work)
+        }
         Command::Commit { number, allowance } => {
             run_commit(state, number, allowance, anchor, pages, backups, logs, work)
         }
         Command::Abort { number } => run_abort(state, number, anchor, pages, backups, logs, work),
-        Command::Get { page, slot } => run_get(
-            state,
-            page,
-            slot,
-            anchor,
-            pages,
-            backups,
-            logs,
-            work,
-        ),
+        Command::Get { page, slot } => {
+            run_get(state, page, slot, anchor, pages, backups, logs, work)
+        }
         Command::Mark => run_mark(state, anchor, pages, backups, logs, work),
         Command::Copy => run_copy(state, anchor, pages, backups, logs, work),
         Command::Close => run_close(state, anchor, pages, backups, logs, work),

@@ -26,25 +26,30 @@ pub fn run_begin(
     settled(called, value)
 }
 
-// The word of a one-word slot as its reader sees it; 0 where the read is refused.
+// A slot, and the number of the transaction that sees it; 0 has no transaction.
+pub struct Seen {
+    pub number: u64,
+    pub page: u64,
+    pub slot: u64,
+}
+
+// The word of a one-word slot as it is seen; 0 where the read is refused.
 fn slot_word(
     state: State,
-    reader: u64,
-    page: u64,
-    slot: u64,
+    seen: Seen,
     anchor: &[u64],
     pages: &[u64],
     backups: &[u64],
     logs: &[u64],
     work: &[u64],
 ) -> u64
-    ensures { λ r. ⌜ r ≡ slotWord (state .core) (worldOf (now (anchor .entry)) (now (pages .entry)) (now (backups .entry)) (now (logs .entry)) (now (work .entry))) reader page slot ⌝ }
+    ensures { λ r. ⌜ r ≡ slotWord (state .core) (worldOf (now (anchor .entry)) (now (pages .entry)) (now (backups .entry)) (now (logs .entry)) (now (work .entry))) (seen .number) (seen .page) (seen .slot) ⌝ }
 {
     let words = store::transactions::read(
         state,
-        reader,
-        page,
-        slot,
+        seen.number,
+        seen.page,
+        seen.slot,
         anchor,
         pages,
         backups,
@@ -60,9 +65,7 @@ fn slot_word(
 // The value shown is the difference: before, as the transaction reads it, XOR after.
 pub fn run_set(
     state: State,
-    number: u64,
-    page: u64,
-    slot: u64,
+    seen: Seen,
     value: u64,
     anchor: &[u64],
     pages: &mut [u64],
@@ -70,26 +73,16 @@ pub fn run_set(
     logs: &mut [u64],
     work: &mut [u64],
 ) -> Done
-    ensures { λ r. ⌜ Runs (Set number page slot value) (state .core) (worldOf (now (anchor .entry)) (now (pages .entry)) (now (backups .entry)) (now (logs .entry)) (now (work .entry))) r (worldOf (now (anchor .entry)) (now (pages .exit)) (now (backups .entry)) (now (logs .exit)) (now (work .exit))) ⌝ }
+    ensures { λ r. ⌜ Runs (Set (seen .number) (seen .page) (seen .slot) value) (state .core) (worldOf (now (anchor .entry)) (now (pages .entry)) (now (backups .entry)) (now (logs .entry)) (now (work .entry))) r (worldOf (now (anchor .entry)) (now (pages .exit)) (now (backups .entry)) (now (logs .exit)) (now (work .exit))) ⌝ }
 {
-    let before = slot_word(
-        state,
-        number,
-        page,
-        slot,
-        anchor,
-        pages,
-        backups,
-        logs,
-        work,
-    );
+    let before = slot_word(state, seen, anchor, pages, backups, logs, work);
     let after = [value];
     let mut budget = u64::MAX;
     let called = store::transactions::update(
         state,
-        number,
-        page,
-        slot,
+        seen.number,
+        seen.page,
+        seen.slot,
         &after,
         anchor,
         pages,
@@ -152,7 +145,6 @@ pub fn run_abort(
     settled(called, 0)
 }
 
-// Reader 0 has no transaction.
 pub fn run_get(
     state: State,
     page: u64,
@@ -165,7 +157,12 @@ pub fn run_get(
 ) -> Done
     ensures { λ r. ⌜ Runs (Get page slot) (state .core) (worldOf (now (anchor .entry)) (now (pages .entry)) (now (backups .entry)) (now (logs .entry)) (now (work .entry))) r (worldOf (now (anchor .entry)) (now (pages .entry)) (now (backups .entry)) (now (logs .entry)) (now (work .entry))) ⌝ }
 {
-    let word = slot_word(state, 0, page, slot, anchor, pages, backups, logs, work);
+    let seen = Seen {
+        number: 0,
+        page,
+        slot,
+    };
+    let word = slot_word(state, seen, anchor, pages, backups, logs, work);
     let answer = store::transactions::read_answer(
         state,
         0,

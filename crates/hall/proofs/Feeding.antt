@@ -18,6 +18,10 @@ unfolding fed
 fed-append room p [] b = refl
 fed-append room p (x ∷ a) b = fed-append room (cond (eqb x 10) (lineTaken room p) (withRead p (x ∷ []))) a b
 
+-- more of the input
+pub fed-more : (room : ℕ) {now : ℕ} (p : Program) (a b : List ℕ) → now ≡ room → fed now (fed room p a) b ≡ fed room p (a ++ b)
+fed-more room p a b e = rw e (sym (fed-append room p a b))
+
 none-read : (p : Program) → withRead p [] ≡ p
 unfolding withRead
 none-read p = rw (append-nil (p .read))

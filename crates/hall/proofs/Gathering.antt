@@ -20,24 +20,28 @@ byte-added out front text fill i room inside e =
     let k : fill + (i + 1) ≡ suc (fill + i) = omega arith in
     rw (k, add-one i, take-suc-set out (fill + i) (getD text i 0) room, take-suc text i 0 inside, e, append-assoc)
 
--- A line's text, at the end of a buffer of its own; in front of it is kept what leaves it room.
-pub line-gathered : (out after buffer shown : List ℕ) (at fill free r : ℕ) → drop at buffer ≡ shown → length buffer ≤ 84
-    → 84 ≤ length out → fill ≤ length out → free ≡ cond (leb 84 (length out - fill)) fill 0
-    → (free + length (take (84 - at) (drop at buffer)) ≤ length out
-    → (r ≡ free + length (take (84 - at) (drop at buffer))) × (take r after ≡ take free out ++ take (84 - at) (drop at buffer)))
-    → (r ≤ length out) × (take r after ≡ gathered (length out) (take fill out) shown)
-unfolding gathered
-line-gathered out after buffer shown at fill free r same small room inside kept added =
-    let whole : take (84 - at) (drop at buffer) ≡ shown = rest-whole buffer at 84 small ∙ same in
-    let short : length shown ≤ 84 = rw (← same, length-drop) (omega arith) in
-    rw (length-take-le fill out inside) (go (leb 84 (length out - fill)) refl short kept (rw whole at added))
+-- What is kept in front leaves room for a line.
+pub room-left : (room fill free n : ℕ) → (84 ≤ room) × (fill ≤ room) → free ≡ cond (leb 84 (room - fill)) fill 0 → n ≤ 84 → free + n ≤ room
+room-left room fill free n inside kept short = go (leb 84 (room - fill)) refl kept
   where
-    go : (b : Bool) → leb 84 (length out - fill) ≡ b → length shown ≤ 84 → free ≡ cond b fill 0
-        → (free + length shown ≤ length out → (r ≡ free + length shown) × (take r after ≡ take free out ++ shown))
-        → (r ≤ length out) × (take r after ≡ cond b (take fill out) [] ++ shown)
-    go true e short k added =
-        let a = added (omega (arith, leb-true 84 (length out - fill) e)) in
-        (omega (arith, a .0, leb-true 84 (length out - fill) e), rw k at (a .1))
-    go false e short k added =
-        let a = added (omega arith) in
-        (omega (arith, a .0), rw k at (a .1))
+    go : (b : Bool) → leb 84 (room - fill) ≡ b → free ≡ cond b fill 0 → free + n ≤ room
+    go true e k = omega (arith, leb-true 84 (room - fill) e)
+    go false e k = omega arith
+
+-- A line's text, at the end of a buffer of its own.
+module _ (buffer : List ℕ) (at : ℕ) (small : length buffer ≤ 84) where
+  pub text-short : length (take (84 - at) (drop at buffer)) ≤ 84
+  text-short = rw (rest-whole buffer at 84 small, length-drop) (omega arith)
+
+  pub line-gathered : (out shown : List ℕ) (fill free : ℕ) {waiting : List ℕ} → drop at buffer ≡ shown → fill ≤ length out
+      → free ≡ cond (leb 84 (length out - fill)) fill 0
+      → waiting ≡ take free out ++ take (84 - at) (drop at buffer)
+      → waiting ≡ gathered (length out) (take fill out) shown
+  unfolding gathered
+  line-gathered out shown fill free {waiting} same inside kept added =
+      let whole : take (84 - at) (drop at buffer) ≡ shown = rest-whole buffer at 84 small ∙ same in
+      rw (length-take-le fill out inside) (go (leb 84 (length out - fill)) kept (rw whole at added))
+    where
+      go : (b : Bool) → free ≡ cond b fill 0 → waiting ≡ take free out ++ shown → waiting ≡ cond b (take fill out) [] ++ shown
+      go true k added = rw k at added
+      go false k added = rw k at added

@@ -26,8 +26,7 @@ module _ (d : Desk) (w : World) (out : List ℕ) (p : Program) (h : Holds d w ou
       → Runs command (d .state .core) w done v
       → line ≡ oneMore (d .line)
       → tally ≡ counted (d .tally) (done .outcome .answer)
-      → (84 ≤ length out → d .fill ≤ length out
-      → (fill ≤ length out) × (take fill after ≡ gathered (length out) (take (d .fill) out) (textOf line (done .outcome))))
+      → (fill ≤ length out) × (take fill after ≡ gathered (length out) (take (d .fill) out) (textOf line (done .outcome)))
       → length after ≡ length out
       → ((l : List ℕ) → commandAfter fresh l ≡ commandOf l)
       → Stands (record { state = done .state; tally = tally; line = line; partial = fresh; begun = false; fill = fill }) v after (lineTaken (length out) p)
@@ -37,7 +36,6 @@ module _ (d : Desk) (w : World) (out : List ℕ) (p : Program) (h : Holds d w ou
       let l : record { outcome = done .outcome; core = done .state .core; world = v } ≡ lineOf (commandOf (p .read)) (p .core) (p .world) =
       rw (same, h .core, h .world) at runs in
       let shown : done .outcome ≡ lineOf (commandOf (p .read)) (p .core) (p .world) .outcome = ap (λ (x : Line). x .outcome) l in
-      let text = added (h .room) (h .inside) in
       record {
         holds =
             record {
@@ -47,8 +45,8 @@ module _ (d : Desk) (w : World) (out : List ℕ) (p : Program) (h : Holds d w ou
               line = numbered ∙ ap oneMore (h .line);
               read = starts;
               room = rw length-kept (h .room);
-              inside = rw length-kept (text .0);
-              waiting = rw (h .waiting, numbered, h .line, shown) at (text .1);
+              inside = rw length-kept (added .0);
+              waiting = rw (h .waiting, numbered, h .line, shown) at (added .1);
             };
         begun = refl;
       }
@@ -81,11 +79,10 @@ has-begun p piece some = go (p .read) piece some
 
 -- before the first line nothing is read, and the heading waits
 pub desk-opened : (state : State) (w : World) (out after : List ℕ) {fill : ℕ} {fresh : Partial} → 84 ≤ length out → length after ≡ length out
-    → (0 + length heading ≤ length out → (fill ≡ 0 + length heading) × (take fill after ≡ take 0 out ++ heading))
+    → (fill ≡ 0 + length heading) × (take fill after ≡ take 0 out ++ heading)
     → ((l : List ℕ) → commandAfter fresh l ≡ commandOf l)
     → Stands (record { state = state; tally = record { taken = 0; refused = 0; cut = 0 }; line = 0; partial = fresh; begun = false; fill = fill }) w after (started (state .core) w)
 desk-opened state w out after large length-kept added fresh =
-    let text = added (omega arith) in
     record {
       holds =
           record {
@@ -95,8 +92,8 @@ desk-opened state w out after large length-kept added fresh =
             line = refl;
             read = fresh;
             room = rw length-kept large;
-            inside = rw length-kept (omega (arith, text .0));
-            waiting = text .1;
+            inside = rw length-kept (omega (arith, added .0));
+            waiting = added .1;
           };
       begun = refl;
     }

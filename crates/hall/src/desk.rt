@@ -38,6 +38,7 @@ pub fn take_line(
     work: &mut [u64],
     out: &mut [u8],
 ) -> Desk
+    requires { ⌜ ((p : Program) × Holds desk (worldOf (now anchor) (now pages) (now backups) (now logs) (now work)) (now out) p) ⌝ }
     ensures { λ r. ⌜ ((p : Program) → Holds desk (worldOf (now (anchor .entry)) (now (pages .entry)) (now (backups .entry)) (now (logs .entry)) (now (work .entry))) (now (out .entry)) p → Stands r (worldOf (now (anchor .exit)) (now (pages .exit)) (now (backups .exit)) (now (logs .exit)) (now (work .exit))) (now (out .exit)) (lineTaken (length (now (out .entry))) p)) ⌝ }
 {
     let command = command_of(desk.partial);
@@ -77,6 +78,7 @@ fn feed_line(
     out: &mut [u8],
 ) -> Step
     requires { ⌜ at < length (now bytes) ⌝ }
+    requires { ⌜ ((p : Program) × Stands desk (worldOf (now anchor) (now pages) (now backups) (now logs) (now work)) (now out) p) ⌝ }
     ensures { λ r. ⌜ (at < r .next) × (r .next ≤ length (now (bytes .entry))) ⌝ }
     ensures { λ r. ⌜ ((p : Program) → Stands desk (worldOf (now (anchor .entry)) (now (pages .entry)) (now (backups .entry)) (now (logs .entry)) (now (work .entry))) (now (out .entry)) p → (q : Program) × Stands (r .desk) (worldOf (now (anchor .exit)) (now (pages .exit)) (now (backups .exit)) (now (logs .exit)) (now (work .exit))) (now (out .exit)) q × (fed (length (now (out .entry))) q (drop (r .next) (now (bytes .entry))) ≡ fed (length (now (out .entry))) p (drop at (now (bytes .entry))))) ⌝ }
 {
@@ -110,6 +112,7 @@ pub fn feed(
     work: &mut [u64],
     out: &mut [u8],
 ) -> Desk
+    requires { ⌜ ((p : Program) × Stands desk (worldOf (now anchor) (now pages) (now backups) (now logs) (now work)) (now out) p) ⌝ }
     ensures { λ r. ⌜ ((p : Program) → Stands desk (worldOf (now (anchor .entry)) (now (pages .entry)) (now (backups .entry)) (now (logs .entry)) (now (work .entry))) (now (out .entry)) p → Stands r (worldOf (now (anchor .exit)) (now (pages .exit)) (now (backups .exit)) (now (logs .exit)) (now (work .exit))) (now (out .exit)) (fed (length (now (out .entry))) p (now (bytes .entry)))) ⌝ }
 {
     let mut d = desk;
@@ -132,6 +135,7 @@ pub fn last_line(
     work: &mut [u64],
     out: &mut [u8],
 ) -> Desk
+    requires { ⌜ ((p : Program) × Stands desk (worldOf (now anchor) (now pages) (now backups) (now logs) (now work)) (now out) p) ⌝ }
     ensures { λ r. ⌜ ((p : Program) → Stands desk (worldOf (now (anchor .entry)) (now (pages .entry)) (now (backups .entry)) (now (logs .entry)) (now (work .entry))) (now (out .entry)) p → Stands r (worldOf (now (anchor .exit)) (now (pages .exit)) (now (backups .exit)) (now (logs .exit)) (now (work .exit))) (now (out .exit)) (ended (length (now (out .entry))) p)) ⌝ }
 {
     if desk.begun {

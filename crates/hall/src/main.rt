@@ -12,10 +12,11 @@ use lines::text::put_tally;
 use output::add;
 use output::flush;
 use store::State;
-ghost use Prim.Native.Nat.{_≤_};
+ghost use Prim.Native.Nat.{ℕ, _≤_};
+ghost use mathlib.Core.List.{List};
 ghost use lib.ListN.{length};
-ghost use Rattle.model.specs.World.{World};
-ghost use Rattle.hall.specs.Running.{started};
+ghost use Rattle.model.specs.World.{World, worldOf};
+ghost use Rattle.hall.specs.Running.{Program, started, fed};
 ghost use Rattle.hall.specs.Held.{Stands};
 
 // A formatted store.
@@ -52,7 +53,8 @@ fn formatted(
 
 // The desk before the first line, with the heading in the buffer.
 fn opened(state: State, out: &mut [u8]) -> Desk
-    ensures { λ r. ⌜ (84 ≤ length (now (out .entry)) → (w : World) → Stands r w (now (out .exit)) (started (state .core) w)) ⌝ }
+    requires { ⌜ 84 ≤ length (now out) ⌝ }
+    ensures { λ r. ⌜ ((w : World) → Stands r w (now (out .exit)) (started (state .core) w)) ⌝ }
 {
     let fill = add(out, 0, b"line answer stores value\n");
     let tally = Tally {
@@ -77,7 +79,7 @@ struct Served {
     more: bool,
 }
 
-// Reads once, and takes in what came.
+// Reads once, and takes in what came: some bytes.
 fn serve_some(
     desk: Desk,
     anchor: &mut [u64],
@@ -86,7 +88,10 @@ fn serve_some(
     logs: &mut [u64],
     work: &mut [u64],
     out: &mut [u8],
-) -> Served {
+) -> Served
+    requires { ⌜ ((p : Program) × Stands desk (worldOf (now anchor) (now pages) (now backups) (now logs) (now work)) (now out) p) ⌝ }
+    ensures { λ r. ⌜ ((p : Program) → Stands desk (worldOf (now (anchor .entry)) (now (pages .entry)) (now (backups .entry)) (now (logs .entry)) (now (work .entry))) (now (out .entry)) p → (input : List ℕ) × Stands (r .desk) (worldOf (now (anchor .exit)) (now (pages .exit)) (now (backups .exit)) (now (logs .exit)) (now (work .exit))) (now (out .exit)) (fed (length (now (out .entry))) p input)) ⌝ }
+{
     let mut input = io::large_buffer();
     let got = libc::read(STDIN_FILENO, &mut input);
     let n = io::count(got, &input);
@@ -106,7 +111,10 @@ fn serve(
     logs: &mut [u64],
     work: &mut [u64],
     out: &mut [u8],
-) -> Desk {
+) -> Desk
+    requires { ⌜ ((p : Program) × Stands desk (worldOf (now anchor) (now pages) (now backups) (now logs) (now work)) (now out) p) ⌝ }
+    ensures { λ r. ⌜ ((p : Program) → Stands desk (worldOf (now (anchor .entry)) (now (pages .entry)) (now (backups .entry)) (now (logs .entry)) (now (work .entry))) (now (out .entry)) p → (input : List ℕ) × Stands r (worldOf (now (anchor .exit)) (now (pages .exit)) (now (backups .exit)) (now (logs .exit)) (now (work .exit))) (now (out .exit)) (fed (length (now (out .entry))) p input)) ⌝ }
+{
     let mut d = desk;
     let mut turns = u64::MAX;
     while 0 < turns {
@@ -122,7 +130,9 @@ fn serve(
 }
 
 // Writes out the rest, and the tally.
-fn close(desk: Desk, out: &[u8]) {
+fn close(desk: Desk, out: &[u8])
+    requires { ⌜ desk .fill ≤ length (now out) ⌝ }
+{
     flush(out, desk.fill);
     let tally = desk.tally;
     let mut text = [0u8; 84];

@@ -16,23 +16,18 @@ ghost use Rattle.hall.specs.Running.{textOf, gathered};
 pub const LINE: usize = 84;
 
 // Writes out what has gathered.
-pub fn flush(out: &[u8], fill: usize) {
-    if fill <= out.len() {
-        io::write_all(STDOUT_FILENO, &out[..fill]);
-    }
+pub fn flush(out: &[u8], fill: usize)
+    requires { ⌜ fill ≤ length (now out) ⌝ }
+{
+    io::write_all(STDOUT_FILENO, &out[..fill]);
 }
 
-// Adds a text, if it fits; answers the new fill.
+// Adds a text; answers the new fill.
 pub fn add(out: &mut [u8], fill: usize, text: &[u8]) -> usize
-    ensures { λ r. ⌜ (fill + length (now (text .entry)) ≤ length (now (out .entry)) → (r ≡ fill + length (now (text .entry))) × (take r (now (out .exit)) ≡ take fill (now (out .entry)) ++ now (text .entry))) ⌝ }
+    requires { ⌜ fill + length (now text) ≤ length (now out) ⌝ }
+    ensures { λ r. ⌜ r ≡ fill + length (now (text .entry)) ⌝ }
+    ensures { λ r. ⌜ take r (now (out .exit)) ≡ take fill (now (out .entry)) ++ now (text .entry) ⌝ }
 {
-    let room = out.len();
-    if room < fill {
-        return fill;
-    }
-    if room - fill < text.len() {
-        return fill;
-    }
     let n = text.len();
     let mut i = 0;
     while i < n {
@@ -44,11 +39,9 @@ pub fn add(out: &mut [u8], fill: usize, text: &[u8]) -> usize
 
 // Makes room for a line; answers how many bytes are kept.
 fn with_room(out: &[u8], fill: usize) -> usize
-    ensures { λ r. ⌜ (fill ≤ length (now (out .entry)) → r ≡ cond (leb 84 (length (now (out .entry)) - fill)) fill 0) ⌝ }
+    requires { ⌜ fill ≤ length (now out) ⌝ }
+    ensures { λ r. ⌜ r ≡ cond (leb 84 (length (now (out .entry)) - fill)) fill 0 ⌝ }
 {
-    if out.len() < fill {
-        return 0;
-    }
     if LINE <= out.len() - fill {
         return fill;
     }
@@ -71,7 +64,9 @@ fn text_of(text: &mut [u8], line: u64, outcome: Outcome) -> usize
 
 // Adds an outcome's line; answers the new fill.
 pub fn add_line(out: &mut [u8], fill: usize, line: u64, outcome: Outcome) -> usize
-    ensures { λ r. ⌜ (84 ≤ length (now (out .entry)) → fill ≤ length (now (out .entry)) → (r ≤ length (now (out .entry))) × (take r (now (out .exit)) ≡ gathered (length (now (out .entry))) (take fill (now (out .entry))) (textOf line outcome))) ⌝ }
+    requires { ⌜ (84 ≤ length (now out)) × (fill ≤ length (now out)) ⌝ }
+    ensures { λ r. ⌜ r ≤ length (now (out .entry)) ⌝ }
+    ensures { λ r. ⌜ take r (now (out .exit)) ≡ gathered (length (now (out .entry))) (take fill (now (out .entry))) (textOf line outcome) ⌝ }
 {
     let mut text = [0u8; 84];
     let at = text_of(&mut text, line, outcome);

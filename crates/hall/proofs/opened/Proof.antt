@@ -19,7 +19,8 @@ same-length c = search needs
 returns : tie.Need-returns
 returns c =
     let add = c .before .before .before in
-    λ large w. desk-opened _ w (add .before .before .before .before .args .out .now) _ large (c .before .before .out .given) (add .add .ensures) (c .start .ensures)
+    let start = add .before .before .before .before in
+    λ w. desk-opened _ w (start .args .out .now) _ (start .pre) (c .before .before .out .given) (add .add .ensures) (c .start .ensures)
 
 pub opened-spec : {M : Type 1} → statement M
 opened-spec = tie.close (tie.spec slice-aggregate-add add-requires start-requires same-length returns)

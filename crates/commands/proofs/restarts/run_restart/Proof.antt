@@ -1,7 +1,6 @@
 -- `commands::restarts::run_restart` meets its contract: it ends where the replay was refused, or with the end of the restart.
-use borrow.Author.Needs.{needs}
 use borrow.Author.Tests.{not-true, not-false}
-use mathlib.Core.Path.{sym, _∙_}
+use mathlib.Core.Path.{refl, sym, _∙_}
 use Rattle.commands.specs.Meaning.{lineOf}
 use Rattle.commands.proofs.Showing.{shows-own}
 use Rattle.commands.proofs.Replaying.{restart-refused, restart-ended}
@@ -9,25 +8,25 @@ use Rattle.commands.proofs.restarts.run_restart.Statement.{statement}
 use Rattle.commands.proofs.restarts.run_restart.Tie as tie
 
 replay-all-requires : tie.Need-replay-all-requires
-replay-all-requires c κs = search needs
+replay-all-requires c κs = tt
 
 is-finished-requires : tie.Need-is-finished-requires
-is-finished-requires c κs = search needs
+is-finished-requires c κs = tt
 
 settled-requires : tie.Need-settled-requires
-settled-requires c κs = search needs
+settled-requires c κs = tt
 
 same-length : tie.Need-same-length
-same-length c = search needs
+same-length c = refl
 
 same-length-2 : tie.Need-same-length-2
-same-length-2 c = search needs
+same-length-2 c = c .before .before .before .before .pages .given
 
 same-length-3 : tie.Need-same-length-3
-same-length-3 c = search needs
+same-length-3 c = refl
 
 same-length-4 : tie.Need-same-length-4
-same-length-4 c = search needs
+same-length-4 c = refl
 
 returns : tie.Need-returns
 unfolding lineOf
@@ -39,25 +38,25 @@ returns c =
     (c .settled .ensures .1)
 
 restart-end-requires : tie.Need-restart-end-requires
-restart-end-requires c κs = search needs
+restart-end-requires c κs = tt
 
 value-of-requires : tie.Need-value-of-requires
-value-of-requires c κs = search needs
+value-of-requires c κs = tt
 
 settled-requires-2 : tie.Need-settled-requires-2
-settled-requires-2 c κs = search needs
+settled-requires-2 c κs = tt
 
 same-length-5 : tie.Need-same-length-5
-same-length-5 c = search needs
+same-length-5 c = c .before .before .before .before .before .before .before .anchor .given
 
 same-length-6 : tie.Need-same-length-6
-same-length-6 c = search (needs, c .before .before .before .before .before .before .before .before .before .before .before .before .before .before .before .before .before .before .pages .given)
+same-length-6 c = c .before .before .before .before .before .before .before .before .before .before .before .before .before .before .before .before .before .before .pages .given
 
 same-length-7 : tie.Need-same-length-7
-same-length-7 c = search needs
+same-length-7 c = c .before .before .before .before .before .backups .given
 
 same-length-8 : tie.Need-same-length-8
-same-length-8 c = search needs
+same-length-8 c = c .before .before .before .work .given
 
 returns-2 : tie.Need-returns-2
 unfolding lineOf

@@ -1,34 +1,36 @@
 -- `commands::transactions::run_set` meets its contract: the value is what was read before, XOR the value set.
 use borrow.Author.Needs.{needs}
 use Rattle.commands.specs.Meaning.{lineOf}
-use Rattle.commands.proofs.Showing.{shows}
+use Rattle.commands.proofs.Showing.{shows-difference}
 use Rattle.commands.proofs.transactions.run_set.Statement.{statement}
 use Rattle.commands.proofs.transactions.run_set.Tie as tie
 
 slot-word-requires : tie.Need-slot-word-requires
-slot-word-requires c κs = search needs
+slot-word-requires c κs = tt
 
 slice-aggregate-update : tie.Need-slice-aggregate-update
 slice-aggregate-update c = search needs
 
 update-requires : tie.Need-update-requires
-update-requires c κs = search needs
+update-requires c κs = tt
 
 settled-requires : tie.Need-settled-requires
-settled-requires c κs = search needs
+settled-requires c κs = tt
 
 same-length : tie.Need-same-length
-same-length c = search needs
+same-length c = c .before .before .before .before .before .before .pages .given
 
 same-length-2 : tie.Need-same-length-2
-same-length-2 c = search needs
+same-length-2 c = c .before .before .before .before .logs .given
 
 same-length-3 : tie.Need-same-length-3
-same-length-3 c = search needs
+same-length-3 c = c .before .before .work .given
 
 returns : tie.Need-returns
 unfolding lineOf
-returns c = rw (← c .before .before .before .before .before .before .before .before .before .before .before .before .before .slot-word .ensures) (shows _ _ _ _ _ _ _ (c .before .before .before .before .before .before .before .update .ensures .0) (c .settled .ensures .1) _ (c .settled .ensures .0))
+returns c =
+    let update = c .before .before .before .before .before .before .before in
+    shows-difference _ _ _ _ _ _ _ (update .update .ensures .0) (c .settled .ensures .1) _ (update .before .before .before .before .before .before .slot-word .ensures) (c .settled .ensures .0)
 
 pub run-set-spec : {M : Type 1} → statement M
 run-set-spec =

@@ -24,7 +24,10 @@ loop-holds : tie.Need-loop-holds Inv-loop μ-loop
 loop-holds c = (search needs, λ p s. (p, s, refl))
 
 feed-line-requires : tie.Need-feed-line-requires Inv-loop μ-loop
-feed-line-requires c κs = search needs
+feed-line-requires c κs =
+    let start = c .before .before .before .before .before .before .before .before .before .before .before .before .before .before .before .pre in
+    let here = c .before .before .before .before .before .before .before .loop .inv .1 (start .0) (start .1) in
+    (c .before .before .before .before .before .before .loop-test .taken, (here .0, here .1))
 
 loop-less : tie.Need-loop-less Inv-loop μ-loop
 loop-less c = search needs

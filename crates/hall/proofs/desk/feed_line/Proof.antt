@@ -1,6 +1,8 @@
 -- `hall::desk::feed_line` meets its contract: a line's bytes are read, and the line is run if its end is there.
 use borrow.Author.Needs.{needs}
 use native.Mathlib.Omega.{arith}
+use Prim.Native.Nat.{_+_, _-_}
+use lib.ListN.{take, drop}
 use Rattle.hall.proofs.Feeding.{line-ends, line-goes-on, piece-some}
 use Rattle.hall.proofs.Holding.{piece-read, has-begun}
 use Rattle.hall.proofs.desk.feed_line.Statement.{statement}
@@ -16,7 +18,7 @@ part-line-length-end : tie.Need-part-line-length-end
 part-line-length-end c = search needs
 
 line-length-requires : tie.Need-line-length-requires
-line-length-requires c κs = search needs
+line-length-requires c κs = tt
 
 add-end : tie.Need-add-end
 add-end c = search needs
@@ -31,43 +33,48 @@ part-read-piece-end : tie.Need-part-read-piece-end
 part-read-piece-end c = search needs
 
 read-piece-requires : tie.Need-read-piece-requires
-read-piece-requires c κs = search needs
+read-piece-requires c κs = tt
 
 add-next : tie.Need-add-next
 add-next c = search needs
 
 take-line-requires : tie.Need-take-line-requires
-take-line-requires c κs = search needs
+take-line-requires c κs =
+    let start = c .before .before .before .before .before .before .before .before .before .before .before .before .before .before .before .before .before .before .before .before in
+    let s = start .pre .1 in
+    let a = start .args in
+    let n = c .before .before .before .before .before .before .before .before .before .before .before .line-length .result in
+    (_, piece-read _ _ _ (s .0) (s .1 .holds) (take (a .at + n - a .at) (drop (a .at) (a .bytes .now))) _ (c .before .before .before .before .before .before .before .before .before .read-piece .ensures))
 
 same-length : tie.Need-same-length
-same-length c = search needs
+same-length c = c .before .before .before .before .before .before .before .before .before .before .before .anchor .given
 
 same-length-2 : tie.Need-same-length-2
-same-length-2 c = search needs
+same-length-2 c = c .before .before .before .before .before .before .before .before .before .pages .given
 
 same-length-3 : tie.Need-same-length-3
-same-length-3 c = search needs
+same-length-3 c = c .before .before .before .before .before .before .before .backups .given
 
 same-length-4 : tie.Need-same-length-4
-same-length-4 c = search needs
+same-length-4 c = c .before .before .before .before .before .logs .given
 
 same-length-5 : tie.Need-same-length-5
-same-length-5 c = search needs
+same-length-5 c = c .before .before .before .work .given
 
 same-length-6 : tie.Need-same-length-6
-same-length-6 c = search needs
+same-length-6 c = c .before .out .given
 
 returns : tie.Need-returns
 returns c =
-    let take = c .before .before .before .before .before .before .before .before .before .before .before .before in
-    let test = take .before .before .before .before .before .before .before in
+    let taken = c .before .before .before .before .before .before .before .before .before .before .before .before in
+    let test = taken .before .before .before .before .before .before .before in
     let piece = test .before .before .before in
     let line = piece .before .before in
-    let inside = line .before .before .before .before .before .before .before .before .before .pre in (
+    let inside = line .before .before .before .before .before .before .before .before .before .pre .0 in (
       (omega arith, omega (arith, test .if1 .taken)),
       λ p s. (
         _,
-        take .take-line .ensures _ (piece-read _ _ _ p (s .holds) _ _ (piece .read-piece .ensures)),
+        taken .take-line .ensures _ (piece-read _ _ _ p (s .holds) _ _ (piece .read-piece .ensures)),
         line-ends _ p _ _ _ (line .line-length .ensures .0) (omega (arith, inside)) (test .if1 .taken),
       ),
     )
@@ -76,7 +83,7 @@ returns-2 : tie.Need-returns-2
 returns-2 c =
     let piece = c .before .before .before in
     let line = piece .before .before in
-    let inside = line .before .before .before .before .before .before .before .before .before .pre in (
+    let inside = line .before .before .before .before .before .before .before .before .before .pre .0 in (
       (omega (arith, inside), omega arith),
       λ p s. (
         _,

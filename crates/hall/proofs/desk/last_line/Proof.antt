@@ -1,29 +1,30 @@
 -- `hall::desk::last_line` meets its contract.
-use borrow.Author.Needs.{needs}
 use Rattle.hall.proofs.Feeding.{ended-line, ended-none}
 use Rattle.hall.proofs.desk.last_line.Statement.{statement}
 use Rattle.hall.proofs.desk.last_line.Tie as tie
 
 take-line-requires : tie.Need-take-line-requires
-take-line-requires c κs = search needs
+take-line-requires c κs =
+    let s = c .before .before .before .before .before .before .before .before .before .before .before .before .before .pre in
+    (s .0, s .1 .holds)
 
 same-length : tie.Need-same-length
-same-length c = search needs
+same-length c = c .before .before .before .before .before .before .before .before .before .before .before .anchor .given
 
 same-length-2 : tie.Need-same-length-2
-same-length-2 c = search needs
+same-length-2 c = c .before .before .before .before .before .before .before .before .before .pages .given
 
 same-length-3 : tie.Need-same-length-3
-same-length-3 c = search needs
+same-length-3 c = c .before .before .before .before .before .before .before .backups .given
 
 same-length-4 : tie.Need-same-length-4
-same-length-4 c = search needs
+same-length-4 c = c .before .before .before .before .before .logs .given
 
 same-length-5 : tie.Need-same-length-5
-same-length-5 c = search needs
+same-length-5 c = c .before .before .before .work .given
 
 same-length-6 : tie.Need-same-length-6
-same-length-6 c = search needs
+same-length-6 c = c .before .out .given
 
 returns : tie.Need-returns
 returns c =

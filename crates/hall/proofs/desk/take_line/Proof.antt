@@ -17,7 +17,9 @@ after-line-requires : tie.Need-after-line-requires
 after-line-requires c κs = search needs
 
 add-line-requires : tie.Need-add-line-requires
-add-line-requires c κs = search needs
+add-line-requires c κs =
+    let h = c .before .before .before .before .before .before .before .before .before .before .before .before .before .before .before .before .before .before .before .before .before .before .before .before .before .before .before .before .pre .1 in
+    (h .room, h .inside)
 
 start-requires : tie.Need-start-requires
 start-requires c κs = search needs

@@ -11,21 +11,15 @@ use Rattle.hall.proofs.output.add.Statement.{statement}
 use Rattle.hall.proofs.output.add.Tie as tie
 
 abbrev Inv-loop : tie.InvT-loop
-Inv-loop out₀ fill text room n i₀ out i =
+Inv-loop out₀ fill text n i₀ out i =
     ((i ≤ n) × (length out ≡ length out₀)) × (take (fill + i) out ≡ take fill out₀ ++ take i text)
 
 abbrev μ-loop : tie.MeasureT-loop
-μ-loop out₀ fill text room n i₀ out i = n - i
-
-returns : tie.Need-returns Inv-loop μ-loop
-returns c = λ fits. absurd (omega (arith, fits, c .if1 .taken))
-
-returns-2 : tie.Need-returns-2 Inv-loop μ-loop
-returns-2 c = λ fits. absurd (omega (arith, fits, c .if2 .taken))
+μ-loop out₀ fill text n i₀ out i = n - i
 
 loop-holds : tie.Need-loop-holds Inv-loop μ-loop
 loop-holds c =
-    let e : c .before .before .args .fill + 0 ≡ c .before .before .args .fill = omega arith in
+    let e : c .args .fill + 0 ≡ c .args .fill = omega arith in
     (search needs, rw (e, append-nil))
 
 shared-slice-read-out : tie.Need-shared-slice-read-out Inv-loop μ-loop
@@ -46,7 +40,7 @@ loop-less c = search needs
 loop-again : tie.Need-loop-again Inv-loop μ-loop
 loop-again c =
     let l = c .before .before in
-    let a = l .before .before .before .args in
+    let a = l .before .args in
     (search needs, byte-added (l .loop .out) (take (a .fill) (a .out .now)) (a .text .now) (a .fill) (l .loop .i) (slice-write-out c) (c .before .loop-test .taken) (l .loop .inv .1))
 
 add-result : tie.Need-add-result Inv-loop μ-loop
@@ -55,12 +49,12 @@ add-result c = search needs
 same-length : tie.Need-same-length Inv-loop μ-loop
 same-length c = search needs
 
-returns-3 : tie.Need-returns-3 Inv-loop μ-loop
-returns-3 c =
+returns : tie.Need-returns Inv-loop μ-loop
+returns c =
     let l = c .before in
-    let text = l .before .before .before .args .text .now in
+    let text = l .before .args .text .now in
     let e : l .loop .i ≡ length text = omega arith in
-    λ fits. (refl, rw (e, take-length text) at (l .loop .inv .1))
+    (refl, rw (e, take-length text) at (l .loop .inv .1))
 
 pub add-spec : {M : Type 1} → statement M
 add-spec =
@@ -68,8 +62,6 @@ add-spec =
     (tie.spec
     Inv-loop
     μ-loop
-    returns
-    returns-2
     loop-holds
     shared-slice-read-out
     add-out
@@ -79,4 +71,4 @@ add-spec =
     loop-again
     add-result
     same-length
-    returns-3)
+    returns)
