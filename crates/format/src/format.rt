@@ -13,7 +13,7 @@ use model::Reply;
 ghost use Rattle.model.specs.World.{worldOf};
 ghost use Rattle.model.specs.Call.{format, Gives};
 
-// The stores, and the memory once all of them are made.
+// The checks, then the stores, and the memory once all of them are made.
 pub fn format(
     core: Core,
     pages_count: u64,

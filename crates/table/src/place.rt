@@ -8,6 +8,7 @@ ghost use Rattle.model.specs.State.{places, placeOf, isOpen, withPlace, without
 pub fn place_of(table: Table, number: u64) -> usize
     ensures { λ r. ⌜ r ≡ placeOf table number ⌝ }
 {
+    // One array of the table: indexed in place, the whole table would be copied.
     let numbers = table.numbers;
     let mut i: usize = 0;
     while i < 16 {
