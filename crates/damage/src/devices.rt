@@ -1,8 +1,6 @@
 // What is lent to a store: one page of two one-word slots, one disk, W = 128.
 use rehearsal::words::differing;
-use rehearsal::words::get;
-use rehearsal::words::put;
-use rehearsal::words::sum;
+use rehearsal::words::put_words;
 
 pub struct Devices {
     pub anchor: [u64; 148],
@@ -31,20 +29,12 @@ fn words(d: Devices) -> [u64; 413] {
     let pages = d.pages;
     let work = d.work;
     let mut all = [0u64; 413];
-    lay(&mut all, 0, &anchor, 148);
-    lay(&mut all, 148, &backups, 4);
-    lay(&mut all, 152, &logs, 129);
-    lay(&mut all, 281, &pages, 2);
-    lay(&mut all, 283, &work, 130);
+    put_words(&mut all, 0, &anchor, 148);
+    put_words(&mut all, 148, &backups, 4);
+    put_words(&mut all, 152, &logs, 129);
+    put_words(&mut all, 281, &pages, 2);
+    put_words(&mut all, 283, &work, 130);
     all
-}
-
-fn lay(target: &mut [u64], at: u64, source: &[u64], n: u64) {
-    let mut left = n;
-    while left > 0 {
-        left -= 1;
-        put(target, sum(at, left), get(source, left));
-    }
 }
 
 // Whether the first n words are the same.

@@ -7,18 +7,21 @@
 // - a refused call must leave every word.
 // Standard input may begin with a number: how many random images are tried (500 where there is none). To run it longer:
 //     echo 60000 | target/bin/damage_trial
-mod calls;
+mod acts;
 mod machine;
 mod probe;
 mod trial;
 
-use crate::calls::Act;
+use crate::acts::act;
+use crate::acts::change_word;
+use crate::acts::commit_word;
+use crate::acts::copy_page;
 use crate::machine::shut;
 use crate::probe::Probe;
-use crate::probe::tried;
 use crate::trial::try_image;
 use damage::devices::Devices;
 use damage::devices::blank;
+use rehearsal::calls::Kind;
 use rehearsal::random;
 use rehearsal::text::count;
 use rehearsal::text::read_number;
@@ -26,22 +29,11 @@ use rehearsal::words::sum;
 
 // The good image: two commits with a checkpoint between them, then an abort and a third commit.
 fn make_image(p: Probe) -> Probe {
-    let formatted = tried(p, Act::Format);
-    let first = commit_word(formatted, 1, 0, 2);
-    let copied = tried(tried(first, Act::Mark), Act::Copy);
-    let closed = tried(copied, Act::Close);
+    let first = commit_word(act(p, Kind::Format, 0), 1, 0, 2);
+    let closed = act(copy_page(first), Kind::CheckpointEnd, 0);
     let second = commit_word(closed, 2, 1, 7);
-    let aborted = tried(change_word(second, 3, 0, 9), Act::Abort { number: 3 });
+    let aborted = act(change_word(second, 3, 0, 9), Kind::Abort, 3);
     commit_word(aborted, 4, 0, 12)
-}
-
-fn commit_word(p: Probe, number: u64, slot: u64, word: u64) -> Probe {
-    tried(change_word(p, number, slot, word), Act::Commit { number })
-}
-
-fn change_word(p: Probe, number: u64, slot: u64, word: u64) -> Probe {
-    let begun = tried(p, Act::Begin);
-    tried(begun, Act::Update { number, slot, word })
 }
 
 fn try_images(p: Probe, good: Devices, images: u64) -> Probe {

@@ -1,10 +1,12 @@
 // One damaged image: a restart, begun with short slices first, then the calls after it.
-use crate::calls::Act;
+use crate::acts::act;
+use crate::acts::change_word;
+use crate::acts::commit_word;
+use crate::acts::copy_page;
 use crate::machine::performed;
 use crate::machine::shut;
 use crate::probe::Probe;
 use crate::probe::judged;
-use crate::probe::tried;
 use crate::probe::tried_short;
 use damage::changes::damaged;
 use damage::devices::Devices;
@@ -14,6 +16,9 @@ use damage::reading::wanted_on;
 use damage::replay::restarted;
 use rehearsal::answers::number_of;
 use rehearsal::answers::stores_of;
+use rehearsal::calls::Call;
+use rehearsal::calls::Kind;
+use rehearsal::calls::call_of;
 use rehearsal::words::more;
 use rehearsal::words::tally;
 use store::restarts::restart_remaining;
@@ -27,8 +32,8 @@ pub fn try_image(p: Probe, good: Devices, which: u64, seed: u64) -> Probe {
         ..p
     };
     let begun = begin_restart(begin_short(fresh));
-    let replayed = replay(tried_short(begun, Act::RestartStep { source: 0 }));
-    let waiting = tried_short(replayed, Act::RestartEnd);
+    let replayed = replay(tried_short(begun, call_of(Kind::RestartStep, 0)));
+    let waiting = tried_short(replayed, call_of(Kind::RestartEnd, 0));
     later(end_restart(waiting))
 }
 
@@ -44,7 +49,11 @@ fn begin_short(p: Probe) -> Probe {
 // A restart's begin, which answers as the table says; taken, it leaves the pages zero.
 fn try_begin(p: Probe, short: u64) -> Probe {
     let before = p.machine;
-    let after = performed(before, Act::RestartBegin, short);
+    let call = Call {
+        short,
+        ..call_of(Kind::RestartBegin, 0)
+    };
+    let after = performed(before, call);
     let answer = after.answer;
     let zero = number_of(answer) > 0 || zero_pages(after.devices);
     let right = zero && answers(answer, wanted_on(before.devices, short));
@@ -70,7 +79,7 @@ fn begin_restart(p: Probe) -> Probe {
 
 fn try_step(p: Probe, source: u64, set: u64) -> Probe {
     let machine = p.machine;
-    let after = performed(machine, Act::RestartStep { source }, 0);
+    let after = performed(machine, call_of(Kind::RestartStep, source));
     judged(p, after, set, true)
 }
 
@@ -106,7 +115,7 @@ fn step_if_any(p: Probe) -> Probe {
 // A restart's end makes four stores: both words of the page, the tail, c.
 fn end_restart(p: Probe) -> Probe {
     let before = p.machine;
-    let after = performed(before, Act::RestartEnd, 0);
+    let after = performed(before, call_of(Kind::RestartEnd, 0));
     let answer = after.answer;
     let wanted = restarted(before.devices);
     let right = stores_of(answer) == 4 && same_but_work(wanted, after.devices);
@@ -115,29 +124,7 @@ fn end_restart(p: Probe) -> Probe {
 
 // A commit, and an abort across a checkpoint.
 fn later(p: Probe) -> Probe {
-    let begun = tried(p, Act::Begin);
-    let updated = tried(
-        begun,
-        Act::Update {
-            number: 1,
-            slot: 0,
-            word: 5,
-        },
-    );
-    let committed = tried(updated, Act::Commit { number: 1 });
-    abort_across_checkpoint(committed)
-}
-
-fn abort_across_checkpoint(p: Probe) -> Probe {
-    let begun = tried(p, Act::Begin);
-    let updated = tried(
-        begun,
-        Act::Update {
-            number: 2,
-            slot: 1,
-            word: 6,
-        },
-    );
-    let copied = tried(tried(updated, Act::Mark), Act::Copy);
-    tried(tried(copied, Act::Abort { number: 2 }), Act::Close)
+    let committed = commit_word(p, 1, 0, 5);
+    let copied = copy_page(change_word(committed, 2, 1, 6));
+    act(act(copied, Kind::Abort, 2), Kind::CheckpointEnd, 0)
 }

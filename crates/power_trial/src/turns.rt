@@ -1,6 +1,6 @@
 // A trial, turn by turn: a call that is made and judged, or lost power, or the pages compared, or the counts told.
-use crate::lending::Made;
-use crate::lending::watch;
+use crate::watching::Made;
+use crate::watching::watch;
 use rehearsal::calls::Call;
 use rehearsal::calls::Kind;
 use rehearsal::random::below;
@@ -13,6 +13,7 @@ use rehearsal::words::put;
 use rehearsal::words::wipe;
 use script::desk;
 use script::desk::Desk;
+use script::desk::mode_of;
 use script::desk::new_desk;
 use script::desk::next_call;
 use script::plan::Mode;
@@ -36,32 +37,45 @@ pub fn turn(
     work: &mut [u64],
     book: &mut [u64],
 ) -> Trial {
-    let desk = t.desk;
-    let plan = desk.plan;
-    let mode = plan.mode;
+    let mode = mode_of(t.desk);
     match mode {
-        Mode::Losing => lose_power(t, pages, work, book),
-        Mode::Comparing => Trial {
-            desk: desk::compared(desk, pages, book),
-            ..t
-        },
-        Mode::Telling => next_size(t, anchor, book),
+        Mode::Losing | Mode::Comparing | Mode::Telling => {
+            quiet_turn(t, mode, anchor, pages, work, book)
+        }
         _ => call_turn(t, anchor, pages, backups, logs, work, book),
     }
 }
 
-// Power is lost: sheets and buffers go, pages and work hold anything, the state is a new one.
-fn lose_power(t: Trial, pages: &mut [u64], work: &mut [u64], book: &mut [u64]) -> Trial {
-    let desk = t.desk;
+// A turn with no call.
+fn quiet_turn(
+    t: Trial,
+    mode: Mode,
+    anchor: &mut [u64],
+    pages: &mut [u64],
+    work: &mut [u64],
+    book: &mut [u64],
+) -> Trial {
+    match mode {
+        Mode::Losing => Trial {
+            state: store::new_state(),
+            desk: lose_power(t.desk, pages, work, book),
+            ..t
+        },
+        Mode::Comparing => Trial {
+            desk: desk::compared(t.desk, pages, book),
+            ..t
+        },
+        _ => next_size(t, anchor, book),
+    }
+}
+
+// Power is lost: sheets and buffers go, pages and work hold anything.
+fn lose_power(desk: Desk, pages: &mut [u64], work: &mut [u64], book: &mut [u64]) -> Desk {
     let shape = desk.shape;
     let plan = desk.plan;
     let filled = fill(pages, total_of(shape), plan.seed);
     let seed = fill(work, work_words(shape), filled);
-    Trial {
-        state: store::new_state(),
-        desk: desk::after_loss(desk, seed, book),
-        ..t
-    }
+    desk::after_loss(desk, seed, book)
 }
 
 // Tells what was tried on a size, and goes on to the next: no store, an empty book.
@@ -118,18 +132,23 @@ fn remaining(state: State, call: Call, source: u64, disks: u64) -> u64 {
     }
 }
 
-// A call, and what remains to be replayed as it is made.
+// A call, its budget, and what remains to be replayed as it is made.
 struct Asked {
     call: Call,
+    budget: u64,
     remains: u64,
 }
 
 fn ask(state: State, desk: Desk, book: &[u64]) -> Asked {
     let shape = desk.shape;
+    let plan = desk.plan;
     let source = some_source(state, desk);
     let call = next_call(desk, source, book);
-    let remains = remaining(state, call, source, shape.disks);
-    Asked { call, remains }
+    Asked {
+        call,
+        budget: plan.budget,
+        remains: remaining(state, call, source, shape.disks),
+    }
 }
 
 // The next call, made and judged.
@@ -146,8 +165,9 @@ fn call_turn(
     let asked = ask(t.state, desk, book);
     let made = watch(
         t.state,
-        desk,
+        desk.shape,
         asked.call,
+        asked.budget,
         anchor,
         pages,
         backups,

@@ -47,15 +47,44 @@ fn value_of(plain: Plain, kind: Kind) -> u64 {
     }
 }
 
+// A transaction's place and its disk; for 0 the first free place.
+struct Seat {
+    place: u64,
+    disk: u64,
+}
+
+fn seat_of(number: u64, book: &[u64]) -> Seat {
+    let place = sheets::place_of(book, number);
+    let disk = get(book, rooms::disk_at(place));
+    Seat { place, disk }
+}
+
+// A transaction's call.
+fn bill_transaction(
+    shape: Shape,
+    entries: u64,
+    call: Call,
+    money: Purse,
+    book: &mut [u64],
+) -> Purse {
+    let kind = call.kind;
+    let seat = seat_of(call.number, book);
+    match kind {
+        Kind::Begin => bill_begin(shape, seat.place, money, book),
+        Kind::Update => bill_update(width_of(shape, call.page), seat, money, book),
+        Kind::Commit => bill_commit(seat, money, book),
+        _ => bill_abort(entries, call.number, seat, money, book),
+    }
+}
+
 fn bill(shape: Shape, plain: Plain, call: Call, money: Purse, book: &mut [u64]) -> Purse {
     let kind = call.kind;
     match kind {
-        Kind::Begin => bill_begin(shape, money, book),
-        Kind::Update => bill_update(shape, call, money, book),
-        Kind::Commit => bill_commit(call.number, money, book),
-        Kind::Abort => bill_abort(plain.entries, call.number, money, book),
-        Kind::CheckpointBegin => bill_mark(shape, money, book),
-        Kind::CheckpointEnd => bill_close(shape, money, book),
+        Kind::Begin | Kind::Update | Kind::Commit | Kind::Abort => {
+            bill_transaction(shape, plain.entries, call, money, book)
+        }
+        Kind::CheckpointBegin => bill_mark(shape.disks, money, book),
+        Kind::CheckpointEnd => bill_close(shape.disks, money, book),
         _ => spend(money, stores_of(shape, plain.copied, kind)),
     }
 }
@@ -71,56 +100,42 @@ fn stores_of(shape: Shape, copied: u64, kind: Kind) -> u64 {
     }
 }
 
-fn bill_begin(shape: Shape, money: Purse, book: &mut [u64]) -> Purse {
-    let place = sheets::place_of(book, 0);
+fn bill_begin(shape: Shape, place: u64, money: Purse, book: &mut [u64]) -> Purse {
     let disk = rooms::idlest(book, shape.disks, shape.ring);
     rooms::begin(book, place, disk);
     money
 }
 
-fn bill_mark(shape: Shape, money: Purse, book: &mut [u64]) -> Purse {
-    rooms::mark(book, shape.disks);
+fn bill_mark(disks: u64, money: Purse, book: &mut [u64]) -> Purse {
+    rooms::mark(book, disks);
     money
 }
 
-fn bill_update(shape: Shape, call: Call, money: Purse, book: &mut [u64]) -> Purse {
-    let place = sheets::place_of(book, call.number);
-    let disk = get(book, rooms::disk_at(place));
-    let words = sum(width_of(shape, call.page), 3);
-    let after = rooms::append(book, disk, words, money);
-    if after.cut {
-        return after;
+fn bill_update(width: u64, seat: Seat, money: Purse, book: &mut [u64]) -> Purse {
+    let words = sum(width, 3);
+    let after = rooms::append(book, seat.disk, words, money);
+    if !after.cut {
+        rooms::update(book, seat.place, words);
     }
-    rooms::update(book, place, words);
     after
 }
 
 // The closing record, and a flush.
-fn bill_commit(number: u64, money: Purse, book: &mut [u64]) -> Purse {
-    let place = sheets::place_of(book, number);
-    let disk = get(book, rooms::disk_at(place));
+fn bill_commit(seat: Seat, money: Purse, book: &mut [u64]) -> Purse {
+    let disk = seat.disk;
     let appended = rooms::append(book, disk, 2, money);
     let after = rooms::flush(book, disk, appended);
-    rooms::close(book, place);
+    rooms::close(book, seat.place);
     after
 }
 
 // A compensation for each update, newest first, then the closing record.
-fn bill_abort(entries: u64, number: u64, money: Purse, book: &mut [u64]) -> Purse {
-    let place = sheets::place_of(book, number);
-    let disk = get(book, rooms::disk_at(place));
+fn bill_abort(entries: u64, number: u64, seat: Seat, money: Purse, book: &mut [u64]) -> Purse {
+    let disk = seat.disk;
     let undone = compensate(entries, number, disk, money, book);
-    let after = append_if(disk, 2, undone, book);
-    rooms::close(book, place);
+    let after = rooms::append(book, disk, 2, undone);
+    rooms::close(book, seat.place);
     after
-}
-
-// A record is appended where nothing was cut before it.
-fn append_if(disk: u64, words: u64, money: Purse, book: &mut [u64]) -> Purse {
-    if money.cut {
-        return money;
-    }
-    rooms::append(book, disk, words, money)
 }
 
 fn compensate(entries: u64, number: u64, disk: u64, money: Purse, book: &mut [u64]) -> Purse {
@@ -128,26 +143,27 @@ fn compensate(entries: u64, number: u64, disk: u64, money: Purse, book: &mut [u6
     let mut after = money;
     while left > 0 {
         left -= 1;
-        after = compensate_one(left, number, disk, after, book);
+        let words = compensation(left, number, book);
+        after = rooms::append(book, disk, words, after);
     }
     after
 }
 
-// The compensation of one entry, if it is the transaction's.
-fn compensate_one(entry: u64, number: u64, disk: u64, money: Purse, book: &mut [u64]) -> Purse {
+// The words of an entry's compensation, none where the entry is not the transaction's.
+fn compensation(entry: u64, number: u64, book: &[u64]) -> u64 {
     let at = sheets::entry_at(entry);
     if get(book, at) != number {
-        return money;
+        return 0;
     }
-    let words = sum(3, get(book, sum(at, 2)));
-    append_if(disk, words, money, book)
+    sum(3, get(book, sum(at, 2)))
 }
 
 // The flushes, a start for each disk, and c.
-fn bill_close(shape: Shape, money: Purse, book: &mut [u64]) -> Purse {
-    let disks = shape.disks;
+fn bill_close(disks: u64, money: Purse, book: &mut [u64]) -> Purse {
     let flushed = rooms::flush_all(book, disks, money);
     let after = spend(flushed, sum(disks, 1));
-    rooms::move_starts_if(book, disks, !after.cut);
+    if !after.cut {
+        rooms::move_starts(book, disks);
+    }
     after
 }

@@ -3,11 +3,14 @@
 // A room memory, the first words of a book, has the starts, tails, buffered words and remembered ends, 8 words each; then for each of 16
 // places its disk, the position of its first update record and the words owed.
 use crate::purse::Purse;
-use crate::purse::purse_of;
+use crate::purse::spend;
+use crate::words::add_to;
 use crate::words::get;
 use crate::words::less;
 use crate::words::put;
 use crate::words::sum;
+use crate::words::tail_mut;
+use crate::words::wipe;
 
 // Where the retained log starts, its tail, its buffered words, and the end that a checkpoint's begin remembered.
 pub fn start_at(disk: u64) -> u64 {
@@ -102,17 +105,18 @@ pub fn begin(rooms: &mut [u64], place: u64, disk: u64) {
 
 // An update's record is owed again, for its compensation; the first one's position is remembered.
 pub fn update(rooms: &mut [u64], place: u64, words: u64) {
-    let owed = get(rooms, owed_at(place));
-    note_first(rooms, place, words);
-    put(rooms, owed_at(place), sum(owed, words));
+    let first = first_of(rooms, place, words);
+    put(rooms, first_at(place), first);
+    add_to(rooms, owed_at(place), words);
 }
 
-fn note_first(rooms: &mut [u64], place: u64, words: u64) {
-    let disk = get(rooms, disk_at(place));
-    let first = less(end_of(rooms, disk), words);
-    if get(rooms, owed_at(place)) == 2 {
-        put(rooms, first_at(place), first);
+// The position of a place's first update record; the last record, of so many words, is its newest.
+fn first_of(rooms: &[u64], place: u64, words: u64) -> u64 {
+    if get(rooms, owed_at(place)) != 2 {
+        return get(rooms, first_at(place));
     }
+    let disk = get(rooms, disk_at(place));
+    less(end_of(rooms, disk), words)
 }
 
 // A closed transaction is owed nothing.
@@ -120,33 +124,33 @@ pub fn close(rooms: &mut [u64], place: u64) {
     put(rooms, owed_at(place), 0);
 }
 
-// The buffer's words are stored, then the tail.
-pub fn flush(rooms: &mut [u64], disk: u64, money: Purse) -> Purse {
-    let left = money.left;
+// The stores of a flush: the buffer's words, then the tail.
+fn flush_stores(rooms: &[u64], disk: u64) -> u64 {
     let fill = get(rooms, fill_at(disk));
-    if money.cut {
-        return money;
+    if fill > 0 { sum(fill, 1) } else { 0 }
+}
+
+pub fn flush(rooms: &mut [u64], disk: u64, money: Purse) -> Purse {
+    let after = spend(money, flush_stores(rooms, disk));
+    if !after.cut {
+        drain(rooms, disk);
     }
-    if fill == 0 {
-        return money;
-    }
-    if left <= fill {
-        return Purse { left: 0, cut: true };
-    }
+    after
+}
+
+// The buffered words lie below the tail now.
+fn drain(rooms: &mut [u64], disk: u64) {
     let end = end_of(rooms, disk);
     put(rooms, tail_at(disk), end);
     put(rooms, fill_at(disk), 0);
-    purse_of(less(left, sum(fill, 1)))
 }
 
-// A record is appended; where it does not fit the buffer's free words, that is flushed first.
+// A record is appended, or nothing where the purse is cut; where it does not fit the buffer's free words, that is flushed first.
 pub fn append(rooms: &mut [u64], disk: u64, words: u64, money: Purse) -> Purse {
     let after = make_room(rooms, disk, words, money);
-    if after.cut {
-        return after;
+    if !after.cut {
+        add_to(rooms, fill_at(disk), words);
     }
-    let fill = get(rooms, fill_at(disk));
-    put(rooms, fill_at(disk), sum(fill, words));
     after
 }
 
@@ -189,13 +193,6 @@ pub fn move_starts(rooms: &mut [u64], disks: u64) {
     }
 }
 
-// The same where the checkpoint's end was taken.
-pub fn move_starts_if(rooms: &mut [u64], disks: u64, taken: bool) {
-    if taken {
-        move_starts(rooms, disks);
-    }
-}
-
 fn new_start(rooms: &[u64], disk: u64) -> u64 {
     let mut left = 16;
     let mut start = get(rooms, mark_at(disk));
@@ -223,12 +220,8 @@ fn held_back(rooms: &[u64], disk: u64, place: u64, start: u64) -> u64 {
 
 // What lost power leaves: the starts and the tails.
 pub fn lose(rooms: &mut [u64]) {
-    let mut left = 16;
-    while left > 0 {
-        left -= 1;
-        put(rooms, fill_at(left), 0);
-        put(rooms, owed_at(left), 0);
-    }
+    wipe(tail_mut(rooms, fill_at(0)), 8);
+    wipe(tail_mut(rooms, owed_at(0)), 16);
 }
 
 // A restart's end moves each start to its tail.

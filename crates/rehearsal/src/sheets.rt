@@ -2,13 +2,18 @@
 // Its memory, the book, is one slice: 80 words of log room (`rooms`); the open transactions' numbers, 16 words (0: none); what was last
 // read, a length and 39 words; the results, 8,192 words; then entries of 36 words in the order made: transaction (0: gone),
 // the slot's address, its width, its value.
+use crate::words::differing;
 use crate::words::find;
 use crate::words::get;
-use crate::words::more;
+use crate::words::move_words;
 use crate::words::put;
+use crate::words::put_words;
 use crate::words::sum;
 use crate::words::tail;
+use crate::words::tail_mut;
+use crate::words::tally;
 use crate::words::times;
+use crate::words::wipe;
 
 pub fn open_at(place: u64) -> u64 {
     80 + place % 16
@@ -66,21 +71,10 @@ fn is_of(book: &[u64], entry: u64, address: u64) -> bool {
 
 // Adds an entry; its value is the first `width` words of the one lent.
 pub fn add(book: &mut [u64], entry: u64, number: u64, address: u64, width: u64, value: &[u64]) {
-    let at = entry_at(entry);
-    put(book, at, number);
-    put(book, sum(at, 1), address);
-    put(book, sum(at, 2), width);
+    let head = [number, address, width];
+    put_words(book, entry_at(entry), &head, 3);
     if width < 33 {
         put_words(book, value_at(entry), value, width);
-    }
-}
-
-// Puts n words at a place.
-fn put_words(target: &mut [u64], at: u64, source: &[u64], n: u64) {
-    let mut left = n;
-    while left > 0 {
-        left -= 1;
-        put(target, sum(at, left), get(source, left));
     }
 }
 
@@ -88,12 +82,8 @@ fn put_words(target: &mut [u64], at: u64, source: &[u64], n: u64) {
 fn set_entry(book: &mut [u64], entry: u64) {
     let at = entry_at(entry);
     let address = get(book, sum(at, 1));
-    let mut left = get(book, sum(at, 2));
-    while left > 0 {
-        left -= 1;
-        let word = get(book, sum(at, sum(3, left)));
-        put(book, result_at(sum(address, left)), word);
-    }
+    let width = get(book, sum(at, 2));
+    move_words(book, value_at(entry), result_at(address), width);
 }
 
 // Closes a transaction: its entries go, first to last; a committed one's are set in the results.
@@ -128,11 +118,7 @@ fn leave(book: &mut [u64], number: u64) {
 
 // All sheets go.
 pub fn clear(book: &mut [u64]) {
-    let mut left = 16;
-    while left > 0 {
-        left -= 1;
-        put(book, open_at(left), 0);
-    }
+    wipe(tail_mut(book, open_at(0)), 16);
 }
 
 // Notes the words that a read handed out.
@@ -146,16 +132,6 @@ pub fn note_seen(book: &mut [u64], words: &[u64]) {
 
 // In how many of its words what was read differs from `width` words at a place of the book, and 1 where the lengths differ.
 pub fn seen_differs(book: &[u64], at: u64, width: u64) -> u64 {
-    let mut count = 0;
-    if get(book, seen_at(0)) != width {
-        count = 1;
-    }
-    let mut left = width;
-    while left > 0 {
-        left -= 1;
-        if get(book, sum(at, left)) != get(book, sum(97, left)) {
-            count = more(count);
-        }
-    }
-    count
+    let count = differing(tail(book, at), tail(book, seen_at(1)), width);
+    tally(count, get(book, seen_at(0)) != width)
 }

@@ -37,11 +37,6 @@ fn with_digit(number: u64, b: u8) -> u64 {
     sum(times(number, 10), less(wide(b), 48))
 }
 
-// Writes a text.
-pub fn say(text: &[u8]) {
-    io::write_all(1, text);
-}
-
 // Writes a number, and a text after it.
 pub fn count(n: u64, text: &[u8]) {
     io::print_decimal(1, n);

@@ -32,6 +32,41 @@ pub fn tail(s: &[u64], n: u64) -> &[u64] {
     if j <= s.len() { &s[j..] } else { &s[0..0] }
 }
 
+// The same, lent to be written.
+pub fn tail_mut(s: &mut [u64], n: u64) -> &mut [u64] {
+    let j = n as usize;
+    if j <= s.len() {
+        &mut s[j..]
+    } else {
+        &mut s[0..0]
+    }
+}
+
+// Adds to the word at i.
+pub fn add_to(s: &mut [u64], i: u64, x: u64) {
+    let word = get(s, i);
+    put(s, i, sum(word, x));
+}
+
+// Puts n words at a place.
+pub fn put_words(target: &mut [u64], at: u64, source: &[u64], n: u64) {
+    let mut left = n;
+    while left > 0 {
+        left -= 1;
+        put(target, sum(at, left), get(source, left));
+    }
+}
+
+// Puts n words of a slice at another place of it.
+pub fn move_words(s: &mut [u64], from: u64, at: u64, n: u64) {
+    let mut left = n;
+    while left > 0 {
+        left -= 1;
+        let word = get(s, sum(from, left));
+        put(s, sum(at, left), word);
+    }
+}
+
 // Counts that stop at the largest number.
 pub fn more(n: u64) -> u64 {
     if n < u64::MAX { n + 1 } else { n }
@@ -51,15 +86,6 @@ pub fn differing(a: &[u64], b: &[u64], n: u64) -> u64 {
         count = tally(count, get(a, left) != get(b, left));
     }
     count
-}
-
-// Copies the first n words.
-pub fn copy(target: &mut [u64], source: &[u64], n: u64) {
-    let mut left = n;
-    while left > 0 {
-        left -= 1;
-        put(target, left, get(source, left));
-    }
 }
 
 // Sets the first n words to 0.

@@ -56,6 +56,12 @@ pub fn new_desk(shape: Shape, lists: u64) -> Desk {
     }
 }
 
+// What the next turn does.
+pub fn mode_of(desk: Desk) -> Mode {
+    let plan = desk.plan;
+    plan.mode
+}
+
 // The next call; `source` has something left to replay.
 pub fn next_call(desk: Desk, source: u64, book: &[u64]) -> Call {
     let plan = desk.plan;

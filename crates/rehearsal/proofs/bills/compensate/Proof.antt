@@ -17,8 +17,11 @@ loop-holds c = search needs
 sub-left : tie.Need-sub-left Inv-loop μ-loop
 sub-left c = search needs
 
-compensate-one-requires : tie.Need-compensate-one-requires Inv-loop μ-loop
-compensate-one-requires c κs = search needs
+compensation-requires : tie.Need-compensation-requires Inv-loop μ-loop
+compensation-requires c κs = search needs
+
+append-requires : tie.Need-append-requires Inv-loop μ-loop
+append-requires c κs = search needs
 
 loop-less : tie.Need-loop-less Inv-loop μ-loop
 loop-less c = search needs
@@ -40,7 +43,8 @@ compensate-spec =
     μ-loop
     loop-holds
     sub-left
-    compensate-one-requires
+    compensation-requires
+    append-requires
     loop-less
     loop-again
     same-length

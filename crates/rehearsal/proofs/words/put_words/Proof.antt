@@ -1,21 +1,24 @@
--- `copy` is safe and ends.
+-- `put_words` is safe and ends.
 use lib.ListN.{length}
 use mathlib.Core.Path.{_≡_}
 use borrow.Author.Needs.{needs}
-use Rattle.rehearsal.proofs.words.copy.Statement.{statement}
-use Rattle.rehearsal.proofs.words.copy.Tie as tie
+use Rattle.rehearsal.proofs.words.put_words.Statement.{statement}
+use Rattle.rehearsal.proofs.words.put_words.Tie as tie
 
 abbrev Inv-loop : tie.InvT-loop
-Inv-loop target₀ source n left₀ target left = length target ≡ length target₀
+Inv-loop target₀ at source n left₀ target left = length target ≡ length target₀
 
 abbrev μ-loop : tie.MeasureT-loop
-μ-loop target₀ source n left₀ target left = left
+μ-loop target₀ at source n left₀ target left = left
 
 loop-holds : tie.Need-loop-holds Inv-loop μ-loop
 loop-holds c = search needs
 
 sub-left : tie.Need-sub-left Inv-loop μ-loop
 sub-left c = search needs
+
+sum-requires : tie.Need-sum-requires Inv-loop μ-loop
+sum-requires c κs = search needs
 
 get-requires : tie.Need-get-requires Inv-loop μ-loop
 get-requires c κs = search needs
@@ -35,14 +38,15 @@ same-length c = search needs
 returns : tie.Need-returns Inv-loop μ-loop
 returns c = search needs
 
-pub copy-spec : {M : Type 1} → statement M
-copy-spec =
+pub put-words-spec : {M : Type 1} → statement M
+put-words-spec =
     tie.close
     (tie.spec
     Inv-loop
     μ-loop
     loop-holds
     sub-left
+    sum-requires
     get-requires
     put-requires
     loop-less

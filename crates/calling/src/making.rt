@@ -1,4 +1,4 @@
-// A call of the store, made as it is described. Each takes the five slices, and lowers the budget by the stores that it makes.
+// A call of the store, made as it is described, on slices whose lengths fit. It lowers the budget by the stores that it makes.
 use rehearsal::calls::Call;
 use rehearsal::calls::Kind;
 use rehearsal::calls::lay_value;
@@ -8,6 +8,15 @@ use rehearsal::sheets::note_seen;
 use rehearsal::words::front;
 use store::Called;
 use store::State;
+use store::checkpoints::checkpoint_begin;
+use store::checkpoints::checkpoint_end;
+use store::checkpoints::checkpoint_step;
+use store::restarts::restart_begin;
+use store::restarts::restart_end;
+use store::restarts::restart_step;
+use store::transactions::abort;
+use store::transactions::begin;
+use store::transactions::commit;
 
 // What a read hands out is noted in the book.
 pub fn make(
@@ -24,11 +33,9 @@ pub fn make(
 ) -> Called {
     let kind = call.kind;
     match kind {
-        Kind::Begin | Kind::Update | Kind::Commit | Kind::Abort => {
-            make_change(state, call, anchor, pages, backups, logs, work, budget)
-        }
-        Kind::Read => make_read(state, call, anchor, pages, backups, logs, work, book),
-        _ => make_other(
+        Kind::Begin | Kind::Read | Kind::CheckpointBegin | Kind::RestartBegin | Kind::RestartStep =>
+            { make_free(state, call, anchor, pages, backups, logs, work, book) }
+        _ => make_storing(
             state,
             shape,
             call,
@@ -42,7 +49,29 @@ pub fn make(
     }
 }
 
-fn make_other(
+// A call that makes no store and so takes no budget.
+fn make_free(
+    state: State,
+    call: Call,
+    anchor: &[u64],
+    pages: &mut [u64],
+    backups: &[u64],
+    logs: &[u64],
+    work: &[u64],
+    book: &mut [u64],
+) -> Called {
+    let kind = call.kind;
+    let number = call.number;
+    match kind {
+        Kind::Begin => begin(state, anchor, pages, backups, logs, work),
+        Kind::Read => make_read(state, call, anchor, pages, backups, logs, work, book),
+        Kind::CheckpointBegin => checkpoint_begin(state, anchor, pages, backups, logs, work),
+        Kind::RestartBegin => restart_begin(state, anchor, pages, backups, logs, work),
+        _ => restart_step(state, number, anchor, pages, backups, logs, work),
+    }
+}
+
+fn make_storing(
     state: State,
     shape: Shape,
     call: Call,
@@ -55,11 +84,11 @@ fn make_other(
 ) -> Called {
     let kind = call.kind;
     match kind {
-        Kind::Format => make_format(state, shape, anchor, pages, backups, logs, work, budget),
-        Kind::CheckpointBegin | Kind::CheckpointStep | Kind::CheckpointEnd => {
-            make_checkpoint(state, kind, anchor, pages, backups, logs, work, budget)
+        Kind::Update | Kind::Commit | Kind::Abort => {
+            make_change(state, call, anchor, pages, backups, logs, work, budget)
         }
-        _ => make_restart(state, call, anchor, pages, backups, logs, work, budget),
+        Kind::Format => make_format(state, shape, anchor, pages, backups, logs, work, budget),
+        _ => make_copy(state, kind, anchor, pages, backups, logs, work, budget),
     }
 }
 
@@ -76,19 +105,9 @@ fn make_change(
     let kind = call.kind;
     let number = call.number;
     match kind {
-        Kind::Begin => store::transactions::begin(state, anchor, pages, backups, logs, work),
         Kind::Update => make_update(state, call, anchor, pages, backups, logs, work, budget),
-        Kind::Commit => store::transactions::commit(
-            state,
-            number,
-            anchor,
-            pages,
-            backups,
-            logs,
-            work,
-            budget,
-        ),
-        _ => store::transactions::abort(state, number, anchor, pages, backups, logs, work, budget),
+        Kind::Commit => commit(state, number, anchor, pages, backups, logs, work, budget),
+        _ => abort(state, number, anchor, pages, backups, logs, work, budget),
     }
 }
 
@@ -158,7 +177,8 @@ fn make_read(
     Called { answer, state }
 }
 
-fn make_checkpoint(
+// A call that stores pages to a backup, or makes a backup current.
+fn make_copy(
     state: State,
     kind: Kind,
     anchor: &mut [u64],
@@ -169,13 +189,9 @@ fn make_checkpoint(
     budget: &mut u64,
 ) -> Called {
     match kind {
-        Kind::CheckpointBegin => {
-            store::checkpoints::checkpoint_begin(state, anchor, pages, backups, logs, work)
-        }
-        Kind::CheckpointStep => {
-            store::checkpoints::checkpoint_step(state, anchor, pages, backups, logs, work, budget)
-        }
-        _ => store::checkpoints::checkpoint_end(state, anchor, pages, backups, logs, work, budget),
+        Kind::CheckpointStep => checkpoint_step(state, anchor, pages, backups, logs, work, budget),
+        Kind::CheckpointEnd => checkpoint_end(state, anchor, pages, backups, logs, work, budget),
+        _ => restart_end(state, anchor, pages, backups, logs, work, budget),
     }
 }
 
@@ -206,26 +222,4 @@ fn make_format(
         work,
         budget,
     )
-}
-
-fn make_restart(
-    state: State,
-    call: Call,
-    anchor: &mut [u64],
-    pages: &mut [u64],
-    backups: &mut [u64],
-    logs: &[u64],
-    work: &mut [u64],
-    budget: &mut u64,
-) -> Called {
-    let kind = call.kind;
-    match kind {
-        Kind::RestartBegin => {
-            store::restarts::restart_begin(state, anchor, pages, backups, logs, work)
-        }
-        Kind::RestartStep => {
-            store::restarts::restart_step(state, call.number, anchor, pages, backups, logs, work)
-        }
-        _ => store::restarts::restart_end(state, anchor, pages, backups, logs, work, budget),
-    }
 }
