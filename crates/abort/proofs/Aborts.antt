@@ -9,7 +9,7 @@ use lib.ListN.{length}
 use borrow.Author.Tests.{lt-ltb, le-ltb}
 use Rattle.model.specs.declared.Core.{Core}
 use Rattle.model.specs.declared.Fault.{Fault}
-use Rattle.model.specs.declared.Fault.the-variants.{Sound, BadRecord}
+use Rattle.model.specs.declared.Fault.the-variants.{NoFault, BadRecord}
 use Rattle.model.specs.Sizes.{total}
 use Rattle.model.specs.Scan.{Scan, end, scan, faultIn, updatesIn, updateWords}
 use Rattle.model.specs.World.{World}
@@ -90,7 +90,7 @@ module _ (c : Core) (number : ℕ) (opened : isOpen (c .table) number ≡ true) 
 
   -- the fault that an abort answers
   abbrev long : Fault
-  long = cond (ltb (at .words) (updateWords (updatesIn number sc))) (BadRecord (at .disk) (at .first)) Sound
+  long = cond (ltb (at .words) (updateWords (updatesIn number sc))) (BadRecord (at .disk) (at .first)) NoFault
 
   fault-is : abortFault c w number ≡ faultIn (at .disk) sc long
   unfolding abortFault scopeOf
@@ -112,7 +112,7 @@ module _ (c : Core) (number : ℕ) (opened : isOpen (c .table) number ≡ true) 
       pub fault-long : at .words < words → BadRecord (at .disk) (at .first) ≡ abortFault c w number
       fault-long more = sym (fault-is ∙ clean ∙ rw (← count, lt-ltb (at .words) words more) refl)
 
-      pub fault-none : words ≤ at .words → Sound ≡ abortFault c w number
+      pub fault-none : words ≤ at .words → NoFault ≡ abortFault c w number
       fault-none few = sym (fault-is ∙ clean ∙ rw (← count, le-ltb (at .words) words few) refl)
 
   pub scope-disk : at .disk ≡ diskOf c number
@@ -131,7 +131,7 @@ module _ (c : Core) (number : ℕ) (opened : isOpen (c .table) number ≡ true) 
           omega (arith, disk-sound c (diskOf c number) state (open-below c number state opened) .ordered, tail-end (c .logs) (diskOf c number))
 
   -- where there is none, its updates can be taken back
-  pub scope-undoable : Serves c (w .logs) (w .work) → length (w .pages) ≡ total (c .sizes) → abortFault c w number ≡ Sound
+  pub scope-undoable : Serves c (w .logs) (w .work) → length (w .pages) ≡ total (c .sizes) → abortFault c w number ≡ NoFault
       → Undoable (c .sizes) (c .logs) (at .disk) number (at .from) (w .pages) (w .logs) (w .work)
   scope-undoable serves right sound =
       let few = abort-words c w number (rw sound refl) in

@@ -11,7 +11,7 @@ use Rattle.model.specs.Sizes.{slotBase}
 use Rattle.model.specs.Record.{change, encode, compensationKind}
 use Rattle.model.specs.Scan.{Update}
 use Rattle.model.specs.World.{World, pages}
-use Rattle.model.specs.Memory.{epochOf}
+use Rattle.model.specs.Memory.{copyOf}
 use Rattle.model.specs.Append.{append}
 use Rattle.model.specs.Image.{xorAt}
 use Rattle.model.specs.Abort.{xorIn, compensate}
@@ -30,7 +30,7 @@ ran-xor budget at diff w = pages-written budget at (xors (part at (length diff) 
 module _ (s : Sizes) (l : Logs) (w : World) (number disk : ℕ) (u : Update) {budget rest : ℕ} {v : World} {diff : List ℕ} {r : Progress}
     (same : diff ≡ u .diff)
     (did : Did budget rest
-    (append s l (w .work) disk (encode (change compensationKind (u .page) (u .slot) number (epochOf s (w .work) (u .page)) diff))) w v r) where
+    (append s l (w .work) disk (encode (change compensationKind (u .page) (u .slot) number (copyOf s (w .work) (u .page)) diff))) w v r) where
   -- the append was cut
   pub compensated-cut : r .finished ≡ false → Did budget rest (compensate s l w number disk u) w v r
   unfolding compensate

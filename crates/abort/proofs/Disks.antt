@@ -10,7 +10,7 @@ use Rattle.model.specs.Sizes.{diskAt, ringOf, total}
 use Rattle.model.specs.Word.{part}
 use Rattle.model.specs.Decode.{readLog}
 use Rattle.model.specs.World.{World, worldOf}
-use Rattle.model.specs.Memory.{bufferAt, bufferOf, epochAt, workWords}
+use Rattle.model.specs.Memory.{bufferAt, bufferOf, copyAt, workWords}
 use Rattle.model.specs.State.{limit, tailOf, fillOf, endOf}
 use Rattle.model.specs.Append.{append}
 use Rattle.model.proofs.Bounds.{Bounded, bounded, total-max}
@@ -47,7 +47,7 @@ module _ {s : Sizes} {l : Logs} {disk : ℕ} {logs work : List ℕ} (at : Servin
   fill-small = at .fills-small disk (at .disk-below)
 
   pub small : Small s disk work
-  unfolding workWords epochAt bufferAt
+  unfolding workWords copyAt bufferAt
   small =
       record {
         pages = bounds .pages-max;
@@ -124,9 +124,9 @@ module _ {s : Sizes} {l : Logs} {disk : ℕ} {logs work : List ℕ} (at : Servin
       (omega (arith, there .page-in, bounds .pages-max), omega (arith, there .slot-in, bounds .used page (there .page-in) .slots-max))
 
   -- a compensation's fields fit its first word
-  pub encodable : {page slot width : ℕ} → InSlot s page slot width → (number epoch : ℕ)
-      → Encodable (record { kind = 1; page = page; slot = slot; number = number; epoch = epoch }) width
-  encodable {page} there number epoch =
+  pub encodable : {page slot width : ℕ} → InSlot s page slot width → (number copy : ℕ)
+      → Encodable (record { kind = 1; page = page; slot = slot; number = number; copy = copy }) width
+  encodable {page} there number copy =
       let used = bounds .used page (there .page-in) in
       record {
         kind-small = omega arith;

@@ -39,14 +39,14 @@ items-above m (item p r rest) h =
 pub updates-found : (s : Sizes) (read : ℕ → ℕ) (stop number from : ℕ) → Every (Found s read stop from) (updatesIn number (scan s read stop from))
 updates-found s read stop number from u m =
     let source = updates-from number (scan s read stop from) u m in
-    let i = itemOf number u (source .epoch) in
+    let i = itemOf number u (source .copy) in
     let stands = scan-items s read stop from i (source .listed) in
     let low = items-above from (scan s read stop from) (scan-rises s read stop from) i (source .listed) in
-    go low (source .epoch) (stands .next) (decodeAt s read stop (u .position)) refl (stands .decodes)
+    go low (source .copy) (stands .next) (decodeAt s read stop (u .position)) refl (stands .decodes)
   where
     go : from ≤ u .position → (e next : ℕ) (d : Decoded) → decodeAt s read stop (u .position) ≡ d
         → Decodes read (u .position) d (change updateKind (u .page) (u .slot) number e (u .diff)) next → Found s read stop from u
-    go low e next (Change kind page slot n epoch width to) x h =
+    go low e next (Change kind page slot n copy width to) x h =
         let same = h .0 in
         let diff : u .diff ≡ span read (u .position + 3) width = cc in
         let p : u .page ≡ page = cc in

@@ -7,7 +7,7 @@ use lib.ListN.{length}
 use Rattle.model.specs.declared.Table.{Table}
 use Rattle.model.specs.declared.Core.{Core}
 use Rattle.model.specs.declared.Reply.{Reply}
-use Rattle.model.specs.declared.Fault.the-variants.{Sound, BadRecord}
+use Rattle.model.specs.declared.Fault.the-variants.{NoFault, BadRecord}
 use Rattle.model.specs.Sizes.{total}
 use Rattle.model.specs.World.{World}
 use Rattle.model.specs.State.{isOpen, without, withLog}
@@ -56,7 +56,7 @@ module _ (c : Core) (number budget : ℕ) (w : World) {a : Bool} {r : ℕ} (stag
     unfolding verdict
     given-fault {disk} {position} bad e = rw e (refusal-given (abort number budget) c w 7 disk position (decided ∙ rw bad refl))
 
-    pub given-work : isOpen (c .table) number ≡ true → abortFault c w number ≡ Sound → {rest : ℕ} {v : World} {done : Progress}
+    pub given-work : isOpen (c .table) number ≡ true → abortFault c w number ≡ NoFault → {rest : ℕ} {v : World} {done : Progress}
         → Did budget rest (rolledBack c w number) w v done → {table : Table} → table ≡ without (c .table) number → {reply : Reply}
         → reply ≡ settled (done .finished) budget rest 0 (withLog c (done .logs) table)
         → Gives (abort number budget) c w reply rest v

@@ -8,7 +8,7 @@ use native.Mathlib.Omega.{arith}
 use lib.Dec.{ltb}
 use lib.ListN.{length}
 use borrow.Author.Tests.{ltb-true}
-use Rattle.model.specs.declared.Fault.the-variants.{Sound}
+use Rattle.model.specs.declared.Fault.the-variants.{NoFault}
 use Rattle.model.specs.Scan.{Scan, end, bad, faultIn, Update}
 use Rattle.model.proofs.Faults.{fault-bad}
 use Rattle.model.proofs.Reading.{ending, either-ending}
@@ -17,13 +17,13 @@ use Rattle.log.specs.declared.newest.Newest.the-variants.{At, Absent}
 use Rattle.log.specs.Reading.{foundAt, newestBelow}
 
 -- a log in which no fault is found is read to its end
-pub sound-end : (disk : ℕ) (sc : Scan) → faultIn disk sc Sound ≡ Sound → ending sc ≡ end
+pub sound-end : (disk : ℕ) (sc : Scan) → faultIn disk sc NoFault ≡ NoFault → ending sc ≡ end
 sound-end disk sc e = go (either-ending sc)
   where
     go : (ending sc ≡ end) ⊎ ((p : ℕ) × (ending sc ≡ bad p)) → ending sc ≡ end
     go (inl x) = x
     go (inr x) =
-        let f = sym (fault-bad disk sc Sound (x .0) (x .1)) ∙ e in
+        let f = sym (fault-bad disk sc NoFault (x .0) (x .1)) ∙ e in
         let z : _≡_ {A = ℕ} 0 1 = cc in
         absurd (omega arith)
 

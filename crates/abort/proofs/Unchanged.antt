@@ -15,7 +15,7 @@ use Rattle.model.specs.Sizes.{slotBase, ringOf, diskAt}
 use Rattle.model.specs.Record.{change, encode, compensationKind}
 use Rattle.model.specs.Scan.{Update}
 use Rattle.model.specs.World.{World, write, pages, each, perform}
-use Rattle.model.specs.Memory.{bufferAt, bufferOf, epochOf}
+use Rattle.model.specs.Memory.{bufferAt, bufferOf, copyOf}
 use Rattle.model.specs.State.{tailOf, fillOf, endOf, withFill, flushed}
 use Rattle.model.specs.Append.{Appended, appendIf, append, storeAll, flush, buffered}
 use Rattle.model.specs.Abort.{xorIn, compensate}
@@ -92,9 +92,9 @@ pub compensate-reads : (s : Sizes) (l : Logs) (w : World) (number disk : ℕ) (u
     ≡ reader s l disk (w .logs) (w .work) q
 unfolding compensate append xorIn
 compensate-reads s l w number disk u sized below small disk-fits buffer-fits short q before room =
-    let words : List ℕ = encode (change compensationKind (u .page) (u .slot) number (epochOf s (w .work) (u .page)) (u .diff)) in
+    let words : List ℕ = encode (change compensationKind (u .page) (u .slot) number (copyOf s (w .work) (u .page)) (u .diff)) in
     let added : Appended = append s l (w .work) disk words in
-    let long = change-length compensationKind (u .page) (u .slot) number (epochOf s (w .work) (u .page)) (u .diff) in
+    let long = change-length compensationKind (u .page) (u .slot) number (copyOf s (w .work) (u .page)) (u .diff) in
     let at : ℕ = slotBase s (u .page) (u .slot) in
     let back : List ℕ = xors (part at (length (u .diff)) (w .pages)) (u .diff) in
     rw (perform-append (added .actions) (each (write pages) at back) w, perform-pages at back (perform (added .actions) w))

@@ -6,7 +6,7 @@ use Prim.Native.Nat.{ℕ, _+_, _≤_, _<_}
 use lib.ListN.{length}
 use Rattle.model.specs.declared.Sizes.{Sizes}
 use Rattle.model.specs.declared.Logs.{Logs}
-use Rattle.model.specs.declared.Fault.the-variants.{Sound}
+use Rattle.model.specs.declared.Fault.the-variants.{NoFault}
 use Rattle.model.specs.Sizes.{slotsIn, widthIn, ringOf, total, logWords, sizesInBounds}
 use Rattle.model.specs.Decode.{readLog, span}
 use Rattle.model.specs.Scan.{Scan, scan, faultIn, Update, updatesIn, updateWords}
@@ -79,6 +79,6 @@ pub record Compensable (s : Sizes) (l : Logs) (disk : ℕ) (site : Site) (pages 
 pub record Undoable (s : Sizes) (l : Logs) (disk number from : ℕ) (pages logs work : List ℕ) : Type 0 where
   pub serving : Serving s l disk logs work
   pub page-words : length pages ≡ total s
-  pub readable : faultIn disk (logFrom s l disk logs work from) Sound ≡ Sound
+  pub readable : faultIn disk (logFrom s l disk logs work from) NoFault ≡ NoFault
   pub ring : endOf l disk + updateWords (updatesIn number (logFrom s l disk logs work from)) ≤ from + ringOf s disk
   pub in-limit : endOf l disk + updateWords (updatesIn number (logFrom s l disk logs work from)) ≤ limit

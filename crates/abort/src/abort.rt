@@ -19,7 +19,7 @@ ghost use mathlib.Core.List.{List, []};
 ghost use mathlib.Core.Bool.{true};
 ghost use Prim.Native.Nat.{ℕ};
 ghost use lib.ListN.{length};
-ghost use Rattle.model.specs.declared.Fault.the-variants.{Sound};
+ghost use Rattle.model.specs.declared.Fault.the-variants.{NoFault};
 ghost use Rattle.model.specs.Sizes.{total};
 ghost use Rattle.model.specs.World.{worldOf};
 ghost use Rattle.model.specs.State.{isOpen};
@@ -39,7 +39,7 @@ fn roll_back(
     budget: &mut u64,
 ) -> Progress
     requires { ⌜ Serves core (now logs) (now work) × (isOpen (core .table) number ≡ true) × (length (now pages) ≡ total (core .sizes)) ⌝ }
-    requires { ⌜ abortFault core (worldOf [] (now pages) [] (now logs) (now work)) number ≡ Sound ⌝ }
+    requires { ⌜ abortFault core (worldOf [] (now pages) [] (now logs) (now work)) number ≡ NoFault ⌝ }
     ensures { λ r. ⌜ ((anchor backups : List ℕ) → Did (now (budget .entry)) (now (budget .exit))
         (rolledBack core (worldOf anchor (now (pages .entry)) backups (now (logs .entry)) (now (work .entry))) number)
         (worldOf anchor (now (pages .entry)) backups (now (logs .entry)) (now (work .entry)))

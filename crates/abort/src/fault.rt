@@ -36,5 +36,5 @@ pub fn fault_of(core: Core, number: u64, logs: &[u64], work: &[u64]) -> Fault
             position: at.first,
         };
     }
-    Fault::Sound
+    Fault::NoFault
 }

@@ -1,7 +1,7 @@
 // A record appended for a disk of a state, and the logs' part of the state after it.
 use crate::window::window_of;
 use frame::home::with_disk;
-use layout::memory::page_epoch;
+use layout::memory::page_copy;
 use log::write::Head;
 use log::write::Logged;
 use log::write::append_change;
@@ -14,7 +14,7 @@ ghost use Prim.Native.Nat.{ℕ, _<_};
 ghost use lib.ListN.{length};
 ghost use Rattle.model.specs.Record.{change, close, encode, compensationKind, abortKind};
 ghost use Rattle.model.specs.World.{worldOf};
-ghost use Rattle.model.specs.Memory.{epochOf};
+ghost use Rattle.model.specs.Memory.{copyOf};
 ghost use Rattle.model.specs.Append.{append};
 ghost use Rattle.frame.specs.Home.{withDisk};
 ghost use Rattle.abort.specs.Undo.{Serving, InSlot, Did};
@@ -36,7 +36,7 @@ fn advanced(state: Logs, disk: u64, added: Logged) -> Progress
     }
 }
 
-// Appends the compensation of an update, with the page's present copy epoch.
+// Appends the compensation of an update, with the page's present copy number.
 pub fn log_compensation(
     sizes: Sizes,
     state: Logs,
@@ -52,7 +52,7 @@ pub fn log_compensation(
     requires { ⌜ Serving sizes state disk (now logs) (now work) ⌝ }
     requires { ⌜ InSlot sizes page slot (length (now difference)) ⌝ }
     ensures { λ r. ⌜ ((anchor pages backups : List ℕ) → Did (now (budget .entry)) (now (budget .exit))
-        (append sizes state (now (work .entry)) disk (encode (change compensationKind page slot number (epochOf sizes (now (work .entry)) page) (now (difference .entry)))))
+        (append sizes state (now (work .entry)) disk (encode (change compensationKind page slot number (copyOf sizes (now (work .entry)) page) (now (difference .entry)))))
         (worldOf anchor pages backups (now (logs .entry)) (now (work .entry))) (worldOf anchor pages backups (now (logs .exit)) (now (work .exit))) r) ⌝ }
 {
     let log = window_of(sizes, state, disk);
@@ -61,7 +61,7 @@ pub fn log_compensation(
         page,
         slot,
         number,
-        epoch: page_epoch(sizes, work, page),
+        copy: page_copy(sizes, work, page),
     };
     let added = append_change(
         logs,

@@ -12,7 +12,7 @@ use Rattle.model.specs.Sizes.{widthIn, slotBase, total}
 use Rattle.model.specs.World.{World}
 use Rattle.model.specs.Memory.{ownerOf}
 use Rattle.model.specs.State.{inTable, isOpen}
-use Rattle.model.specs.Refusal.{Row, row, Verdict, verdict, accepted, refused}
+use Rattle.model.specs.Refusal.{Row, row, Verdict, verdict, accepted, rejected}
 use Rattle.model.specs.Causes.{whenServing, lengthsWrong, slotMissing, notOpen, readerNotOpen, locked}
 use Rattle.model.specs.Transaction.{readRows}
 use Rattle.model.proofs.Lengths.{lengths-right}
@@ -27,7 +27,7 @@ use Rattle.access.proofs.SlotBounds.{There, slot-there}
 pub taken-number : {v : Verdict} {r : ℕ} → v ≡ verdictOf r → r ≡ 0 → v ≡ accepted
 taken-number {r} e none = e ∙ rw (eq-eqb r 0 none) refl
 
-pub refused-number : {v : Verdict} {r : ℕ} → v ≡ verdictOf r → (r ≡ 0 → ⊥) → v ≡ refused r 0 0
+pub refused-number : {v : Verdict} {r : ℕ} → v ≡ verdictOf r → (r ≡ 0 → ⊥) → v ≡ rejected r 0 0
 refused-number {r} e some = e ∙ rw (ne-eqb r 0 some) refl
 
 module _ (c : Core) (w : World) (reader page slot : ℕ) where

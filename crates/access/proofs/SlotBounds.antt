@@ -10,7 +10,7 @@ use Rattle.model.specs.declared.Sizes.{Sizes}
 use Rattle.model.specs.declared.Core.{Core}
 use Rattle.model.specs.Sizes.{slotsIn, widthIn, slotBase, total, sizesInBounds}
 use Rattle.model.specs.World.{World}
-use Rattle.model.specs.Memory.{bufferAt, epochAt, workWords}
+use Rattle.model.specs.Memory.{bufferAt, copyAt, workWords}
 use Rattle.model.specs.Causes.{whenServing, slotMissing}
 use Rattle.model.proofs.Booleans.{or-none}
 use Rattle.model.proofs.Bounds.{bounded}
@@ -55,5 +55,5 @@ module _ (c : Core) (w : World) (passed : Passed whenServing c w) where
   passed-slot page slot here = slot-there (c .sizes) page slot passed-sizes here
 
   pub owner-fits : (page slot : ℕ) → There (c .sizes) page slot → slotBase (c .sizes) page slot < length (w .work)
-  unfolding workWords epochAt bufferAt
+  unfolding workWords copyAt bufferAt
   owner-fits page slot there = omega (arith, lengths-right (c .sizes) w (passed .lengths) .work, there .end, there .width-min)

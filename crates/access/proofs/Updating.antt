@@ -15,10 +15,10 @@ use Rattle.model.specs.Word.{xors, part}
 use Rattle.model.specs.Sizes.{widthIn, slotBase, total}
 use Rattle.model.specs.Record.{encode, wordsOf, updateKind}
 use Rattle.model.specs.World.{World}
-use Rattle.model.specs.Memory.{ownerAt, ownerOf, bufferAt, epochAt, workWords, epochOf}
+use Rattle.model.specs.Memory.{ownerAt, ownerOf, bufferAt, copyAt, workWords, copyOf}
 use Rattle.model.specs.State.{limit, endOf, inTable, isOpen, placeOf, reservedAt, servingSound, withLog}
 use Rattle.model.specs.Room.{hasRoom}
-use Rattle.model.specs.Refusal.{Row, row, verdict, accepted, refused}
+use Rattle.model.specs.Refusal.{Row, row, verdict, accepted, rejected}
 use Rattle.model.specs.Causes.{whenServing, lengthsWrong, slotMissing, notOpen, valueWrong, locked}
 use Rattle.model.specs.Append.{append}
 use Rattle.model.specs.Transaction.{diskOf, slotWords, updateRecord, updated, slotRows, updateRows, updateTask}
@@ -78,7 +78,7 @@ module _ (c : Core) (w : World) (number page slot : ℕ) (value : List ℕ) wher
   module _ {a : Bool} {r : ℕ} (stage : a ≡ whenServing (c .stage))
       (first : r ≡ firstRefusal a c (length (w .anchor)) (length (w .pages)) (length (w .backups)) (length (w .logs)) (length (w .work)))
     where
-      pub update-refused : (r ≡ 0 → ⊥) → verdict (updateRows c w number page slot value) ≡ refused r 0 0
+      pub update-refused : (r ≡ 0 → ⊥) → verdict (updateRows c w number page slot value) ≡ rejected r 0 0
       unfolding updateRows
       update-refused some = first-refused whenServing c w stage first some (slotRows c w number page slot value)
 
@@ -118,8 +118,8 @@ module _ {c : Core} {number page slot : ℕ} {value p l k : List ℕ} (ok : Chan
   pub changes-slot : There (c .sizes) page slot
   changes-slot = slot-there (c .sizes) page slot (sizes-sound c (ok .serves .state)) (ok .there)
 
-  pub changes-encodable : {epoch : ℕ}
-      → Encodable (record { kind = updateKind; page = page; slot = slot; number = number; epoch = epoch }) (length value)
+  pub changes-encodable : {copy : ℕ}
+      → Encodable (record { kind = updateKind; page = page; slot = slot; number = number; copy = copy }) (length value)
   changes-encodable =
       record {
         kind-small = omega arith;
@@ -132,7 +132,7 @@ module _ {c : Core} {number page slot : ℕ} {value p l k : List ℕ} (ok : Chan
   changes-pages = omega (arith, changes-slot .end, ok .width, ok .page-words)
 
   pub changes-owner : slotBase (c .sizes) page slot < length k
-  unfolding workWords epochAt bufferAt
+  unfolding workWords copyAt bufferAt
   changes-owner = omega (arith, changes-slot .end, changes-slot .width-min, ok .serves .work-words)
 
 -- An open transaction's log ends, and its reserved words are, below the bound of positions.
@@ -160,12 +160,12 @@ record Changed (budget rest : ℕ) (c : Core) (number page slot : ℕ) (value : 
 change-task : (c : Core) (w v : World) (number page slot : ℕ) (value : List ℕ) {h : Home} {head : Head} {at budget rest : ℕ} {r : Logged}
     → length value ≡ widthIn (c .sizes) page → slotBase (c .sizes) page slot + length value ≤ length (w .pages)
     → h ≡ homeOf c (diskOf c number)
-    → head ≡ record { kind = updateKind; page = page; slot = slot; number = number; epoch = epochOf (c .sizes) (w .work) page }
+    → head ≡ record { kind = updateKind; page = page; slot = slot; number = number; copy = copyOf (c .sizes) (w .work) page }
     → at ≡ slotBase (c .sizes) page slot → Replaced budget rest (c .sizes) (c .logs) (h .disk) head at value w v r
     → Changed budget rest c number page slot value w v r
 unfolding updateTask replacing homeOf ownerAt updateRecord slotWords
 change-task c w v number page slot value {r} wide fits home head at did =
-    let words = change-length updateKind page slot number (epochOf (c .sizes) (w .work) page) (xors (part (slotBase (c .sizes) page slot) (length value) (w .pages)) value) ∙ ap (3 +_) (difference-length (slotBase (c .sizes) page slot) value (w .pages) fits) in
+    let words = change-length updateKind page slot number (copyOf (c .sizes) (w .work) page) (xors (part (slotBase (c .sizes) page slot) (length value) (w .pages)) value) ∙ ap (3 +_) (difference-length (slotBase (c .sizes) page slot) value (w .pages) fits) in
     record {
       ran = rw (home, head, at, wide) at (did .ran);
       state = λ finished. let same = rw (home, head, at, wide) at (did .state finished) in
@@ -176,7 +176,7 @@ change-task c w v number page slot value {r} wide fits home head at did =
 -- The reply of an update whose record is logged and whose slot is set, or that is cut before.
 pub update-concluded : (c : Core) (w v : World) (number page slot : ℕ) (value : List ℕ) {h : Home} {head : Head} {at budget rest : ℕ} {r : Logged} {reply : Reply}
     → Changes c number page slot value (w .pages) (w .logs) (w .work) → h ≡ homeOf c (diskOf c number)
-    → head ≡ record { kind = updateKind; page = page; slot = slot; number = number; epoch = epochOf (c .sizes) (w .work) page }
+    → head ≡ record { kind = updateKind; page = page; slot = slot; number = number; copy = copyOf (c .sizes) (w .work) page }
     → at ≡ slotBase (c .sizes) page slot → Replaced budget rest (c .sizes) (c .logs) (h .disk) head at value w v r
     → reply ≡ settled (r .finished) budget rest 0 (withLog c (withDisk (c .logs) (diskOf c number) (r .tail) (r .fill)) (updated c number (3 + length value)))
     → Concludes budget rest (updateTask c w number page slot value) w v reply

@@ -1,7 +1,7 @@
 // The work of an update: its record appended, the slot changed, its owner set.
 use frame::home::Home;
 use frame::home::with_disk;
-use layout::memory::page_epoch;
+use layout::memory::page_copy;
 use log::write::Head;
 use log::write::Logged;
 use log::write::append_change;
@@ -22,7 +22,7 @@ ghost use Rattle.model.specs.declared.Logs.{Logs};
 ghost use Rattle.model.specs.Word.{xors, part};
 ghost use Rattle.model.specs.Record.{encode};
 ghost use Rattle.model.specs.World.{World};
-ghost use Rattle.model.specs.Memory.{epochOf, workWords};
+ghost use Rattle.model.specs.Memory.{copyOf, workWords};
 ghost use Rattle.model.specs.State.{limit, places, placeOf, reservedAt, isOpen, servingSound, withLog};
 ghost use Rattle.model.specs.Transaction.{diskOf, updated};
 ghost use Rattle.device.specs.Ran.{withSlices};
@@ -119,14 +119,14 @@ fn updated_table(table: Table, number: u64, home: Home, words: u64) -> Table
 // What a record of the transaction says beside its difference.
 pub fn head_of(core: Core, number: u64, page: u64, slot: u64, work: &[u64]) -> Head
     requires { ⌜ (page < 64) × (length (now work) ≡ workWords (core .sizes)) ⌝ }
-    ensures { λ r. ⌜ r ≡ record { kind = 0; page = page; slot = slot; number = number; epoch = epochOf (core .sizes) (now (work .entry)) page } ⌝ }
+    ensures { λ r. ⌜ r ≡ record { kind = 0; page = page; slot = slot; number = number; copy = copyOf (core .sizes) (now (work .entry)) page } ⌝ }
 {
     Head {
         kind: 0,
         page,
         slot,
         number,
-        epoch: page_epoch(core.sizes, work, page),
+        copy: page_copy(core.sizes, work, page),
     }
 }
 

@@ -8,7 +8,7 @@ use borrow.Author.Tests.{le-leb, lt-leb}
 use Rattle.model.specs.declared.Core.{Core}
 use Rattle.model.specs.World.{World}
 use Rattle.model.specs.State.{limit, servingSound}
-use Rattle.model.specs.Refusal.{row, verdict, accepted, refused}
+use Rattle.model.specs.Refusal.{row, verdict, accepted, rejected}
 use Rattle.model.specs.Causes.{whenOpen, spent}
 use Rattle.model.specs.Checkpoint.{checkpointBeginRows}
 use Rattle.model.proofs.Store.Rows.{open-serving, serving-sound}
@@ -18,12 +18,12 @@ use Rattle.frame.proofs.Verdicts.{first-refused, first-accepted, first-passed}
 module _ (c : Core) (w : World) {a : Bool} {r : ℕ} (stage : a ≡ whenOpen (c .stage))
     (first : r ≡ firstRefusal a c (length (w .anchor)) (length (w .pages)) (length (w .backups)) (length (w .logs)) (length (w .work)))
   where
-    pub begin-refused : (r ≡ 0 → ⊥) → verdict (checkpointBeginRows c w) ≡ refused r 0 0
+    pub begin-refused : (r ≡ 0 → ⊥) → verdict (checkpointBeginRows c w) ≡ rejected r 0 0
     unfolding checkpointBeginRows
     begin-refused some = first-refused whenOpen c w stage first some _
 
     module _ (none : r ≡ 0) where
-      pub begin-spent : limit ≤ c .epoch → verdict (checkpointBeginRows c w) ≡ refused 13 0 0
+      pub begin-spent : limit ≤ c .epoch → verdict (checkpointBeginRows c w) ≡ rejected 13 0 0
       unfolding checkpointBeginRows verdict spent
       begin-spent high = first-accepted whenOpen c w stage first none (row 13 (spent (c .epoch)) ∷ []) ∙ rw (le-leb limit (c .epoch) high) refl
 

@@ -10,7 +10,7 @@ use borrow.Author.Tests.{le-leb, lt-leb, lt-ltb, le-ltb, ltb-true, ltb-false}
 use Rattle.model.specs.declared.Core.{Core}
 use Rattle.model.specs.declared.Reply.{Reply}
 use Rattle.model.specs.World.{World}
-use Rattle.model.specs.Refusal.{Row, row, verdict, accepted, refused}
+use Rattle.model.specs.Refusal.{Row, row, verdict, accepted, rejected}
 use Rattle.model.specs.Causes.{whenCopying}
 use Rattle.model.specs.Checkpoint.{toCopy, lowestToCopy, copyPage, checkpointStepRows, checkpointStepTask, checkpointEndRows}
 use Rattle.model.proofs.Below.{first-unique, first-none}
@@ -54,11 +54,11 @@ step-settled c w {whole} most ran e =
 module _ (c : Core) (w : World) {a : Bool} {r : ℕ} (stage : a ≡ whenCopying (c .stage))
     (first : r ≡ firstRefusal a c (length (w .anchor)) (length (w .pages)) (length (w .backups)) (length (w .logs)) (length (w .work)))
   where
-    pub step-refused : (r ≡ 0 → ⊥) → verdict (checkpointStepRows c w) ≡ refused r 0 0
+    pub step-refused : (r ≡ 0 → ⊥) → verdict (checkpointStepRows c w) ≡ rejected r 0 0
     unfolding checkpointStepRows
     step-refused some = first-refused whenCopying c w stage first some _
 
-    pub end-refused : (r ≡ 0 → ⊥) → verdict (checkpointEndRows c w) ≡ refused r 0 0
+    pub end-refused : (r ≡ 0 → ⊥) → verdict (checkpointEndRows c w) ≡ rejected r 0 0
     unfolding checkpointEndRows
     end-refused some = first-refused whenCopying c w stage first some _
 
@@ -75,7 +75,7 @@ module _ (c : Core) (w : World) {a : Bool} {r : ℕ} (stage : a ≡ whenCopying 
       abbrev endRow : List Row
       endRow = row 15 (ltb (lowestToCopy c) (c .sizes .pages)) ∷ []
 
-      pub step-none : c .sizes .pages ≤ c .checkpoint .copied → verdict (checkpointStepRows c w) ≡ refused 15 0 0
+      pub step-none : c .sizes .pages ≤ c .checkpoint .copied → verdict (checkpointStepRows c w) ≡ rejected 15 0 0
       unfolding checkpointStepRows verdict
       step-none h = first-accepted whenCopying c w stage first none stepRow ∙ rw (lowest, le-leb _ _ h) refl
 
@@ -83,7 +83,7 @@ module _ (c : Core) (w : World) {a : Bool} {r : ℕ} (stage : a ≡ whenCopying 
       unfolding checkpointStepRows verdict
       step-accepted h = first-accepted whenCopying c w stage first none stepRow ∙ rw (lowest, lt-leb _ _ h) refl
 
-      pub end-early : c .checkpoint .copied < c .sizes .pages → verdict (checkpointEndRows c w) ≡ refused 15 0 0
+      pub end-early : c .checkpoint .copied < c .sizes .pages → verdict (checkpointEndRows c w) ≡ rejected 15 0 0
       unfolding checkpointEndRows verdict
       end-early h = first-accepted whenCopying c w stage first none endRow ∙ rw (lowest, lt-ltb _ _ h) refl
 

@@ -10,7 +10,7 @@ use Rattle.model.specs.Word.{part}
 use Rattle.model.specs.Sizes.{pageBase, pageWords, total, sizesInBounds}
 use Rattle.model.specs.Anchor.{anchorWords, epochWord, startWord, backupAt}
 use Rattle.model.specs.World.{Action, store, write, anchor, backups, work, each}
-use Rattle.model.specs.Memory.{epochAt, workWords}
+use Rattle.model.specs.Memory.{copyAt, workWords}
 use Rattle.model.specs.State.{limit}
 use Rattle.frame.specs.Home.{Serves}
 
@@ -26,7 +26,7 @@ pub record Copyable (s : Sizes) (page : ℕ) (pages backups work : List ℕ) : T
 unfoldable pub pageCopied : Sizes → ℕ → ℕ → List ℕ → List Action
 pageCopied s number page pages =
     each (store backups) (backupAt s number + pageBase s page) (part (pageBase s page) (pageWords s page) pages)
-    ++ write work (epochAt s page) number ∷ []
+    ++ write work (copyAt s page) number ∷ []
 
 -- A copying state whose next page waits.
 pub record Steppable (c : Core) (pages backups work : List ℕ) : Type 0 where

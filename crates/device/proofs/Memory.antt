@@ -10,7 +10,7 @@ use borrow.Author.Tests.{le-leb}
 use Rattle.model.specs.World.{World, Action, write, pages, work, each, perform, stores, made, finishes}
 use Rattle.model.specs.declared.Sizes.{Sizes}
 use Rattle.model.specs.Sizes.{total}
-use Rattle.model.specs.Memory.{epochAt, freshWork}
+use Rattle.model.specs.Memory.{copyAt, freshWork}
 use Rattle.model.specs.Format.{freshMemory}
 use Rattle.model.proofs.Run.{finished-run, stores-written, perform-pages, perform-work}
 use Rattle.model.proofs.Restart.Words.{withPages}
@@ -37,10 +37,10 @@ pub work-written : (budget at : ℕ) (words : List ℕ) (w : World)
 work-written budget at words w = ran-free budget (stores-written work at words) (perform-work at words w)
 
 -- work memory made fresh
-pub fresh-written : (budget : ℕ) (s : Sizes) (epoch : ℕ) (w : World)
-    → Ran budget budget (freshMemory s epoch) w (withWork w (freshWork s epoch (w .work))) true
+pub fresh-written : (budget : ℕ) (s : Sizes) (copy : ℕ) (w : World)
+    → Ran budget budget (freshMemory s copy) w (withWork w (freshWork s copy (w .work))) true
 unfolding freshMemory freshWork
-fresh-written budget s epoch w =
+fresh-written budget s copy w =
     let owners : List ℕ = replicate (total s) 0 in
     ran-then (work-written budget 0 owners w) _ refl
-    (work-written budget (epochAt s 0) (replicate 64 epoch) (withWork w (sets (w .work) 0 owners)))
+    (work-written budget (copyAt s 0) (replicate 64 copy) (withWork w (sets (w .work) 0 owners)))

@@ -13,7 +13,7 @@ use Rattle.model.specs.Sizes.{total, logWords, sizesInBounds}
 use Rattle.model.specs.World.{World}
 use Rattle.model.specs.Memory.{workWords, lengthsRight}
 use Rattle.model.specs.State.{soundIn, sound}
-use Rattle.model.specs.Refusal.{verdict, accepted, refused}
+use Rattle.model.specs.Refusal.{verdict, accepted, rejected}
 use Rattle.model.specs.Causes.{whenShut, stageForbids, anchorWrong, sizesWrong, lengthsWrong}
 use Rattle.model.specs.Format.{formatRows}
 use Rattle.model.proofs.Booleans.{true-false}
@@ -32,22 +32,22 @@ shut-sound c = go (c .stage)
     go Copying e = true-false refl (sym e)
 
 module _ (c : Core) (w : World) (s : Sizes) where
-  pub format-forbidden : whenShut (c .stage) ≡ false → verdict (formatRows c w s) ≡ refused 1 0 0
+  pub format-forbidden : whenShut (c .stage) ≡ false → verdict (formatRows c w s) ≡ rejected 1 0 0
   unfolding formatRows verdict stageForbids
   format-forbidden e = rw e refl
 
   module _ (shut : whenShut (c .stage) ≡ true) where
-    pub format-anchor : (length (w .anchor) ≡ 148 → ⊥) → verdict (formatRows c w s) ≡ refused 2 0 0
+    pub format-anchor : (length (w .anchor) ≡ 148 → ⊥) → verdict (formatRows c w s) ≡ rejected 2 0 0
     unfolding formatRows verdict stageForbids anchorWrong
     format-anchor ne = rw (shut, shut-sound c shut, ne-eqb (length (w .anchor)) 148 ne) refl
 
     module _ (long : length (w .anchor) ≡ 148) where
-      pub format-sizes : sizesInBounds s ≡ false → verdict (formatRows c w s) ≡ refused 4 0 0
+      pub format-sizes : sizesInBounds s ≡ false → verdict (formatRows c w s) ≡ rejected 4 0 0
       unfolding formatRows verdict stageForbids anchorWrong sizesWrong
       format-sizes e = rw (shut, shut-sound c shut, eq-eqb (length (w .anchor)) 148 long, e) refl
 
       module _ (inside : sizesInBounds s ≡ true) where
-        pub format-lengths : lengthsRight s w ≡ false → verdict (formatRows c w s) ≡ refused 5 0 0
+        pub format-lengths : lengthsRight s w ≡ false → verdict (formatRows c w s) ≡ rejected 5 0 0
         unfolding formatRows verdict stageForbids anchorWrong sizesWrong lengthsWrong
         format-lengths e = rw (shut, shut-sound c shut, eq-eqb (length (w .anchor)) 148 long, inside, e) refl
 

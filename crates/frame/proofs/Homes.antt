@@ -8,7 +8,7 @@ use Rattle.model.specs.declared.Sizes.{Sizes}
 use Rattle.model.specs.declared.Core.{Core}
 use Rattle.model.specs.Sizes.{ringOf, diskAt, logWords}
 use Rattle.model.specs.World.{World}
-use Rattle.model.specs.Memory.{bufferAt, epochAt, workWords}
+use Rattle.model.specs.Memory.{bufferAt, copyAt, workWords}
 use Rattle.model.specs.State.{endOf}
 use Rattle.model.specs.Causes.{whenServing}
 use Rattle.model.proofs.Bounds.{bounded}
@@ -23,7 +23,7 @@ use Rattle.frame.proofs.Verdicts.{Passed}
 -- a buffer's place, counted from the end of the work memory
 pub buffer-from-end : (s : Sizes) (work disk : ℕ) → work ≡ workWords s → disk < s .disks
     → work - 64 * (s .disks - disk + 1) ≡ bufferAt s disk
-unfolding workWords epochAt bufferAt
+unfolding workWords copyAt bufferAt
 buffer-from-end s work disk e below = omega (arith, e, below)
 
 pub home-lent : (c : Core) (w : World) (disk : ℕ)
@@ -34,7 +34,7 @@ home-lent c w disk =
 
 pub home-within : (c : Core) (logs work : List ℕ) (disk : ℕ) → Serves c logs work → disk < c .sizes .disks
     → Within disk (homeOf c disk .ring) (homeOf c disk .buffer) (homeOf c disk .tail) (homeOf c disk .fill) logs work
-unfolding homeOf logWords diskAt ringOf workWords epochAt bufferAt endOf
+unfolding homeOf logWords diskAt ringOf workWords copyAt bufferAt endOf
 home-within c logs work disk serves below =
     let b = bounded (c .sizes) (sizes-sound c (serves .state)) in
     let d = disk-sound c disk (serves .state) below in

@@ -17,7 +17,7 @@ use Rattle.model.specs.Anchor.{anchorWords}
 use Rattle.model.specs.World.{World, made, finishes}
 use Rattle.model.specs.Memory.{lengthsRight, workWords}
 use Rattle.model.specs.State.{newCore, sound}
-use Rattle.model.specs.Refusal.{Row, row, Task, Verdict, accepted, refused, verdict, conclude}
+use Rattle.model.specs.Refusal.{Row, row, Task, Verdict, accepted, rejected, verdict, conclude}
 use Rattle.model.specs.Causes.{stageForbids, anchorWrong, lengthsWrong}
 use Rattle.model.specs.Call.{Call, rowsOf, taskOf, budgetOf, resultOf, Gives}
 use Rattle.model.proofs.Booleans.{both}
@@ -36,7 +36,7 @@ pub record Passed (allowed : Stage → Bool) (c : Core) (w : World) : Type 0 whe
 -- rows 1, 2 and 5 by their tests
 first-tests : (a b d : Bool) (rest : List Row)
     → verdict (row 1 (not a) ∷ row 2 (not b) ∷ row 5 (not d) ∷ rest)
-    ≡ cond (eqb (cond a (cond b (cond d 0 5) 2) 1) 0) (verdict rest) (refused (cond a (cond b (cond d 0 5) 2) 1) 0 0)
+    ≡ cond (eqb (cond a (cond b (cond d 0 5) 2) 1) 0) (verdict rest) (rejected (cond a (cond b (cond d 0 5) 2) 1) 0 0)
 unfolding verdict
 first-tests false b d rest = refl
 first-tests true false d rest = refl
@@ -54,7 +54,7 @@ module _ (allowed : Stage → Bool) (c : Core) (w : World) {a : Bool} {r : ℕ} 
   where
     first-verdict : (rest : List Row)
         → verdict (row 1 (stageForbids allowed c) ∷ row 2 (anchorWrong w) ∷ row 5 (lengthsWrong (c .sizes) w) ∷ rest)
-        ≡ cond (eqb r 0) (verdict rest) (refused r 0 0)
+        ≡ cond (eqb r 0) (verdict rest) (rejected r 0 0)
     unfolding stageForbids anchorWrong lengthsWrong lengthsRight firstRefusal lengthRefusal
     first-verdict rest =
         rw (first, stage)
@@ -62,7 +62,7 @@ module _ (allowed : Stage → Bool) (c : Core) (w : World) {a : Bool} {r : ℕ} 
 
     -- one of them applies
     pub first-refused : (r ≡ 0 → ⊥) → (rest : List Row)
-        → verdict (row 1 (stageForbids allowed c) ∷ row 2 (anchorWrong w) ∷ row 5 (lengthsWrong (c .sizes) w) ∷ rest) ≡ refused r 0 0
+        → verdict (row 1 (stageForbids allowed c) ∷ row 2 (anchorWrong w) ∷ row 5 (lengthsWrong (c .sizes) w) ∷ rest) ≡ rejected r 0 0
     first-refused some rest = first-verdict rest ∙ rw (ne-eqb r 0 some) refl
 
     -- none does: the other rows decide
@@ -86,7 +86,7 @@ module _ (allowed : Stage → Bool) (c : Core) (w : World) {a : Bool} {r : ℕ} 
 
 -- A refusal gives what its row says.
 pub refusal-given : (k : Call) (c : Core) (w : World) (number first second : ℕ)
-    → verdict (rowsOf k c w) ≡ refused number first second → Gives k c w (refusedWith c number first second) (budgetOf k) w
+    → verdict (rowsOf k c w) ≡ rejected number first second → Gives k c w (refusedWith c number first second) (budgetOf k) w
 unfolding Gives resultOf
 refusal-given k c w number first second e = rw e refl
 

@@ -8,7 +8,7 @@ use Rattle.model.specs.Sizes.{total, logWords}
 use Rattle.model.specs.Anchor.{anchorWords}
 use Rattle.model.specs.Memory.{workWords}
 use Rattle.model.specs.State.{sound}
-use Rattle.model.specs.Refusal.{Verdict, accepted, refused}
+use Rattle.model.specs.Refusal.{Verdict, accepted, rejected}
 
 -- the number of the first of these rows that applies, 0 where none does
 unfoldable pub lengthRefusal : Sizes → (anchor pages backups logs work : ℕ) → ℕ
@@ -23,4 +23,4 @@ firstRefusal allowed c anchor pages backups logs work =
 
 -- a verdict by its number alone: 0 accepts, another refuses and returns zeros
 abbrev pub verdictOf : ℕ → Verdict
-verdictOf n = cond (eqb n 0) accepted (refused n 0 0)
+verdictOf n = cond (eqb n 0) accepted (rejected n 0 0)

@@ -14,7 +14,7 @@ use Rattle.model.specs.declared.Sizes.{Sizes}
 use Rattle.model.specs.Word.{part}
 use Rattle.model.specs.Below.{within, allBelow}
 use Rattle.model.specs.Sizes.{slotsIn, widthIn, pageWords, usedEntry, unusedEntry, entryInBounds, sizesInBounds, total}
-use Rattle.model.specs.Memory.{epochAt, freshWork}
+use Rattle.model.specs.Memory.{copyAt, freshWork}
 use Rattle.model.proofs.Below.{all-stop}
 use Rattle.model.proofs.Bounds.{bounded}
 use Rattle.model.proofs.Parts.{length-part, getD-part}
@@ -81,10 +81,10 @@ entry-bytes s e i h = go (ltb i (s .pages)) refl
         (omega (arith, b .0), omega (arith, b .1))
 
 -- the words set in work memory
-pub fresh-set : (s : Sizes) (epoch : ℕ) (work : List ℕ) {words at : ℕ} {middle after : List ℕ} → words ≡ total s → at ≡ epochAt s 0
-    → middle ≡ sets work 0 (replicate words 0) → after ≡ sets middle at (replicate 64 epoch) → after ≡ freshWork s epoch work
+pub fresh-set : (s : Sizes) (copy : ℕ) (work : List ℕ) {words at : ℕ} {middle after : List ℕ} → words ≡ total s → at ≡ copyAt s 0
+    → middle ≡ sets work 0 (replicate words 0) → after ≡ sets middle at (replicate 64 copy) → after ≡ freshWork s copy work
 unfolding freshWork
-fresh-set s epoch work {words} {at} {middle} count place owners epochs =
-    epochs ∙ ap (λ (m : List ℕ). sets m at (replicate 64 epoch)) owners
-    ∙ ap (λ (n : ℕ). sets (sets work 0 (replicate n 0)) at (replicate 64 epoch)) count
-    ∙ ap (λ (n : ℕ). sets (sets work 0 (replicate (total s) 0)) n (replicate 64 epoch)) place
+fresh-set s copy work {words} {at} {middle} count place owners copies =
+    copies ∙ ap (λ (m : List ℕ). sets m at (replicate 64 copy)) owners
+    ∙ ap (λ (n : ℕ). sets (sets work 0 (replicate n 0)) at (replicate 64 copy)) count
+    ∙ ap (λ (n : ℕ). sets (sets work 0 (replicate (total s) 0)) n (replicate 64 copy)) place

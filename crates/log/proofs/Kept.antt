@@ -21,17 +21,17 @@ use Rattle.log.specs.Reading.{decodedChange, decodedClose, newestIn}
 use Rattle.log.proofs.Scanning.{got-change, got-close, newest-end, newest-change, newest-close}
 
 -- a record that is whole before the stop is the same with a later stop
-words-later : (s : Sizes) (stop more p w number epoch : ℕ) → stop ≤ more
-    → (decodeWords s stop p w number epoch ≡ Malformed)
-    ⊎ (decodeWords s more p w number epoch ≡ decodeWords s stop p w number epoch)
+words-later : (s : Sizes) (stop more p w number copy : ℕ) → stop ≤ more
+    → (decodeWords s stop p w number copy ≡ Malformed)
+    ⊎ (decodeWords s more p w number copy ≡ decodeWords s stop p w number copy)
 unfolding decodeWords
-words-later s stop more p w number epoch l = go (ltb 3 (kindField w)) (ltb stop next) refl
+words-later s stop more p w number copy l = go (ltb 3 (kindField w)) (ltb stop next) refl
   where
     next : ℕ
     next = p + wordsOf (kindField w) (widthField w)
 
     rest : Decoded
-    rest = cond (eqb number 0) Malformed (cond (ltb (kindField w) 2) (decodedChange s w number epoch next) (decodedClose w number next))
+    rest = cond (eqb number 0) Malformed (cond (ltb (kindField w) 2) (decodedChange s w number copy next) (decodedClose w number next))
 
     go : (unknown past : Bool) → ltb stop next ≡ past
         → (cond unknown Malformed (cond past Malformed rest) ≡ Malformed)
@@ -49,8 +49,8 @@ module _ (s : Sizes) (read : ℕ → ℕ) (stop p : ℕ) (h : p < stop) where
       let z : _≡_ {A = ℕ} 0 1 = cc in
       omega arith
 
-  sound-change : {kind page slot number epoch width next : ℕ}
-      → Change kind page slot number epoch width next ≡ decodeAt s read stop p → ending (scan s read stop p) ≡ end
+  sound-change : {kind page slot number copy width next : ℕ}
+      → Change kind page slot number copy width next ≡ decodeAt s read stop p → ending (scan s read stop p) ≡ end
       → ending (scan s read stop next) ≡ end
   unfolding ending
   sound-change x e = sym (ap ending (scan-change s read stop h (sym x))) ∙ e
@@ -88,7 +88,7 @@ module _ (s : Sizes) (read other : ℕ → ℕ) (stop more : ℕ) (later : stop 
           → (decodeAt s read stop p ≡ Malformed) ⊎ (decodeAt s other more p ≡ decodeAt s read stop p)
           → newestIn t bound sofar (scan s other more p) ≡ newestIn t bound sofar (scan s read stop p)
       step b d is ih (inl x) = absurd (not-malformed s read stop p (omega arith) x e)
-      step b (Change kind page slot number epoch width next) is ih (inr x) =
+      step b (Change kind page slot number copy width next) is ih (inr x) =
           let f = got-change s read stop is refl in
           let there = newest-change s other more (is ∙ sym x) (omega arith) t bound b sofar refl refl in
           let here = newest-change s read stop is (omega arith) t bound b sofar refl refl in

@@ -55,7 +55,7 @@ module _ (bound : ℕ) where
     all-above m end other h l = refl
     all-above m (bad p) other h l = simp (le-ltb p bound (omega arith))
     all-above m (item p (close kind n) rest) other h l = all-above (suc p) rest other (h .1) (omega (arith, h .0))
-    all-above m (item p (change kind page slot n epoch diff) rest) other h l =
+    all-above m (item p (change kind page slot n copy diff) rest) other h l =
         rw (below-append other (updatesIn t rest) _)
         (rw (above-one other (eqb kind updateKind && eqb n t) (record { position = p; page = page; slot = slot; diff = diff }) (omega (arith, h .0)))
         (all-above (suc p) rest other (h .1) (omega (arith, h .0))))
@@ -73,7 +73,7 @@ module _ (bound : ℕ) where
         go : (b : Bool) → ltb p bound ≡ b → newestIn t bound other rest ≡ found → cond b (newestIn t bound other rest) other ≡ found
         go true e ih = ih
         go false e ih = sym (all-above (suc p) rest other (h .1) (omega (arith, ltb-false p bound e)))
-    newest-means m (item p (change kind page slot n epoch diff) rest) other h =
+    newest-means m (item p (change kind page slot n copy diff) rest) other h =
         rw (below-append other (updatesIn t rest) _) (go (ltb p bound) refl (λ x. newest-means (suc p) rest x (h .1)))
       where
         u : Update

@@ -13,7 +13,7 @@ use Rattle.model.specs.declared.Decoded.{Decoded}
 use Rattle.model.specs.declared.Decoded.the-variants.{Change, Close, Malformed}
 use Rattle.model.specs.declared.Fate.the-variants.{Closed, Unclosed, Unreadable}
 use Rattle.model.specs.declared.Fault.{Fault}
-use Rattle.model.specs.declared.Fault.the-variants.{Sound, BadRecord}
+use Rattle.model.specs.declared.Fault.the-variants.{NoFault, BadRecord}
 use Rattle.model.specs.Anchor.{startOn}
 use Rattle.model.specs.Record.{updateKind}
 use Rattle.model.specs.Decode.{span, decodeAt}
@@ -29,8 +29,8 @@ use Rattle.log.specs.declared.newest.Newest.the-variants.{Broken}
 use Rattle.log.specs.Reading.{scanDisk, faultsFrom, isUpdateOf, foundAt, newerOf, newestIn}
 
 -- an update of the transaction takes the place of what was found before, no other record does
-module _ (t p : ℕ) (sofar : Newest) {r : Decoded} {kind page slot number epoch width next : ℕ} {b : Bool}
-    (e : r ≡ Change kind page slot number epoch width next) (is : b ≡ isUpdateOf t (Change kind page slot number epoch width next)) where
+module _ (t p : ℕ) (sofar : Newest) {r : Decoded} {kind page slot number copy width next : ℕ} {b : Bool}
+    (e : r ≡ Change kind page slot number copy width next) (is : b ≡ isUpdateOf t (Change kind page slot number copy width next)) where
   newer-change : cond b (foundAt p page slot width) sofar ≡ newerOf t p r sofar
   newer-change = rw (is, e)
 
@@ -43,7 +43,7 @@ module _ (t p : ℕ) (sofar : Newest) {r : Decoded} {kind page slot number epoch
 module _ (s : Sizes) (read : ℕ → ℕ) (stop : ℕ) where
   -- what is known of a record r that was decoded at p
   module _ {p : ℕ} {r : Decoded} (is : r ≡ decodeAt s read stop p) where
-    pub got-change : {kind page slot number epoch width next : ℕ} → r ≡ Change kind page slot number epoch width next
+    pub got-change : {kind page slot number copy width next : ℕ} → r ≡ Change kind page slot number copy width next
         → ChangeAt s stop p kind page slot number width next
     got-change e = found-change s read stop (sym is ∙ e)
 
@@ -56,7 +56,7 @@ module _ (s : Sizes) (read : ℕ → ℕ) (stop : ℕ) where
   fate-end t p h = sym (ap (fateIn t) (scan-end s read stop p h))
 
   module _ {p : ℕ} {r : Decoded} (is : r ≡ decodeAt s read stop p) (h : p < stop) (t : ℕ) where
-    pub fate-change : {kind page slot number epoch width next : ℕ} → r ≡ Change kind page slot number epoch width next
+    pub fate-change : {kind page slot number copy width next : ℕ} → r ≡ Change kind page slot number copy width next
         → fateIn t (scan s read stop next) ≡ fateIn t (scan s read stop p)
     unfolding fateIn
     fate-change e = sym (ap (fateIn t) (scan-change s read stop h (sym is ∙ e)))
@@ -81,7 +81,7 @@ module _ (s : Sizes) (read : ℕ → ℕ) (stop : ℕ) where
   fault-end disk p rest h = ap (λ (x : Scan). faultIn disk x rest) (scan-end s read stop p h)
 
   module _ {p : ℕ} {r : Decoded} (is : r ≡ decodeAt s read stop p) (h : p < stop) (disk : ℕ) (rest : Fault) where
-    pub fault-change : {kind page slot number epoch width next : ℕ} → r ≡ Change kind page slot number epoch width next
+    pub fault-change : {kind page slot number copy width next : ℕ} → r ≡ Change kind page slot number copy width next
         → faultIn disk (scan s read stop next) rest ≡ faultIn disk (scan s read stop p) rest
     unfolding faultIn
     fault-change e = sym (ap (λ (x : Scan). faultIn disk x rest) (scan-change s read stop h (sym is ∙ e)))
@@ -99,7 +99,7 @@ module _ (s : Sizes) (read : ℕ → ℕ) (stop : ℕ) where
   newest-cut : (t bound p : ℕ) (sofar : Newest) (d : Decoded) (f : ℕ → Scan) → bound ≤ p
       → newestIn t bound sofar (scanned read p d f) ≡ sofar
   unfolding newestIn
-  newest-cut t bound p sofar (Change kind page slot number epoch width next) f l = simp (le-ltb p bound l)
+  newest-cut t bound p sofar (Change kind page slot number copy width next) f l = simp (le-ltb p bound l)
   newest-cut t bound p sofar (Close kind number next) f l = simp (le-ltb p bound l)
   newest-cut t bound p sofar Malformed f l = simp (le-ltb p bound l)
 
@@ -113,9 +113,9 @@ module _ (s : Sizes) (read : ℕ → ℕ) (stop : ℕ) where
       go (no h) = ap (newestIn t bound sofar) (scan-end s read stop p (omega arith))
 
   module _ {p : ℕ} {r : Decoded} (is : r ≡ decodeAt s read stop p) (h : p < stop) (t bound : ℕ) (l : p < bound) (sofar : Newest) where
-    pub newest-change : {kind page slot number epoch width next : ℕ} {found : Newest}
-        → r ≡ Change kind page slot number epoch width next
-        → found ≡ newerOf t p (Change kind page slot number epoch width next) sofar
+    pub newest-change : {kind page slot number copy width next : ℕ} {found : Newest}
+        → r ≡ Change kind page slot number copy width next
+        → found ≡ newerOf t p (Change kind page slot number copy width next) sofar
         → newestIn t bound found (scan s read stop next) ≡ newestIn t bound sofar (scan s read stop p)
     unfolding newestIn
     newest-change {width} e f =
@@ -138,9 +138,9 @@ module _ (s : Sizes) (read : ℕ → ℕ) (stop : ℕ) where
   words-end t p h e = omega (arith, ap (λ (x : Scan). updateWords (updatesIn t x)) (scan-end s read stop p h))
 
   module _ {p : ℕ} {r : Decoded} (is : r ≡ decodeAt s read stop p) (h : p < stop) (t : ℕ) where
-    words-change : {kind page slot number epoch width next : ℕ} → r ≡ Change kind page slot number epoch width next
+    words-change : {kind page slot number copy width next : ℕ} → r ≡ Change kind page slot number copy width next
         → updateWords (updatesIn t (scan s read stop p))
-        ≡ updateWords (updatesIn t (scan s read stop next)) + cond (isUpdateOf t (Change kind page slot number epoch width next)) (next - p) 0
+        ≡ updateWords (updatesIn t (scan s read stop next)) + cond (isUpdateOf t (Change kind page slot number copy width next)) (next - p) 0
     unfolding updatesIn updateWords
     words-change {kind} {page} {slot} {number} {width} {next} e =
         ap (λ (x : Scan). updateWords (updatesIn t x)) (scan-change s read stop h (sym is ∙ e))
@@ -154,13 +154,13 @@ module _ (s : Sizes) (read : ℕ → ℕ) (stop : ℕ) where
         go true = let f = got-change is e in omega (arith, length-span read (p + 3) width)
         go false = refl
 
-    pub words-update : {kind page slot number epoch width next : ℕ} {b : Bool}
-        → r ≡ Change kind page slot number epoch width next → b ≡ isUpdateOf t (Change kind page slot number epoch width next) → b ≡ true
+    pub words-update : {kind page slot number copy width next : ℕ} {b : Bool}
+        → r ≡ Change kind page slot number copy width next → b ≡ isUpdateOf t (Change kind page slot number copy width next) → b ≡ true
         → updateWords (updatesIn t (scan s read stop p)) ≡ updateWords (updatesIn t (scan s read stop next)) + (next - p)
     words-update e u v = words-change e ∙ rw (sym u ∙ v)
 
-    pub words-other : {kind page slot number epoch width next : ℕ} {b : Bool}
-        → r ≡ Change kind page slot number epoch width next → b ≡ isUpdateOf t (Change kind page slot number epoch width next) → b ≡ false
+    pub words-other : {kind page slot number copy width next : ℕ} {b : Bool}
+        → r ≡ Change kind page slot number copy width next → b ≡ isUpdateOf t (Change kind page slot number copy width next) → b ≡ false
         → updateWords (updatesIn t (scan s read stop p)) ≡ updateWords (updatesIn t (scan s read stop next)) + 0
     words-other e u v = words-change e ∙ rw (sym u ∙ v)
 
@@ -183,7 +183,7 @@ module _ (s : Sizes) (logs starts : List ℕ) where
       let e : disks - d ≡ suc (disks - (d + 1)) = omega arith in
       ap (λ (n : ℕ). faultsFrom s logs starts n d) e
 
-  pub faults-done : (disks d : ℕ) → disks ≤ d → faultsFrom s logs starts (disks - d) d ≡ Sound
+  pub faults-done : (disks d : ℕ) → disks ≤ d → faultsFrom s logs starts (disks - d) d ≡ NoFault
   unfolding faultsFrom
   faults-done disks d h =
       let e : disks - d ≡ 0 = omega arith in

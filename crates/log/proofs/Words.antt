@@ -29,19 +29,19 @@ unfolding encode header
 close-words kind number = ap (λ (x : ℕ). x ∷ number ∷ []) (omega arith)
 
 -- a change whose difference stands behind its first three words
-pub change-words : (words : List ℕ) (kind page slot number epoch width : ℕ) → 3 + width ≤ length words
-    → take (3 + width) (sets words 0 (header kind page slot width ∷ number ∷ epoch ∷ []))
-    ≡ encode (change kind page slot number epoch (part 3 width words))
+pub change-words : (words : List ℕ) (kind page slot number copy width : ℕ) → 3 + width ≤ length words
+    → take (3 + width) (sets words 0 (header kind page slot width ∷ number ∷ copy ∷ []))
+    ≡ encode (change kind page slot number copy (part 3 width words))
 unfolding encode part
-change-words words kind page slot number epoch width fits =
-    let first : List ℕ = header kind page slot width ∷ number ∷ epoch ∷ [] in
+change-words words kind page slot number copy width fits =
+    let first : List ℕ = header kind page slot width ∷ number ∷ copy ∷ [] in
     let long : length (take width (drop 3 words)) ≡ width = length-part 3 width words fits in
     rw (sets-eq first words 0 (omega arith), take-append-add first (drop 3 words) width, long)
 
-pub change-length : (kind page slot number epoch : ℕ) (difference : List ℕ)
-    → length (encode (change kind page slot number epoch difference)) ≡ 3 + length difference
+pub change-length : (kind page slot number copy : ℕ) (difference : List ℕ)
+    → length (encode (change kind page slot number copy difference)) ≡ 3 + length difference
 unfolding encode
-change-length kind page slot number epoch difference = omega arith
+change-length kind page slot number copy difference = omega arith
 
 -- the same, with the difference put there first
 pub change-put : (l words difference : List ℕ) (h : Head) → 3 + length difference ≤ length l → words ≡ sets l 3 difference

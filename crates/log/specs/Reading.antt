@@ -8,7 +8,7 @@ use Rattle.model.specs.declared.Sizes.{Sizes}
 use Rattle.model.specs.declared.Decoded.{Decoded}
 use Rattle.model.specs.declared.Decoded.the-variants.{Change, Close, Malformed}
 use Rattle.model.specs.declared.Fault.{Fault}
-use Rattle.model.specs.declared.Fault.the-variants.{Sound}
+use Rattle.model.specs.declared.Fault.the-variants.{NoFault}
 use Rattle.model.specs.Sizes.{tailWord}
 use Rattle.model.specs.Record.{change, close, updateKind}
 use Rattle.model.specs.Decode.{readLog, kindField, pageField, slotField, widthField, misplaced}
@@ -18,9 +18,9 @@ use Rattle.log.specs.declared.newest.Newest.the-variants.{At, Absent, Br
 
 -- a change by its first three words, a closing record by its two: what decodeWords makes of a known kind
 abbrev pub decodedChange : Sizes → ℕ → ℕ → ℕ → ℕ → Decoded
-decodedChange s w number epoch next =
+decodedChange s w number copy next =
     cond (misplaced s w) Malformed
-    (Change (kindField w) (pageField w) (slotField w) number epoch (widthField w) next)
+    (Change (kindField w) (pageField w) (slotField w) number copy (widthField w) next)
 
 abbrev pub decodedClose : ℕ → ℕ → ℕ → Decoded
 decodedClose w number next = cond (eqb (w / 8) 0) (Close (kindField w) number next) Malformed
@@ -45,13 +45,13 @@ scanDisk s logs disk p = scan s (readLog s logs disk (getD logs (tailWord s disk
 
 -- of n disks from `disk` on, each from its start: "lowest disk, first position there"
 unfoldable pub faultsFrom : Sizes → List ℕ → List ℕ → ℕ → ℕ → Fault
-faultsFrom s logs starts zero disk = Sound
+faultsFrom s logs starts zero disk = NoFault
 faultsFrom s logs starts (suc n) disk =
     faultIn disk (scanDisk s logs disk (getD starts disk 0)) (faultsFrom s logs starts n (disk + 1))
 
 -- is it an update record of the transaction
 abbrev pub isUpdateOf : ℕ → Decoded → Bool
-isUpdateOf number (Change kind page slot n epoch width next) = eqb kind updateKind && eqb n number
+isUpdateOf number (Change kind page slot n copy width next) = eqb kind updateKind && eqb n number
 isUpdateOf number (Close kind n next) = false
 isUpdateOf number Malformed = false
 
@@ -61,7 +61,7 @@ foundAt position page slot width = At (record { position = position; page = page
 
 -- the update decoded at p if it is one of the transaction, and else what was found before it
 abbrev pub newerOf : ℕ → ℕ → Decoded → Newest → Newest
-newerOf number p (Change kind page slot n epoch width next) sofar =
+newerOf number p (Change kind page slot n copy width next) sofar =
     cond (eqb kind updateKind && eqb n number) (foundAt p page slot width) sofar
 newerOf number p (Close kind n next) sofar = sofar
 newerOf number p Malformed sofar = sofar
@@ -71,7 +71,7 @@ unfoldable pub newestIn : ℕ → ℕ → Newest → Scan → Newest
 newestIn number bound sofar end = sofar
 newestIn number bound sofar (bad p) = cond (ltb p bound) (Broken p) sofar
 newestIn number bound sofar (item p (close kind n) rest) = cond (ltb p bound) (newestIn number bound sofar rest) sofar
-newestIn number bound sofar (item p (change kind page slot n epoch diff) rest) =
+newestIn number bound sofar (item p (change kind page slot n copy diff) rest) =
     cond (ltb p bound)
     (newestIn number bound (cond (eqb kind updateKind && eqb n number) (foundAt p page slot (length diff)) sofar) rest)
     sofar

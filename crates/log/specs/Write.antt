@@ -32,7 +32,7 @@ pub record Encodable (h : Head) (width : ℕ) : Type 0 where
   pub width-small : width ≤ 32
 
 abbrev pub changeOf : Head → List ℕ → Record
-changeOf h difference = change (h .kind) (h .page) (h .slot) (h .number) (h .epoch) difference
+changeOf h difference = change (h .kind) (h .page) (h .slot) (h .number) (h .copy) difference
 
 -- The numbers and the two slices are those of a disk, in a state and a world.
 pub record Lent (s : Sizes) (l : Logs) (w : World) (disk ring buffer tail fill : ℕ) (logs work : List ℕ) : Type 0 where

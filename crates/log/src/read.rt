@@ -51,8 +51,8 @@ fn is_misplaced(sizes: Sizes, w: u64) -> bool
 }
 
 // A change by its first three words, if its page, slot and width are those of a page.
-fn decode_change(sizes: Sizes, w: u64, number: u64, epoch: u64, next: u64) -> Decoded
-    ensures { λ r. ⌜ r ≡ decodedChange sizes w number epoch next ⌝ }
+fn decode_change(sizes: Sizes, w: u64, number: u64, copy: u64, next: u64) -> Decoded
+    ensures { λ r. ⌜ r ≡ decodedChange sizes w number copy next ⌝ }
 {
     if is_misplaced(sizes, w) {
         return Decoded::Malformed;
@@ -62,7 +62,7 @@ fn decode_change(sizes: Sizes, w: u64, number: u64, epoch: u64, next: u64) -> De
         page: w / 8 % 64,
         slot: w / 512 % 128,
         number,
-        epoch,
+        copy,
         width: w / 65536,
         next,
     }
@@ -110,8 +110,8 @@ pub fn decode_at(
         return Decoded::Malformed;
     }
     if kind < 2 {
-        let epoch = read_word(logs, disk, ring, tail, buffer, p + 2);
-        return decode_change(sizes, w, number, epoch, next);
+        let copy = read_word(logs, disk, ring, tail, buffer, p + 2);
+        return decode_change(sizes, w, number, copy, next);
     }
     decode_close(w, number, next)
 }

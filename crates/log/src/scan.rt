@@ -68,7 +68,7 @@ pub fn check_disks(sizes: Sizes, logs: &[u64], starts: [u64; 8]) -> Fault
     let ring = sizes.ring;
     let none = &logs[0..0];
     let mut d: u64 = 0;
-    let mut fault = Fault::Sound;
+    let mut fault = Fault::NoFault;
     'disks: while d < disks {
         let tail = tail_of(logs, d, ring);
         let mut p = starts[d as usize];

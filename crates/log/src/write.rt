@@ -78,25 +78,25 @@ pub fn flush_disk(
     true
 }
 
-// What a change says beside its difference. `epoch` is 01's copy number.
+// What a change says beside its difference. `copy` is 01's copy number.
 pub struct Head {
     pub kind: u64,
     pub page: u64,
     pub slot: u64,
     pub number: u64,
-    pub epoch: u64,
+    pub copy: u64,
 }
 
 // Writes the first three words of a change into `words`, which has the difference from its fourth word on.
 pub fn encode_change(words: &mut [u64], head: Head, width: u64)
     requires { ⌜ Encodable head width × (3 + width ≤ length (now words)) ⌝ }
     ensures { λ _. ⌜ now (words .exit)
-        ≡ sets (now (words .entry)) 0 (header (head .kind) (head .page) (head .slot) width ∷ head .number ∷ head .epoch ∷ []) ⌝ }
+        ≡ sets (now (words .entry)) 0 (header (head .kind) (head .page) (head .slot) width ∷ head .number ∷ head .copy ∷ []) ⌝ }
     ensures { λ _. ⌜ take (3 + width) (now (words .exit)) ≡ encode (changeOf head (part 3 width (now (words .entry)))) ⌝ }
 {
     words[0] = head.kind + 8 * head.page + 512 * head.slot + 65536 * width;
     words[1] = head.number;
-    words[2] = head.epoch;
+    words[2] = head.copy;
 }
 
 // Puts a record's words into the work memory from index `at` on.

@@ -53,10 +53,10 @@ stepBy : (ℕ → Scan → Fate) → (ℕ → Fate → ℕ → Bool) → ℕ →
 stepBy fate rule source c w = conclude (verdict (restartStepRows c w source)) 0 (task (ltb source (c .sizes .disks))) c w
   where
     taken : Decoded → Task
-    taken (Change kind page slot number epoch width next) =
+    taken (Change kind page slot number copy width next) =
         record {
           actions =
-              cond (rule (c .epoch) (fate number (scan (c .sizes) (readDisk c w source) (tailOf (c .logs) source) next)) epoch)
+              cond (rule (c .epoch) (fate number (scan (c .sizes) (readDisk c w source) (tailOf (c .logs) source) next)) copy)
               (xorIn (slotBase (c .sizes) page slot) (span (readDisk c w source) (positionOf c source + 3) width) (w .pages))
               [];
           core = movedTo c source next;
@@ -97,7 +97,7 @@ markActive = mark ∷ remember (λ c d. leastFirst (c .table) d (endOf (c .logs)
 committedIn : ℕ → Scan → Fate
 committedIn number end = Unclosed
 committedIn number (bad p) = Unreadable p
-committedIn number (item p (change kind page slot n epoch diff) rest) = committedIn number rest
+committedIn number (item p (change kind page slot n copy diff) rest) = committedIn number rest
 committedIn number (item p (close kind n) rest) = cond (eqb n number && eqb kind commitKind) Closed (committedIn number rest)
 
 onePass : ℕ → Step
@@ -109,9 +109,9 @@ finishLate = remember (λ c d. endOf (c .logs) d) ∷ finish plenty ∷ []
 
 -- "Replaying a record because it is committed, though the backup has it"
 replaysAnyway : ℕ → Fate → ℕ → Bool
-replaysAnyway c Closed epoch = true
-replaysAnyway c Unclosed epoch = inBackup c epoch
-replaysAnyway c (Unreadable p) epoch = false
+replaysAnyway c Closed copy = true
+replaysAnyway c Unclosed copy = inBackup c copy
+replaysAnyway c (Unreadable p) copy = false
 
 -- "Releasing slots before the commit's tail word is stored": a commit that is taken while its records are still buffered
 commitBuffered : ℕ → Step

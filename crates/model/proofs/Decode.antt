@@ -46,7 +46,7 @@ pub record CloseAt (stop p kind number next : ℕ) : Type 0 where
   pub next-le : next ≤ stop
 
 abbrev pub Found : Sizes → ℕ → ℕ → Decoded → Type 0
-Found s stop p (Change kind page slot number epoch width next) = ChangeAt s stop p kind page slot number width next
+Found s stop p (Change kind page slot number copy width next) = ChangeAt s stop p kind page slot number width next
 Found s stop p (Close kind number next) = CloseAt stop p kind number next
 Found s stop p Malformed = Unit {0}
 
@@ -67,9 +67,9 @@ in-place s w e =
       width-eq = eqb-true _ _ (not-false _ (both .1));
     }
 
-found-words : (s : Sizes) (stop p w number epoch : ℕ) → Found s stop p (decodeWords s stop p w number epoch)
+found-words : (s : Sizes) (stop p w number copy : ℕ) → Found s stop p (decodeWords s stop p w number copy)
 unfolding decodeWords
-found-words s stop p w number epoch =
+found-words s stop p w number copy =
     cond-all P (ltb 3 (kindField w)) (λ _. tt)
     (λ k3. cond-all P (ltb stop (p + size)) (λ _. tt)
     (λ fits. cond-all P (eqb number 0) (λ _. tt)
@@ -110,8 +110,8 @@ unfolding decodeAt
 found s read stop p = found-words s stop p (read p) (read (p + 1)) (read (p + 2))
 
 module _ (s : Sizes) (read : ℕ → ℕ) (stop : ℕ) where
-  pub found-change : {p kind page slot number epoch width next : ℕ}
-      → decodeAt s read stop p ≡ Change kind page slot number epoch width next
+  pub found-change : {p kind page slot number copy width next : ℕ}
+      → decodeAt s read stop p ≡ Change kind page slot number copy width next
       → ChangeAt s stop p kind page slot number width next
   found-change {p} e = subst (λ (d : Decoded). Found s stop p d) e (found s read stop p)
 
@@ -123,7 +123,7 @@ module _ (s : Sizes) (read : ℕ → ℕ) (stop : ℕ) where
 words-cong : (s : Sizes) (stop p w m n e f : ℕ) → (p + 2 ≤ stop → m ≡ n) → (p + 3 ≤ stop → e ≡ f)
     → decodeWords s stop p w m e ≡ decodeWords s stop p w n f
 unfolding decodeWords
-words-cong s stop p w m n e f number epoch =
+words-cong s stop p w m n e f number copy =
     cond-cong (ltb 3 (kindField w)) (λ _. refl)
     (λ _. cond-cong (ltb stop (p + size)) (λ _. refl)
     (λ l.
@@ -131,7 +131,7 @@ words-cong s stop p w m n e f number epoch =
     let same : m ≡ n = number (omega (arith, words-ge (kindField w) (widthField w))) in
     rw same (cond-cong (eqb n 0) (λ _. refl)
     (λ _. cond-cong (ltb (kindField w) 2)
-    (λ k. let three = words-change (kindField w) (widthField w) (ltb-true _ _ k) in rw (epoch (omega arith)))
+    (λ k. let three = words-change (kindField w) (widthField w) (ltb-true _ _ k) in rw (copy (omega arith)))
     (λ _. refl)))))
   where
     size : ℕ

@@ -9,7 +9,7 @@ use lib.Dec.{ltb}
 use borrow.Author.Tests.{ltb-true, ltb-false}
 use Rattle.model.specs.declared.Sizes.{Sizes}
 use Rattle.model.specs.declared.Fault.{Fault}
-use Rattle.model.specs.declared.Fault.the-variants.{Sound, BadRecord}
+use Rattle.model.specs.declared.Fault.the-variants.{NoFault, BadRecord}
 use Rattle.model.specs.Anchor.{startOn}
 use Rattle.model.specs.Decode.{readLog}
 use Rattle.model.specs.Scan.{Scan, end, bad, item, faultIn}
@@ -76,14 +76,14 @@ module _ (s : Sizes) (w : World) where
             lower = λ d l m. absurd (omega arith);
           }
 
-  pub fault-none : (n from : ℕ) → faultFrom s w n from ≡ Sound
+  pub fault-none : (n from : ℕ) → faultFrom s w n from ≡ NoFault
       → (d : ℕ) → from ≤ d → d < from + n → ending (retained s w d) ≡ end
   unfolding faultFrom
   fault-none zero from e = λ d l m. absurd (omega arith)
   fault-none (suc n) from e = go (either-ending (retained s w from)) (fault-none n (from + 1))
     where
       go : (ending (retained s w from) ≡ end) ⊎ ((q : ℕ) × (ending (retained s w from) ≡ bad q))
-          → (faultFrom s w n (from + 1) ≡ Sound → (d : ℕ) → from + 1 ≤ d → d < from + 1 + n → ending (retained s w d) ≡ end)
+          → (faultFrom s w n (from + 1) ≡ NoFault → (d : ℕ) → from + 1 ≤ d → d < from + 1 + n → ending (retained s w d) ≡ end)
           → (d : ℕ) → from ≤ d → d < from + suc n → ending (retained s w d) ≡ end
       go (inl x) rest =
           from-next (λ (d : ℕ). d < from + suc n → ending (retained s w d) ≡ end) from (λ m. x)
@@ -94,7 +94,7 @@ module _ (s : Sizes) (w : World) where
           absurd (omega arith)
 
   pub none-fault : (n from : ℕ) → ((d : ℕ) → from ≤ d → d < from + n → ending (retained s w d) ≡ end)
-      → faultFrom s w n from ≡ Sound
+      → faultFrom s w n from ≡ NoFault
   unfolding faultFrom
   none-fault zero from h = refl
   none-fault (suc n) from h =
@@ -108,12 +108,12 @@ unfolding retained
 retained-bad s w disk p e = scan-bad s (readLog s (w .logs) disk (tailOn s w disk) []) (tailOn s w disk) (startOn (w .anchor) disk) p e
 
 -- row 7 applies to every fault
-pub no-fault : (f : Fault) → faultRow f .applies ≡ false → f ≡ Sound
-no-fault Sound h = refl
+pub no-fault : (f : Fault) → faultRow f .applies ≡ false → f ≡ NoFault
+no-fault NoFault h = refl
 no-fault (BadRecord disk p) h = true-false refl h
 
 -- where a log is followed by no fault, the rest has none
-pub fault-rest : (disk : ℕ) (x : Scan) (rest : Fault) → faultIn disk x rest ≡ Sound → rest ≡ Sound
+pub fault-rest : (disk : ℕ) (x : Scan) (rest : Fault) → faultIn disk x rest ≡ NoFault → rest ≡ NoFault
 unfolding faultIn
 fault-rest disk end rest h = h
 fault-rest disk (bad p) rest h = let z : _≡_ {A = ℕ} 0 1 = cc in absurd (omega arith)

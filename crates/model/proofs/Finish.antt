@@ -89,7 +89,7 @@ module _ (c : Core) (w : World) (m : Progress c w) (ok : sound c ≡ true) (k : 
   record-less : (d : ℕ) → d < c .sizes .disks → 0 < remaining c d → (r : Decoded) → nextRecord c w d ≡ r
       → remaining (recordStep c w d r .core) d < remaining c d
   unfolding nextRecord
-  record-less d h some (Change kind page slot number epoch width next) e =
+  record-less d h some (Change kind page slot number copy width next) e =
       let at = found-change (c .sizes) (readDisk c w d) (tailOf (c .logs) d) e in
       rw (moved-own c d next h (m .room)) (omega (arith, remaining-log c d h, at .next-eq, at .next-le))
   record-less d h some (Close kind number next) e =
@@ -123,7 +123,7 @@ module _ (c : Core) (w : World) (m : Progress c w) (ok : sound c ≡ true) (k : 
 
   -- whichever record or page a step takes, the other sources stay
   record-others : (d other : ℕ) → (other ≡ d → ⊥) → (r : Decoded) → remaining (recordStep c w d r .core) other ≡ remaining c other
-  record-others d other ne (Change kind page slot number epoch width next) = moved-other c d next other ne
+  record-others d other ne (Change kind page slot number copy width next) = moved-other c d next other ne
   record-others d other ne (Close kind number next) = moved-other c d next other ne
   record-others d other ne Malformed = refl
 

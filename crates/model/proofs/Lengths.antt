@@ -11,7 +11,7 @@ use Rattle.model.specs.declared.Sizes.{Sizes}
 use Rattle.model.specs.Below.{within, allBelow}
 use Rattle.model.specs.Sizes.{total, logWords, entryInBounds, sizesInBounds}
 use Rattle.model.specs.World.{World}
-use Rattle.model.specs.Memory.{bufferAt, epochAt, workWords, bufferOf, lengthsRight}
+use Rattle.model.specs.Memory.{bufferAt, copyAt, workWords, bufferOf, lengthsRight}
 use Rattle.model.proofs.Booleans.{all-four}
 use Rattle.model.proofs.Parts.{length-part}
 
@@ -48,7 +48,7 @@ lengths-right s w h =
 -- a disk's buffer lies within the work memory
 pub buffer-fits : (s : Sizes) (w : World) (disk fill : ℕ) → Lengths s w → disk < s .disks → fill ≤ 64
     → bufferAt s disk + fill ≤ length (w .work)
-unfolding workWords epochAt bufferAt
+unfolding workWords copyAt bufferAt
 buffer-fits s w disk fill r d f = omega (arith, r .work)
 
 pub length-buffer : (s : Sizes) (memory : List ℕ) (disk fill : ℕ) → bufferAt s disk + fill ≤ length memory

@@ -41,8 +41,8 @@ either-ending (item p r rest) = either-ending rest
 
 -- what is decoded at p is the record r, and the next one is at `next`
 abbrev pub Decodes : (ℕ → ℕ) → ℕ → Decoded → Record → ℕ → Type 0
-Decodes read p (Change kind page slot number epoch width to) r next =
-    (r ≡ change kind page slot number epoch (span read (p + 3) width)) × (next ≡ to)
+Decodes read p (Change kind page slot number copy width to) r next =
+    (r ≡ change kind page slot number copy (span read (p + 3) width)) × (next ≡ to)
 Decodes read p (Close kind number to) r next = (r ≡ close kind number) × (next ≡ to)
 Decodes read p Malformed r next = ⊥
 
@@ -55,7 +55,7 @@ Reads s read stop p (item q r rest) =
     × ((next : ℕ) × (p < next) × Decodes read p (decodeAt s read stop p) r next × Reads s read stop next rest)
 
 abbrev Past : ℕ → Decoded → Type 0
-Past p (Change kind page slot number epoch width next) = p < next
+Past p (Change kind page slot number copy width next) = p < next
 Past p (Close kind number next) = p < next
 Past p Malformed = Unit {0}
 
@@ -83,7 +83,7 @@ module _ (s : Sizes) (read : ℕ → ℕ) (stop : ℕ) where
           → ((q : ℕ) → p < q → Reads s read stop q (scanAtMost s read stop n q))
           → Reads s read stop p (cond b (scanned read p d (scanAtMost s read stop n)) end)
       go false e d ed l rest = ltb-false p stop e
-      go true e (Change kind page slot number epoch width next) ed l rest =
+      go true e (Change kind page slot number copy width next) ed l rest =
           (refl, ltb-true p stop e, (next, l, rw ed (refl, refl), rest next l))
       go true e (Close kind number next) ed l rest = (refl, ltb-true p stop e, (next, l, rw ed (refl, refl), rest next l))
       go true e Malformed ed l rest = (refl, ltb-true p stop e, ed)

@@ -35,7 +35,7 @@ pub record CloseFits (kind number : ℕ) : Type 0 where
   pub number-pos : 1 ≤ number
 
 abbrev pub WellFormed : Sizes → Record → Type 0
-WellFormed s (change kind page slot number epoch diff) = ChangeFits s kind page slot number diff
+WellFormed s (change kind page slot number copy diff) = ChangeFits s kind page slot number diff
 WellFormed s (close kind number) = CloseFits kind number
 
 abbrev pub AllWellFormed : Sizes → List Record → Type 0
@@ -44,8 +44,8 @@ AllWellFormed s (r ∷ rs) = WellFormed s r × AllWellFormed s rs
 
 -- what a decoder says of a record that stands at p
 abbrev pub decoded : ℕ → Record → Decoded
-decoded p (change kind page slot number epoch diff) =
-    Change kind page slot number epoch (length diff) (p + (3 + length diff))
+decoded p (change kind page slot number copy diff) =
+    Change kind page slot number copy (length diff) (p + (3 + length diff))
 decoded p (close kind number) = Close kind number (p + 2)
 
 -- The fields of a packed first word are those that were packed.
@@ -61,12 +61,12 @@ unfolding header
 fields-of kind page slot width hk hp hs = omega arith
 
 module _ (s : Sizes) (stop p : ℕ) where
-  decode-change-words : (kind page slot number epoch : ℕ) (diff : List ℕ) → ChangeFits s kind page slot number diff
+  decode-change-words : (kind page slot number copy : ℕ) (diff : List ℕ) → ChangeFits s kind page slot number diff
       → p + (3 + length diff) ≤ stop
-      → decodeWords s stop p (header kind page slot (length diff)) number epoch
-      ≡ Change kind page slot number epoch (length diff) (p + (3 + length diff))
+      → decodeWords s stop p (header kind page slot (length diff)) number copy
+      ≡ Change kind page slot number copy (length diff) (p + (3 + length diff))
   unfolding decodeWords misplaced
-  decode-change-words kind page slot number epoch diff f l =
+  decode-change-words kind page slot number copy diff f l =
       let k3 : kind ≤ 3 = omega arith in
       let nz : ¬ (number ≡ 0) = omega arith in
       let h = fields-of kind page slot (length diff) (omega arith) (f .page-lt) (f .slot-lt) in
@@ -85,10 +85,10 @@ module _ (s : Sizes) (stop p : ℕ) where
         eq-eqb (length diff) (widthIn s page) (f .width-eq),
       )
 
-  decode-close-words : (kind number epoch : ℕ) → CloseFits kind number → p + 2 ≤ stop
-      → decodeWords s stop p (header kind 0 0 0) number epoch ≡ Close kind number (p + 2)
+  decode-close-words : (kind number copy : ℕ) → CloseFits kind number → p + 2 ≤ stop
+      → decodeWords s stop p (header kind 0 0 0) number copy ≡ Close kind number (p + 2)
   unfolding decodeWords header
-  decode-close-words kind number epoch f l =
+  decode-close-words kind number copy f l =
       let w : kind + 8 * 0 + 512 * 0 + 65536 * 0 ≡ kind = omega arith in
       let e : kind % 8 ≡ kind = omega arith in
       let z : kind / 8 ≡ 0 = omega arith in
@@ -111,21 +111,21 @@ module _ (s : Sizes) (read : ℕ → ℕ) (stop : ℕ) where
   pub decode-encode : (p : ℕ) (r : Record) → WellFormed s r → Holds read p (encode r) → p + length (encode r) ≤ stop
       → decodeAt s read stop p ≡ decoded p r
   unfolding decodeAt encode
-  decode-encode p (change kind page slot number epoch diff) f h l =
+  decode-encode p (change kind page slot number copy diff) f h l =
       let two : p + 1 + 1 ≡ p + 2 = omega arith in
-      let third : read (p + 2) ≡ epoch = rw two at (h .1 .1 .0) in
-      rw (h .0, h .1 .0, third) (decode-change-words s stop p kind page slot number epoch diff f (omega arith))
+      let third : read (p + 2) ≡ copy = rw two at (h .1 .1 .0) in
+      rw (h .0, h .1 .0, third) (decode-change-words s stop p kind page slot number copy diff f (omega arith))
   decode-encode p (close kind number) f h l =
       rw (h .0, h .1 .0) (decode-close-words s stop p kind number (read (p + 2)) f l)
 
   pub scan-one : (p : ℕ) (r : Record) → WellFormed s r → Holds read p (encode r) → p + length (encode r) ≤ stop
       → scan s read stop p ≡ item p r (scan s read stop (p + length (encode r)))
   unfolding encode
-  scan-one p (change kind page slot number epoch diff) f h l =
+  scan-one p (change kind page slot number copy diff) f h l =
       let three : p + 1 + 1 + 1 ≡ p + 3 = omega arith in
       let long : p + (3 + length diff) ≡ p + suc (suc (suc (length diff))) = omega arith in
       let words : span read (p + 3) (length diff) ≡ diff = span-holds read (p + 3) diff (rw three at (h .1 .1 .1)) in
-      let whole = scan-change s read stop (omega arith) (decode-encode p (change kind page slot number epoch diff) f h l) in
+      let whole = scan-change s read stop (omega arith) (decode-encode p (change kind page slot number copy diff) f h l) in
       rw (words, long) at whole
   scan-one p (close kind number) f h l =
       scan-close s read stop (omega arith) (decode-encode p (close kind number) f h l)

@@ -16,7 +16,7 @@ use Rattle.model.proofs.Reader.{span-cong}
 -- the rest of a scan is asked from further on only
 scanned-same : (s : Sizes) (read : ℕ → ℕ) (stop p : ℕ) (d : Decoded) → Found s stop p d → (f g : ℕ → Scan)
     → ((q : ℕ) → p < q → f q ≡ g q) → scanned read p d f ≡ scanned read p d g
-scanned-same s read stop p (Change kind page slot number epoch width next) h f g e = rw (e next (omega arith))
+scanned-same s read stop p (Change kind page slot number copy width next) h f g e = rw (e next (omega arith))
 scanned-same s read stop p (Close kind number next) h f g e = rw (e next (omega arith))
 scanned-same s read stop p Malformed h f g e = refl
 
@@ -59,9 +59,9 @@ module _ (s : Sizes) (read : ℕ → ℕ) (stop : ℕ) where
       (λ q l. at-most-enough (stop - p) (stop - q) q (omega arith) (omega arith))
 
   -- the scan by what is decoded
-  pub scan-change : {p kind page slot number epoch width next : ℕ} → p < stop
-      → decodeAt s read stop p ≡ Change kind page slot number epoch width next
-      → scan s read stop p ≡ item p (change kind page slot number epoch (span read (p + 3) width)) (scan s read stop next)
+  pub scan-change : {p kind page slot number copy width next : ℕ} → p < stop
+      → decodeAt s read stop p ≡ Change kind page slot number copy width next
+      → scan s read stop p ≡ item p (change kind page slot number copy (span read (p + 3) width)) (scan s read stop next)
   scan-change {p} h e = scan-step p h ∙ ap (λ (d : Decoded). scanned read p d (scan s read stop)) e
 
   pub scan-close : {p kind number next : ℕ} → p < stop → decodeAt s read stop p ≡ Close kind number next
@@ -75,7 +75,7 @@ module _ (s : Sizes) (read : ℕ → ℕ) (stop : ℕ) where
 module _ (s : Sizes) (read other : ℕ → ℕ) (stop : ℕ) where
   scanned-cong : (p : ℕ) (d : Decoded) → Found s stop p d → ((q : ℕ) → p ≤ q → q < stop → read q ≡ other q)
       → (f g : ℕ → Scan) → ((q : ℕ) → p < q → f q ≡ g q) → scanned read p d f ≡ scanned other p d g
-  scanned-cong p (Change kind page slot number epoch width next) h same f g e =
+  scanned-cong p (Change kind page slot number copy width next) h same f g e =
       let diff : span read (p + 3) width ≡ span other (p + 3) width =
       span-cong read other (p + 3) width (λ q l m. same q (omega arith) (omega arith)) in
       rw (diff, e next (omega arith))

@@ -12,7 +12,7 @@ use Rattle.model.specs.declared.Answer.the-variants.{Interrupted}
 use Rattle.model.specs.Sizes.{pageBase, slotBase}
 use Rattle.model.specs.Decode.{span}
 use Rattle.model.specs.World.{World, Action, pages, stores, finishes}
-use Rattle.model.specs.Refusal.{Task, Verdict, accepted, refused, verdict, conclude}
+use Rattle.model.specs.Refusal.{Task, Verdict, accepted, rejected, verdict, conclude}
 use Rattle.model.specs.Transaction.{beginTask, readTask}
 use Rattle.model.specs.Abort.{xorIn}
 use Rattle.model.specs.Checkpoint.{checkpointBeginTask}
@@ -42,8 +42,8 @@ xor-stores at diff memory = stores-written pages at _
 
 record-stores : (c : Core) (w : World) (disk : ℕ) (d : Decoded) → stores (recordStep c w disk d .actions) ≡ 0
 unfolding stores
-record-stores c w disk (Change kind page slot number epoch width next) =
-    go (replays (c .epoch) (fateFrom c w disk number next) epoch)
+record-stores c w disk (Change kind page slot number copy width next) =
+    go (replays (c .epoch) (fateFrom c w disk number next) copy)
   where
     back : List Action
     back = xorIn (slotBase (c .sizes) page slot) (span (readDisk c w disk) (positionOf c disk + 3) width) (w .pages)
@@ -89,7 +89,7 @@ not-interrupted accepted budget t c w h n a =
     let b = rw h at a in
     let z : _≡_ {A = ℕ} 0 1 = cc in
     omega arith
-not-interrupted (refused number first second) budget t c w h n a = let z : _≡_ {A = ℕ} 0 1 = cc in omega arith
+not-interrupted (rejected number first second) budget t c w h n a = let z : _≡_ {A = ℕ} 0 1 = cc in omega arith
 
 pub never-interrupted : (k : Call) (c : Core) (w : World) → storesNothing k ≡ true
     → (n : ℕ) → resultOf k c w .answer ≡ Interrupted n → ⊥

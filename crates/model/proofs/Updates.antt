@@ -9,7 +9,7 @@ use native.Mathlib.Nat.{zero-add}
 use lib.Dec.{eqb, ltb}
 use borrow.Author.Tests.{eqb-true, eq-eqb, ltb-false}
 use Rattle.model.specs.Causes.{faultRow}
-use Rattle.model.specs.declared.Fault.the-variants.{Sound, BadRecord}
+use Rattle.model.specs.declared.Fault.the-variants.{NoFault, BadRecord}
 use Rattle.model.specs.declared.Core.{Core}
 use Rattle.model.specs.Record.{Record, change, close, updateKind}
 use Rattle.model.specs.Scan.{Scan, end, bad, item, scan, Update, updatesIn, updateWords}
@@ -24,29 +24,29 @@ use Rattle.model.proofs.Faults.{no-fault, fault-rest}
 
 -- the item of a scan that an update was read from
 abbrev pub itemOf : ℕ → Update → ℕ → Item
-itemOf number u epoch = record { position = u .position; content = change updateKind (u .page) (u .slot) number epoch (u .diff) }
+itemOf number u copy = record { position = u .position; content = change updateKind (u .page) (u .slot) number copy (u .diff) }
 
 module _ (number : ℕ) where
   -- an update found is an update record of that number in the scan
   pub record From (sc : Scan) (u : Update) : Type 0 where
-    pub epoch : ℕ
-    pub listed : List·Memᴰ (itemOf number u epoch) (items sc)
+    pub copy : ℕ
+    pub listed : List·Memᴰ (itemOf number u copy) (items sc)
 
   further : (p : ℕ) (r : Record) (rest : Scan) (u : Update) → From rest u → From (item p r rest) u
   unfolding items
-  further p r rest u f = record { epoch = f .epoch; listed = List·Memᴰ·tail (f .listed) }
+  further p r rest u f = record { copy = f .copy; listed = List·Memᴰ·tail (f .listed) }
 
   pub updates-from : (sc : Scan) → Every (From sc) (updatesIn number sc)
   unfolding updatesIn items
   updates-from end = every-nil (From end)
   updates-from (bad p) = every-nil (From (bad p))
   updates-from (item p (close kind n) rest) = λ u m. further p (close kind n) rest u (updates-from rest u m)
-  updates-from (item p (change kind page slot n epoch diff) rest) =
+  updates-from (item p (change kind page slot n copy diff) rest) =
       every-append (From sc) (updatesIn number rest) _ (λ u m. further p r rest u (updates-from rest u m))
       (go (eqb kind updateKind && eqb n number) refl)
     where
       r : Record
-      r = change kind page slot n epoch diff
+      r = change kind page slot n copy diff
 
       sc : Scan
       sc = item p r rest
@@ -59,27 +59,27 @@ module _ (number : ℕ) where
           let both = and-eq-true-iff (eqb kind updateKind) (eqb n number) .0 e in
           let k = eqb-true kind updateKind (both .0) in
           let m = eqb-true n number (both .1) in
-          let same : itemOf number u epoch ≡ record { position = p; content = r } = rw (k, m) in
-          every-cons (From sc) u [] (record { epoch = epoch; listed = List·Memᴰ·head same }) (every-nil (From sc))
+          let same : itemOf number u copy ≡ record { position = p; content = r } = rw (k, m) in
+          every-cons (From sc) u [] (record { copy = copy; listed = List·Memᴰ·head same }) (every-nil (From sc))
       go false e = every-nil (From sc)
 
   -- and every such record is found
-  pub updates-all : (sc : Scan) (u : Update) (epoch : ℕ) → List·Memᴰ (itemOf number u epoch) (items sc)
+  pub updates-all : (sc : Scan) (u : Update) (copy : ℕ) → List·Memᴰ (itemOf number u copy) (items sc)
       → List·Memᴰ u (updatesIn number sc)
   unfolding updatesIn items
-  updates-all end u epoch m = absurd (List·Memᴰ·not-nil m)
-  updates-all (bad p) u epoch m = absurd (List·Memᴰ·not-nil m)
-  updates-all (item p (close kind n) rest) u epoch m = go (List·Memᴰ·cases-cons m) (updates-all rest u epoch)
+  updates-all end u copy m = absurd (List·Memᴰ·not-nil m)
+  updates-all (bad p) u copy m = absurd (List·Memᴰ·not-nil m)
+  updates-all (item p (close kind n) rest) u copy m = go (List·Memᴰ·cases-cons m) (updates-all rest u copy)
     where
-      go : (itemOf number u epoch ≡ record { position = p; content = close kind n }) ⊎ List·Memᴰ (itemOf number u epoch) (items rest)
-          → (List·Memᴰ (itemOf number u epoch) (items rest) → List·Memᴰ u (updatesIn number rest))
+      go : (itemOf number u copy ≡ record { position = p; content = close kind n }) ⊎ List·Memᴰ (itemOf number u copy) (items rest)
+          → (List·Memᴰ (itemOf number u copy) (items rest) → List·Memᴰ u (updatesIn number rest))
           → List·Memᴰ u (updatesIn number rest)
       go (inl e) later =
           let c = ap (λ (i : Item). i .content) e in
           let z : _≡_ {A = ℕ} 0 1 = cc in
           absurd (omega arith)
       go (inr x) later = later x
-  updates-all (item p (change kind page slot n e diff) rest) u epoch m = go (List·Memᴰ·cases-cons m) (updates-all rest u epoch)
+  updates-all (item p (change kind page slot n e diff) rest) u copy m = go (List·Memᴰ·cases-cons m) (updates-all rest u copy)
     where
       here : Update
       here = record { position = p; page = page; slot = slot; diff = diff }
@@ -87,13 +87,13 @@ module _ (number : ℕ) where
       found : Bool → List Update
       found b = cond b (here ∷ []) []
 
-      go : (itemOf number u epoch ≡ record { position = p; content = change kind page slot n e diff })
-          ⊎ List·Memᴰ (itemOf number u epoch) (items rest)
-          → (List·Memᴰ (itemOf number u epoch) (items rest) → List·Memᴰ u (updatesIn number rest))
+      go : (itemOf number u copy ≡ record { position = p; content = change kind page slot n e diff })
+          ⊎ List·Memᴰ (itemOf number u copy) (items rest)
+          → (List·Memᴰ (itemOf number u copy) (items rest) → List·Memᴰ u (updatesIn number rest))
           → List·Memᴰ u (updatesIn number rest ++ found (eqb kind updateKind && eqb n number))
       go (inl x) later =
           let at : u .position ≡ p = ap (λ (i : Item). i .position) x in
-          let c : change updateKind (u .page) (u .slot) number epoch (u .diff) ≡ change kind page slot n e diff = ap (λ (i : Item). i .content) x in
+          let c : change updateKind (u .page) (u .slot) number copy (u .diff) ≡ change kind page slot n e diff = ap (λ (i : Item). i .content) x in
           let k : kind ≡ updateKind = cc in
           let m : n ≡ number = cc in
           let pages : u .page ≡ page = cc in
@@ -124,7 +124,7 @@ module _ (number : ℕ) where
   updates-above m end h = every-nil _
   updates-above m (bad p) h = every-nil _
   updates-above m (item p (close kind n) rest) h = λ u x. omega (arith, h .0, updates-above (suc p) rest (h .1) u x)
-  updates-above m (item p (change kind page slot n epoch diff) rest) h =
+  updates-above m (item p (change kind page slot n copy diff) rest) h =
       every-append P (updatesIn number rest) _ (λ u x. omega (arith, h .0, updates-above (suc p) rest (h .1) u x))
       (go (eqb kind updateKind && eqb n number))
     where
@@ -140,7 +140,7 @@ module _ (number : ℕ) where
   updates-fall m end h = tt
   updates-fall m (bad p) h = tt
   updates-fall m (item p (close kind n) rest) h = updates-fall (suc p) rest (h .1)
-  updates-fall m (item p (change kind page slot n epoch diff) rest) h =
+  updates-fall m (item p (change kind page slot n copy diff) rest) h =
       go (eqb kind updateKind && eqb n number) (updates-fall (suc p) rest (h .1))
     where
       u : Update
@@ -179,7 +179,7 @@ unfolding abortFault
 abort-words c w t h = go _ refl (fault-rest _ _ _ (no-fault (abortFault c w t) h))
   where
     go : (b : Bool) → ltb (reservedAt (c .table) (placeOf (c .table) t) - 2) (updateWords (updatesLeft c w t)) ≡ b
-        → cond b (BadRecord (diskOf c t) (firstAt (c .table) (placeOf (c .table) t))) Sound ≡ Sound
+        → cond b (BadRecord (diskOf c t) (firstAt (c .table) (placeOf (c .table) t))) NoFault ≡ NoFault
         → updateWords (updatesLeft c w t) ≤ reservedAt (c .table) (placeOf (c .table) t) - 2
     go true e k = let z : _≡_ {A = ℕ} 0 1 = cc in absurd (omega arith)
     go false e k = ltb-false _ _ e

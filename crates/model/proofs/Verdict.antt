@@ -8,10 +8,10 @@ use lib.Dec.{ltb}
 use borrow.Author.Tests.{ltb-true}
 use Rattle.model.specs.declared.Core.{Core}
 use Rattle.model.specs.declared.Fault.{Fault}
-use Rattle.model.specs.declared.Fault.the-variants.{Sound, BadRecord}
+use Rattle.model.specs.declared.Fault.the-variants.{NoFault, BadRecord}
 use Rattle.model.specs.declared.Answer.the-variants.{Refused}
 use Rattle.model.specs.World.{World, finishes}
-use Rattle.model.specs.Refusal.{Row, row, Verdict, accepted, refused, verdict, spend, conclude, storesOf}
+use Rattle.model.specs.Refusal.{Row, row, Verdict, accepted, rejected, verdict, spend, conclude, storesOf}
 use Rattle.model.specs.Causes.{faultRow, faultFrom}
 use Rattle.model.specs.Format.{formatRows}
 use Rattle.model.specs.Transaction.{beginRows, updateRows, readRows, commitRows}
@@ -31,7 +31,7 @@ pub row-passed : (x : Row) (rows : List Row) → verdict (x ∷ rows) ≡ accept
 unfolding verdict
 row-passed x rows e = go (x .applies) refl e
   where
-    go : (b : Bool) → x .applies ≡ b → cond b (refused (x .number) (x .first) (x .second)) (verdict rows) ≡ accepted
+    go : (b : Bool) → x .applies ≡ b → cond b (rejected (x .number) (x .first) (x .second)) (verdict rows) ≡ accepted
         → (x .applies ≡ false) × (verdict rows ≡ accepted)
     go true d e = let z : _≡_ {A = ℕ} 0 1 = cc in absurd (omega arith)
     go false d e = (d, e)
@@ -57,13 +57,13 @@ pub record By (rows : List Row) (number first second : ℕ) : Type 0 where
   pub gives : (row .number ≡ number) × (row .first ≡ first) × (row .second ≡ second)
   pub none : Every Fails before
 
-pub refused-by : (rows : List Row) (number first second : ℕ) → verdict rows ≡ refused number first second → By rows number first second
+pub refused-by : (rows : List Row) (number first second : ℕ) → verdict rows ≡ rejected number first second → By rows number first second
 unfolding verdict
 refused-by [] n a b e = let z : _≡_ {A = ℕ} 0 1 = cc in absurd (omega arith)
 refused-by (x ∷ rows) n a b e = go (x .applies) refl e (refused-by rows n a b)
   where
-    go : (t : Bool) → x .applies ≡ t → cond t (refused (x .number) (x .first) (x .second)) (verdict rows) ≡ refused n a b
-        → (verdict rows ≡ refused n a b → By rows n a b) → By (x ∷ rows) n a b
+    go : (t : Bool) → x .applies ≡ t → cond t (rejected (x .number) (x .first) (x .second)) (verdict rows) ≡ rejected n a b
+        → (verdict rows ≡ rejected n a b → By rows n a b) → By (x ∷ rows) n a b
     go true d e rest =
         record { before = []; row = x; after = rows; parts = refl; applies = d; gives = (cc, cc, cc); none = every-nil Fails }
     go false d e rest =
@@ -90,7 +90,7 @@ abbrev pub numbers : List Row → List ℕ
 numbers rows = map (λ r. r .number) rows
 
 fault-number : (f : Fault) → faultRow f .number ≡ 7
-fault-number Sound = refl
+fault-number NoFault = refl
 fault-number (BadRecord disk p) = refl
 
 pub rows-ascend : (k : Call) (c : Core) (w : World) → ascending (numbers (rowsOf k c w)) ≡ true
@@ -122,7 +122,7 @@ above n (x ∷ rows) h =
     every-cons (λ r. n < r .number) x rows (both .0) (λ r m. omega (arith, both .0, above (x .number) rows (both .1) r m))
 
 lower-fail : (n : ℕ) (rows : List Row) → ascendingFrom n (numbers rows) ≡ true → (number first second : ℕ)
-    → verdict rows ≡ refused number first second → Every (λ r. r .number < number → Fails r) rows
+    → verdict rows ≡ rejected number first second → Every (λ r. r .number < number → Fails r) rows
 unfolding verdict
 lower-fail n [] h number first second e = every-nil (λ r. r .number < number → Fails r)
 lower-fail n (x ∷ rows) h number first second e =
@@ -132,9 +132,9 @@ lower-fail n (x ∷ rows) h number first second e =
     P r = r .number < number → Fails r
 
     go : (t : Bool) → x .applies ≡ t
-        → cond t (refused (x .number) (x .first) (x .second)) (verdict rows) ≡ refused number first second
+        → cond t (rejected (x .number) (x .first) (x .second)) (verdict rows) ≡ rejected number first second
         → ascendingFrom (x .number) (numbers rows) ≡ true
-        → (ascendingFrom (x .number) (numbers rows) ≡ true → verdict rows ≡ refused number first second → Every P rows)
+        → (ascendingFrom (x .number) (numbers rows) ≡ true → verdict rows ≡ rejected number first second → Every P rows)
         → Every P (x ∷ rows)
     go true d e a rest =
         let same : x .number ≡ number = cc in
@@ -154,7 +154,7 @@ listed rows number first second by =
     subst (λ (l : List Row). List·Memᴰ (by .row) l) (sym (by .parts)) (Memᴰ·append-right (by .before) (List·Memᴰ·head refl))
 
 pub least-applies : (k : Call) (c : Core) (w : World) (number first second : ℕ)
-    → verdict (rowsOf k c w) ≡ refused number first second → Least (rowsOf k c w) number first second
+    → verdict (rowsOf k c w) ≡ rejected number first second → Least (rowsOf k c w) number first second
 unfolding ascending
 least-applies k c w number first second e =
     let by = refused-by (rowsOf k c w) number first second e in
@@ -168,7 +168,7 @@ least-applies k c w number first second e =
 
 -- The answer of a call is its verdict's, and a refused call leaves all as it was.
 pub answer-refused : (k : Call) (c : Core) (w : World) (number first second : ℕ)
-    → resultOf k c w .answer ≡ Refused number first second → verdict (rowsOf k c w) ≡ refused number first second
+    → resultOf k c w .answer ≡ Refused number first second → verdict (rowsOf k c w) ≡ rejected number first second
 unfolding resultOf
 answer-refused k c w number first second = go (verdict (rowsOf k c w))
   where
@@ -176,12 +176,12 @@ answer-refused k c w number first second = go (verdict (rowsOf k c w))
     performed true a = cc
     performed false a = cc
 
-    go : (v : Verdict) → conclude v (budgetOf k) (taskOf k c w) c w .answer ≡ Refused number first second → v ≡ refused number first second
+    go : (v : Verdict) → conclude v (budgetOf k) (taskOf k c w) c w .answer ≡ Refused number first second → v ≡ rejected number first second
     go accepted a = absurd (omega (arith, performed (finishes (budgetOf k) (taskOf k c w .actions)) a))
-    go (refused x y z) a = cc
+    go (rejected x y z) a = cc
 
 pub refused-leaves : (k : Call) (c : Core) (w : World) (number first second : ℕ)
-    → verdict (rowsOf k c w) ≡ refused number first second
+    → verdict (rowsOf k c w) ≡ rejected number first second
     → resultOf k c w ≡ record { answer = Refused number first second; budget = budgetOf k; core = c; world = w }
 unfolding resultOf
 refused-leaves k c w number first second e = rw e
@@ -198,4 +198,4 @@ answer-counts k c w = go (verdict (rowsOf k c w))
     go : (v : Verdict)
         → storesOf (conclude v (budgetOf k) (taskOf k c w) c w .answer) + conclude v (budgetOf k) (taskOf k c w) c w .budget ≡ budgetOf k
     go accepted = performed (finishes (budgetOf k) (taskOf k c w .actions))
-    go (refused x y z) = omega arith
+    go (rejected x y z) = omega arith

@@ -3,20 +3,19 @@
 use Prim.Native.Nat.{ℕ, _+_, _-_}
 use mathlib.Core.List.{List, [], _∷_, _++_}
 use mathlib.Core.Bool.{cond, _&&_}
-use lib.ListN.{length}
 use lib.Dec.{ltb}
 use Rattle.model.specs.declared.Sizes.{Sizes}
 use Rattle.model.specs.declared.Logs.{Logs}
 use Rattle.model.specs.declared.Core.{Core}
 use Rattle.model.specs.declared.Fault.{Fault}
-use Rattle.model.specs.declared.Fault.the-variants.{Sound, BadRecord}
-use Rattle.model.specs.Word.{xors, part}
+use Rattle.model.specs.declared.Fault.the-variants.{NoFault, BadRecord}
+use Rattle.model.specs.Word.{xored}
 use Rattle.model.specs.Sizes.{slotBase}
 use Rattle.model.specs.Record.{change, close, encode, compensationKind, abortKind}
 use Rattle.model.specs.Decode.{readLog}
 use Rattle.model.specs.Scan.{Scan, end, scan, faultIn, Update, updatesIn, updateWords}
 use Rattle.model.specs.World.{World, Action, write, pages, each, perform}
-use Rattle.model.specs.Memory.{bufferOf, epochOf}
+use Rattle.model.specs.Memory.{bufferOf, copyOf}
 use Rattle.model.specs.State.{withLog, tailOf, fillOf, endOf, placeOf, isOpen, firstAt, reservedAt, hasUpdate, without}
 use Rattle.model.specs.Refusal.{Row, row, Task}
 use Rattle.model.specs.Causes.{whenServing, stageForbids, anchorWrong, lengthsWrong, notOpen, faultRow}
@@ -52,7 +51,7 @@ abortFault c w number =
     faultIn (diskOf c number) (abortScan c w number)
     (cond (ltb (reservedAt (c .table) place - 2) (updateWords (updatesLeft c w number)))
     (BadRecord (diskOf c number) (firstAt (c .table) place))
-    Sound)
+    NoFault)
   where
     place : ℕ
     place = placeOf (c .table) number
@@ -64,7 +63,7 @@ abortRows c w number =
 
 -- a difference XORed into the page memory at a place
 unfoldable pub xorIn : ℕ → List ℕ → List ℕ → List Action
-xorIn at diff memory = each (write pages) at (xors (part at (length diff) memory) diff)
+xorIn at diff memory = each (write pages) at (xored at diff memory)
 
 -- one update taken back: its compensation record appended, the slot changed back
 unfoldable pub compensate : Sizes → Logs → World → ℕ → ℕ → Update → Appended
@@ -74,7 +73,7 @@ compensate s l w number disk u =
     added : Appended
     added =
         append s l (w .work) disk
-        (encode (change compensationKind (u .page) (u .slot) number (epochOf s (w .work) (u .page)) (u .diff)))
+        (encode (change compensationKind (u .page) (u .slot) number (copyOf s (w .work) (u .page)) (u .diff)))
 
 -- all of them, each with what the one before it left
 unfoldable pub undoAll : Sizes → Logs → World → ℕ → ℕ → List Update → Appended

@@ -10,7 +10,7 @@ use Rattle.model.specs.declared.Stage.the-variants.{Shut, Replaying, Ope
 use Rattle.model.specs.declared.Sizes.{Sizes}
 use Rattle.model.specs.declared.Core.{Core}
 use Rattle.model.specs.declared.Fault.{Fault}
-use Rattle.model.specs.declared.Fault.the-variants.{Sound, BadRecord}
+use Rattle.model.specs.declared.Fault.the-variants.{NoFault, BadRecord}
 use Rattle.model.specs.Below.{firstBelow}
 use Rattle.model.specs.Sizes.{slotsIn, widthIn, ringOf, tailWord, sizesInBounds}
 use Rattle.model.specs.Anchor.{anchorWords, epochOn, startOn}
@@ -94,11 +94,11 @@ retained s w disk = scan s (readLog s (w .logs) disk (tailOn s w disk) []) (tail
 
 -- of n disks from `disk` on: "lowest disk, first position there"
 unfoldable pub faultFrom : Sizes → World → ℕ → ℕ → Fault
-faultFrom s w zero disk = Sound
+faultFrom s w zero disk = NoFault
 faultFrom s w (suc n) disk = faultIn disk (retained s w disk) (faultFrom s w n (disk + 1))
 
 abbrev pub faultRow : Fault → Row
-faultRow Sound = record { number = 7; applies = false; first = 0; second = 0 }
+faultRow NoFault = record { number = 7; applies = false; first = 0; second = 0 }
 faultRow (BadRecord disk p) = record { number = 7; applies = true; first = disk; second = p }
 
 -- 8. "page, slot or source number too large"

@@ -13,7 +13,7 @@ use Rattle.model.specs.Word.{part}
 use Rattle.model.specs.Sizes.{pageBase, pageWords}
 use Rattle.model.specs.Anchor.{epochWord, startWord, backupAt}
 use Rattle.model.specs.World.{World, Action, store, write, anchor, backups, work, each}
-use Rattle.model.specs.Memory.{epochAt}
+use Rattle.model.specs.Memory.{copyAt}
 use Rattle.model.specs.State.{places, endOf, servedBy, firstAt, hasUpdate, noCheckpoint}
 use Rattle.model.specs.Refusal.{Row, row, Task}
 use Rattle.model.specs.Causes.{whenOpen, whenCopying, stageForbids, anchorWrong, lengthsWrong, spent}
@@ -67,7 +67,7 @@ unfoldable pub copyPage : Core → World → ℕ → List Action
 copyPage c w page =
     each (store backups) (backupAt (c .sizes) (c .epoch + 1) + pageBase (c .sizes) page)
     (part (pageBase (c .sizes) page) (pageWords (c .sizes) page) (w .pages))
-    ++ write work (epochAt (c .sizes) page) (c .epoch + 1) ∷ []
+    ++ write work (copyAt (c .sizes) page) (c .epoch + 1) ∷ []
 
 unfoldable pub checkpointStepTask : Core → World → Task
 checkpointStepTask c w =

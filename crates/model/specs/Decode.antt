@@ -40,7 +40,7 @@ misplaced s w =
 
 -- a record whose first three words are w, number and epoch, at position p of a log that ends at `end`
 unfoldable pub decodeWords : Sizes → ℕ → ℕ → ℕ → ℕ → ℕ → Decoded
-decodeWords s end p w number epoch =
+decodeWords s end p w number copy =
     -- "kind above 3"
     cond (ltb 3 (kindField w)) Malformed
     -- "end past the tail"
@@ -49,7 +49,7 @@ decodeWords s end p w number epoch =
     (cond (eqb number 0) Malformed
     (cond (ltb (kindField w) 2)
     (cond (misplaced s w) Malformed
-    (Change (kindField w) (pageField w) (slotField w) number epoch (widthField w) (p + wordsOf (kindField w) (widthField w))))
+    (Change (kindField w) (pageField w) (slotField w) number copy (widthField w) (p + wordsOf (kindField w) (widthField w))))
     -- "set fields in a close"
     (cond (eqb (w / 8) 0) (Close (kindField w) number (p + wordsOf (kindField w) (widthField w))) Malformed))))
 

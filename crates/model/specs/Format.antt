@@ -8,7 +8,7 @@ use Rattle.model.specs.Below.{listBelow}
 use Rattle.model.specs.Sizes.{total, tailWord}
 use Rattle.model.specs.Anchor.{epochWord, slotsAt, widthsAt, rowsAt, backupAt}
 use Rattle.model.specs.World.{World, Action, store, write, anchor, backups, logs, pages, work, each}
-use Rattle.model.specs.Memory.{epochAt}
+use Rattle.model.specs.Memory.{copyAt}
 use Rattle.model.specs.State.{openCore}
 use Rattle.model.specs.Refusal.{Row, row, Task}
 use Rattle.model.specs.Causes.{whenShut, stageForbids, anchorWrong, sizesWrong, lengthsWrong}
@@ -30,9 +30,9 @@ formatStores s =
     ++ each (store backups) (backupAt s 1) (replicate (total s) 0)
     ++ store anchor epochWord 1 ∷ []
 
--- memory made fresh: no slot has an owner, every page has this copy epoch
+-- memory made fresh: no slot has an owner, every page has this copy number
 unfoldable pub freshMemory : Sizes → ℕ → List Action
-freshMemory s epoch = each (write work) 0 (replicate (total s) 0) ++ each (write work) (epochAt s 0) (replicate 64 epoch)
+freshMemory s copy = each (write work) 0 (replicate (total s) 0) ++ each (write work) (copyAt s 0) (replicate 64 copy)
 
 -- "Pages are zero, copy numbers 1, stage open."
 unfoldable pub formatTask : Sizes → Task

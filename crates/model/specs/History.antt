@@ -1,5 +1,5 @@
--- What the calls put into the logs: for each accepted call the records that it appends. An update's difference and copy epoch are of
--- the pages and epochs that it finds; an abort's compensations are of the updates that it finds, which `LogKept` says are those put.
+-- What the calls put into the logs: for each accepted call the records that it appends. An update's difference and copy number are of
+-- the pages and copies that it finds; an abort's compensations are of the updates that it finds, which `LogKept` says are those put.
 use Prim.Native.Nat.{ℕ}
 use mathlib.Core.List.{List, [], _∷_, _++_, map}
 use mathlib.Core.Bool.{Bool, true, false, cond}
@@ -8,7 +8,7 @@ use Rattle.model.specs.declared.Core.{Core}
 use Rattle.model.specs.Record.{Record, change, close, compensationKind, commitKind, abortKind}
 use Rattle.model.specs.Scan.{Update}
 use Rattle.model.specs.World.{World}
-use Rattle.model.specs.Memory.{epochOf}
+use Rattle.model.specs.Memory.{copyOf}
 use Rattle.model.specs.Transaction.{diskOf, updateRecord}
 use Rattle.model.specs.Abort.{updatesLeft}
 use Rattle.model.specs.Call.{Call, format, begin, update, read, commit, abort, checkpointBegin, checkpointStep, checkpointEnd, restartBegin, restartStep, restartEnd, newState}
@@ -22,7 +22,7 @@ pub record Put : Type 0 where
 -- a compensation "with the same difference and the page's present copy number"
 unfoldable pub compensation : Core → World → ℕ → Update → Record
 compensation c w number u =
-    change compensationKind (u .page) (u .slot) number (epochOf (c .sizes) (w .work) (u .page)) (u .diff)
+    change compensationKind (u .page) (u .slot) number (copyOf (c .sizes) (w .work) (u .page)) (u .diff)
 
 -- the records of an accepted call; of a cut one, those that it would have put
 abbrev pub putBy : Call → Core → World → List Put

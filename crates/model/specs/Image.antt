@@ -6,7 +6,7 @@ use lib.ListN.{length, getD}
 use lib.Seq.{sets}
 use Rattle.model.specs.declared.Sizes.{Sizes}
 use Rattle.model.specs.Below.{listBelow}
-use Rattle.model.specs.Word.{xors, part}
+use Rattle.model.specs.Word.{part, xored}
 use Rattle.model.specs.Sizes.{total, slotBase}
 use Rattle.model.specs.Anchor.{epochOn, sizesOn, startOn, backupAt}
 use Rattle.model.specs.Record.{change, close}
@@ -42,15 +42,15 @@ imageOf w =
 
 -- a difference XORed in at a place
 unfoldable pub xorAt : ℕ → List ℕ → List ℕ → List ℕ
-xorAt at diff words = sets words at (xors (part at (length diff) words) diff)
+xorAt at diff words = sets words at (xored at diff words)
 
 -- the records of a log replayed by 01's rule, first to last
 unfoldable pub replayed : Sizes → ℕ → Scan → List ℕ → List ℕ
 replayed s c end words = words
 replayed s c (bad p) words = words
 replayed s c (item p (close kind number) rest) words = replayed s c rest words
-replayed s c (item p (change kind page slot number epoch diff) rest) words =
-    replayed s c rest (cond (replays c (fateIn number rest) epoch) (xorAt (slotBase s page slot) diff words) words)
+replayed s c (item p (change kind page slot number copy diff) rest) words =
+    replayed s c rest (cond (replays c (fateIn number rest) copy) (xorAt (slotBase s page slot) diff words) words)
 
 -- a log of the image, read from its start to its tail
 unfoldable pub logOf : Image → ℕ → Scan

@@ -14,7 +14,7 @@ use Rattle.model.specs.Record.{Record, close, commitKind, encode, encode
 use Rattle.model.specs.Decode.{readLog}
 use Rattle.model.specs.Scan.{Scan, scan, placed, updatesIn, updateWords, oldest}
 use Rattle.model.specs.World.{World, Action, store, write, anchor, backups, logs, each}
-use Rattle.model.specs.Memory.{bufferOf, epochOf}
+use Rattle.model.specs.Memory.{bufferOf, copyOf}
 use Rattle.model.specs.State.{limit, startOf, tailOf, fillOf, endOf, isOpen, placeOf, firstAt, reservedAt, hasUpdate}
 use Rattle.model.specs.Refusal.{numberOf, verdict, accepted}
 use Rattle.model.specs.Causes.{whenServing, tailOn, locked}
@@ -103,12 +103,12 @@ logScan c w disk =
 
 pub record LogOf (m : Machine) (disk : ℕ) (put : List Record) : Type 0 where
   pub old : List Record
-  pub flushed : List Record
-  pub buffered : List Record
-  pub parts : put ≡ old ++ (flushed ++ buffered)
-  pub words : retainedWords (m .core .sizes) (m .world) disk ≡ encodeAll flushed
-  pub buffer : bufferOf (m .core .sizes) (m .world .work) disk (fillOf (m .core .logs) disk) ≡ encodeAll buffered
-  pub reads : logScan (m .core) (m .world) disk ≡ placed (startOf (m .core .logs) disk) (flushed ++ buffered)
+  pub inRing : List Record
+  pub inBuffer : List Record
+  pub parts : put ≡ old ++ (inRing ++ inBuffer)
+  pub words : retainedWords (m .core .sizes) (m .world) disk ≡ encodeAll inRing
+  pub buffer : bufferOf (m .core .sizes) (m .world .work) disk (fillOf (m .core .logs) disk) ≡ encodeAll inBuffer
+  pub reads : logScan (m .core) (m .world) disk ≡ placed (startOf (m .core .logs) disk) (inRing ++ inBuffer)
 
 unfoldable pub LogKept : Type 0
 LogKept =
@@ -126,7 +126,7 @@ unfoldable pub NeverMalformed : Type 0
 NeverMalformed = Always λ m r. (k : Call) → numberOf (result m k .answer) ≡ 7 → ⊥
 
 -- What the state says is true. The sizes, the checkpoint number, the starts and the tails are the device words; an open transaction's
--- first position and its reserved words are those of its update records in the log; a page's copy epoch is the number of the last
+-- first position and its reserved words are those of its update records in the log; a page's copy number is the number of the last
 -- checkpoint that copied it: the one under way if that has copied it already, else the last one that ended.
 pub record Truth (m : Machine) : Type 0 where
   pub sizes : sizesOn (m .world .anchor) ≡ m .core .sizes
@@ -140,7 +140,7 @@ pub record Truth (m : Machine) : Type 0 where
   pub first : (t : ℕ) → isOpen (m .core .table) t ≡ true → hasUpdate (m .core .table) (placeOf (m .core .table) t) ≡ true
       → oldest (updatesIn t (logScan (m .core) (m .world) (diskOf (m .core) t))) ≡ firstAt (m .core .table) (placeOf (m .core .table) t)
   pub pages : (page : ℕ) → page < m .core .sizes .pages
-      → epochOf (m .core .sizes) (m .world .work) page ≡ cond (ltb page (m .core .checkpoint .copied)) (m .core .epoch + 1) (m .core .epoch)
+      → copyOf (m .core .sizes) (m .world .work) page ≡ cond (ltb page (m .core .checkpoint .copied)) (m .core .epoch + 1) (m .core .epoch)
 
 unfoldable pub StateTrue : Type 0
 StateTrue = Always λ m r. whenServing (m .core .stage) ≡ true → Truth m
@@ -161,11 +161,12 @@ ClosingFits = Always λ m r. whenServing (m .core .stage) ≡ true → (t : ℕ)
 unfoldable pub ReplayOrder : Type 0
 ReplayOrder =
     (m : Machine) (some other : List ℕ) (n k : ℕ) → outcome m restartBegin ≡ taken
-    → outcome (afterSteps some (after m (call restartBegin))) (restartEnd n) ≡ taken
-    → outcome (afterSteps other (after m (call restartBegin))) (restartEnd k) ≡ taken
-    → (after (afterSteps some (after m (call restartBegin))) (call (restartEnd n)) .world .pages ≡ restarted (imageOf (m .world)))
-    × (after (afterSteps some (after m (call restartBegin))) (call (restartEnd n)) .world .pages
-    ≡ after (afterSteps other (after m (call restartBegin))) (call (restartEnd k)) .world .pages)
+    → let begun : Machine = after m (call restartBegin) in
+    outcome (afterSteps some begun) (restartEnd n) ≡ taken
+    → outcome (afterSteps other begun) (restartEnd k) ≡ taken
+    → let one : Machine = after (afterSteps some begun) (call (restartEnd n)) in
+    let another : Machine = after (afterSteps other begun) (call (restartEnd k)) in
+    (one .world .pages ≡ restarted (imageOf (m .world))) × (one .world .pages ≡ another .world .pages)
 
 -- the action stores the disk's tail word with a value above p: with it the log reaches over position p
 abbrev pub coversCommit : Sizes → ℕ → ℕ → Action → Bool

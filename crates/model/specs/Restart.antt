@@ -13,7 +13,7 @@ use Rattle.model.specs.declared.Decoded.the-variants.{Change, Close, Mal
 use Rattle.model.specs.declared.Fate.{Fate}
 use Rattle.model.specs.declared.Fate.the-variants.{Closed, Unclosed, Unreadable}
 use Rattle.model.specs.declared.Fault.{Fault}
-use Rattle.model.specs.declared.Fault.the-variants.{Sound, BadRecord}
+use Rattle.model.specs.declared.Fault.the-variants.{NoFault, BadRecord}
 use Rattle.model.specs.Below.{allBelow, listBelow}
 use Rattle.model.specs.Word.{part}
 use Rattle.model.specs.Sizes.{total, pageBase, pageWords, slotBase}
@@ -76,10 +76,10 @@ withReplay c r =
 
 -- "A closed one's record not in backup c, or a loose one's record in it, is XORed in; others change nothing."
 abbrev pub replays : ℕ → Fate → ℕ → Bool
-replays c Closed epoch = not (inBackup c epoch)
-replays c Unclosed epoch = inBackup c epoch
+replays c Closed copy = not (inBackup c copy)
+replays c Unclosed copy = inBackup c copy
 -- not reached: row 7 applies
-replays c (Unreadable p) epoch = false
+replays c (Unreadable p) copy = false
 
 -- the log of a disk, read up to its tail
 unfoldable pub readDisk : Core → World → ℕ → ℕ → ℕ
@@ -94,18 +94,18 @@ nextRecord c w disk = decodeAt (c .sizes) (readDisk c w disk) (tailOf (c .logs) 
 
 -- "A log step reads from its record to its transaction's next close, or to the tail."; a closing record is its own next close.
 abbrev pub fateFault : ℕ → Fate → Fault
-fateFault disk Closed = Sound
-fateFault disk Unclosed = Sound
+fateFault disk Closed = NoFault
+fateFault disk Unclosed = NoFault
 fateFault disk (Unreadable p) = BadRecord disk p
 
 abbrev pub recordFault : Core → World → ℕ → Decoded → Fault
-recordFault c w disk (Change kind page slot number epoch width next) = fateFault disk (fateFrom c w disk number next)
-recordFault c w disk (Close kind number next) = Sound
+recordFault c w disk (Change kind page slot number copy width next) = fateFault disk (fateFrom c w disk number next)
+recordFault c w disk (Close kind number next) = NoFault
 recordFault c w disk Malformed = BadRecord disk (positionOf c disk)
 
 unfoldable pub stepFault : Core → World → ℕ → Fault
 stepFault c w source =
-    cond (ltb source (c .sizes .disks) && ltb 0 (remaining c source)) (recordFault c w source (nextRecord c w source)) Sound
+    cond (ltb source (c .sizes .disks) && ltb 0 (remaining c source)) (recordFault c w source (nextRecord c w source)) NoFault
 
 unfoldable pub restartStepRows : Core → World → ℕ → List Row
 restartStepRows c w source =
@@ -128,10 +128,10 @@ unfoldable pub movedTo : Core → ℕ → ℕ → Core
 movedTo c disk next = withReplay c (record { positions = set (c .replay .positions) disk next; page = c .replay .page })
 
 abbrev pub recordStep : Core → World → ℕ → Decoded → Task
-recordStep c w disk (Change kind page slot number epoch width next) =
+recordStep c w disk (Change kind page slot number copy width next) =
     record {
       actions =
-          cond (replays (c .epoch) (fateFrom c w disk number next) epoch)
+          cond (replays (c .epoch) (fateFrom c w disk number next) copy)
           (xorIn (slotBase (c .sizes) page slot) (span (readDisk c w disk) (positionOf c disk + 3) width) (w .pages))
           [];
       core = movedTo c disk next;

@@ -22,8 +22,8 @@ pub data Scan : Type 0 where
 
 -- what was decoded at p, then the scan from the next position on
 abbrev pub scanned : (ℕ → ℕ) → ℕ → Decoded → (ℕ → Scan) → Scan
-scanned read p (Change kind page slot number epoch width next) rest =
-    item p (change kind page slot number epoch (span read (p + 3) width)) (rest next)
+scanned read p (Change kind page slot number copy width next) rest =
+    item p (change kind page slot number copy (span read (p + 3) width)) (rest next)
 scanned read p (Close kind number next) rest = item p (close kind number) (rest next)
 scanned read p Malformed rest = bad p
 
@@ -46,7 +46,7 @@ placed p (r ∷ rs) = item p r (placed (p + length (encode r)) rs)
 unfoldable pub fateIn : ℕ → Scan → Fate
 fateIn number end = Unclosed
 fateIn number (bad p) = Unreadable p
-fateIn number (item p (change kind page slot n epoch diff) rest) = fateIn number rest
+fateIn number (item p (change kind page slot n copy diff) rest) = fateIn number rest
 fateIn number (item p (close kind n) rest) = cond (eqb n number) Closed (fateIn number rest)
 
 -- the first malformed record of a disk's scan, and else what `rest` says
@@ -67,7 +67,7 @@ unfoldable pub updatesIn : ℕ → Scan → List Update
 updatesIn number end = []
 updatesIn number (bad p) = []
 updatesIn number (item p (close kind n) rest) = updatesIn number rest
-updatesIn number (item p (change kind page slot n epoch diff) rest) =
+updatesIn number (item p (change kind page slot n copy diff) rest) =
     updatesIn number rest
     ++ cond (eqb kind updateKind && eqb n number) (record { position = p; page = page; slot = slot; diff = diff } ∷ []) []
 

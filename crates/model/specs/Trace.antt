@@ -44,26 +44,26 @@ abbrev pub seen : Observed → Outcome
 seen o = outcomeOf (o .reply .answer)
 
 -- What may happen after a format. A power failure inside a call is that call's budget; between two calls it is a new state.
-pub data Step : Type 0 where
+pub data EventInCode : Type 0 where
   -- a call on the slices as they were left
-  called : Observed → Step
+  callInCode : Observed → EventInCode
   -- a call that was lent other slices, some or all of them
-  elsewhere : Observed → Step
+  lentInCode : Observed → EventInCode
   -- what lost power leaves in the page memory and in the work memory
-  lost : (pages work : List ℕ) → Step
+  scrambleInCode : (pages work : List ℕ) → EventInCode
 
 -- "Each call gets the devices, the state and the pages as the last one left or returned them": those of the machine. It kept its
 -- contract.
 pub record On (m : Machine) (o : Observed) : Type 0 where
   pub core : o .core ≡ m .core
   pub entry : o .entry ≡ m .world
-  pub kept : KeepsContract o
+  pub contract : KeepsContract o
 
 -- "save that a refused call may be lent slices of other lengths": it gets the machine's state all the same. It kept its
 -- contract.
 pub record Beside (m : Machine) (o : Observed) : Type 0 where
   pub core : o .core ≡ m .core
-  pub kept : KeepsContract o
+  pub contract : KeepsContract o
   pub turned : seen o ≡ refused
 
 -- "only in stage shut the pages may hold anything, as lost power leaves them"
@@ -77,50 +77,50 @@ unfoldable pub FormatRefused : Observed → Type 0
 FormatRefused o = (s : Sizes) (budget : ℕ) → o .call ≡ format s budget → seen o ≡ refused
 
 -- the step may come next
-abbrev pub Fits : Machine → Step → Type 0
-Fits m (called o) = On m o × FormatRefused o
-Fits m (elsewhere o) = Beside m o
-Fits m (lost pages work) = Scrambles m pages work
+abbrev pub AllowedInCode : Machine → EventInCode → Type 0
+AllowedInCode m (callInCode o) = On m o × FormatRefused o
+AllowedInCode m (lentInCode o) = Beside m o
+AllowedInCode m (scrambleInCode pages work) = Scrambles m pages work
 
 -- The machine and the reference after a step. The machine is what the call handed back and left; after a call that was lent other
 -- slices its words are as they were (`turned-away`: a refused call leaves every word that it was lent). The reference hears what was
 -- answered.
-abbrev pub next : Step → Run → Run
-next (called o) x =
+abbrev pub afterInCode : EventInCode → Run → Run
+afterInCode (callInCode o) x =
     record {
       machine = record { core = o .reply .core; world = o .exit };
       reference = hear (heard (o .call) (o .reply .answer)) (x .reference);
     }
-next (elsewhere o) x =
+afterInCode (lentInCode o) x =
     record {
       machine = record { core = o .reply .core; world = x .machine .world };
       reference = hear (heard (o .call) (o .reply .answer)) (x .reference);
     }
-next (lost pages work) x =
+afterInCode (scrambleInCode pages work) x =
     record {
       machine = record { core = x .machine .core; world = scrambled (x .machine .world) pages work };
       reference = x .reference;
     }
 
-unfoldable pub reached : List Step → Run → Run
-reached [] x = x
-reached (s ∷ steps) x = reached steps (next s x)
+unfoldable pub followInCode : List EventInCode → Run → Run
+followInCode [] x = x
+followInCode (s ∷ steps) x = followInCode steps (afterInCode s x)
 
 -- each step gets what the one before it left
-unfoldable pub Linked : List Step → Run → Type 0
-Linked [] x = Unit {0}
-Linked (s ∷ steps) x = Fits (x .machine) s × Linked steps (next s x)
+unfoldable pub AllowedAllInCode : List EventInCode → Run → Type 0
+AllowedAllInCode [] x = Unit {0}
+AllowedAllInCode (s ∷ steps) x = AllowedInCode (x .machine) s × AllowedAllInCode steps (afterInCode s x)
 
 -- A format of these sizes, on any state and any slices, that kept its contract and was taken.
 pub record Formats (o : Observed) (s : Sizes) : Type 0 where
   pub budget : ℕ
   pub call : o .call ≡ format s budget
-  pub kept : KeepsContract o
+  pub contract : KeepsContract o
   pub finished : seen o ≡ taken
 
 -- where a trace starts: what that format handed back and left, with a blank reference
-unfoldable pub begins : Observed → Sizes → Run
-begins o s = record { machine = record { core = o .reply .core; world = o .exit }; reference = blank s }
+unfoldable pub formattedInCode : Observed → Sizes → Run
+formattedInCode o s = record { machine = record { core = o .reply .core; world = o .exit }; reference = blank s }
 
 -- P holds of every machine and reference that is reached so: let a format of the code be taken, on any state and any slices. Then let
 -- any steps come, each linked to the one before: calls of the code, taken, refused or cut at any store, also inside a restart, whichever
@@ -129,8 +129,8 @@ begins o s = record { machine = record { core = o .reply .core; world = o .exit 
 unfoldable pub AlwaysInCode : (Machine → Reference → Type 0) → Type 0
 AlwaysInCode P =
     (o : Observed) (s : Sizes) → Formats o s
-    → (steps : List Step) → Linked steps (begins o s)
-    → P (reached steps (begins o s) .machine) (reached steps (begins o s) .reference)
+    → (steps : List EventInCode) → AllowedAllInCode steps (formattedInCode o s)
+    → P (followInCode steps (formattedInCode o s) .machine) (followInCode steps (formattedInCode o s) .reference)
 
 -- Power loss. If the code's restart end is then called and is taken, the page memory that it leaves equals, word for word, the values
 -- that the committed transactions alone made, in commit order.
@@ -144,9 +144,9 @@ PowerLossInCode =
 unfoldable pub EachRestartEnd : Type 0
 EachRestartEnd =
     (o : Observed) (s : Sizes) → Formats o s
-    → (before later : List Step) (e : Observed) (budget : ℕ) → Linked (before ++ called e ∷ later) (begins o s)
+    → (before later : List EventInCode) (e : Observed) (budget : ℕ) → AllowedAllInCode (before ++ callInCode e ∷ later) (formattedInCode o s)
     → e .call ≡ restartEnd budget → seen e ≡ taken
-    → e .exit .pages ≡ wordsIn (reached (before ++ called e ∷ []) (begins o s) .reference .committed)
+    → e .exit .pages ≡ wordsIn (followInCode (before ++ callInCode e ∷ []) (formattedInCode o s) .reference .committed)
 
 -- The code's restart begin, called in stage shut on the slices as they were left, answers 0 or 13.
 unfoldable pub RestartAcceptedInCode : Type 0
@@ -170,7 +170,7 @@ RestartFinishesInCode = AlwaysInCode λ m r. m .core .stage ≡ Replaying → Fi
 -- How an update or a read of a slot is answered: 11 only where another open write set has a write to the slot, and where one has, the
 -- call is refused.
 pub record Guarded (r : Reference) (o : Observed) (number page slot : ℕ) : Type 0 where
-  pub locked : numberOf (o .reply .answer) ≡ 11 → writtenByOther number page slot (r .writeSets) ≡ true
+  pub eleven : numberOf (o .reply .answer) ≡ 11 → writtenByOther number page slot (r .writeSets) ≡ true
   pub free : isRefused (seen o) ≡ false → writtenByOther number page slot (r .writeSets) ≡ false
 
 -- A plain table of slots: the state and the words that the code's calls left are those of PlainTable, and a read of the code that is
@@ -189,22 +189,22 @@ TableInCode = AlwaysInCode λ m r. whenServing (m .core .stage) ≡ true → Pla
 
 -- what the observed calls put into the logs (specs/History.antt), told by what each of them answered and got; a call that was lent other
 -- slices is refused and puts nothing
-abbrev pub toldIn : Step → List Put → List Put
-toldIn (called o) puts = toldBy (seen o) (o .call) (o .core) (o .entry) puts
-toldIn (elsewhere o) puts = puts
-toldIn (lost pages work) puts = puts
+abbrev pub toldInCode : EventInCode → List Put → List Put
+toldInCode (callInCode o) puts = toldBy (seen o) (o .call) (o .core) (o .entry) puts
+toldInCode (lentInCode o) puts = puts
+toldInCode (scrambleInCode pages work) puts = puts
 
-unfoldable pub historyIn : List Step → List Put → List Put
-historyIn [] puts = puts
-historyIn (s ∷ steps) puts = historyIn steps (toldIn s puts)
+unfoldable pub historyInCode : List EventInCode → List Put → List Put
+historyInCode [] puts = puts
+historyInCode (s ∷ steps) puts = historyInCode steps (toldInCode s puts)
 
 -- The log: as LogKept, for the words that the code's calls left and the records that they put.
 unfoldable pub LogKeptInCode : Type 0
 LogKeptInCode =
     (o : Observed) (s : Sizes) → Formats o s
-    → (steps : List Step) → Linked steps (begins o s)
-    → let n : Machine = reached steps (begins o s) .machine in
-    let put : List Put = historyIn steps [] in
+    → (steps : List EventInCode) → AllowedAllInCode steps (formattedInCode o s)
+    → let n : Machine = followInCode steps (formattedInCode o s) .machine in
+    let put : List Put = historyInCode steps [] in
     ((disk : ℕ) → disk < imageOf (n .world) .sizes .disks → Stored (imageOf (n .world)) disk (recordsOn disk put))
     × (whenServing (n .core .stage) ≡ true → (disk : ℕ) → disk < n .core .sizes .disks → LogOf n disk (recordsOn disk put))
 

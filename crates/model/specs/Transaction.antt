@@ -10,10 +10,10 @@ use Rattle.model.specs.Word.{xors, part}
 use Rattle.model.specs.Sizes.{widthIn, slotBase}
 use Rattle.model.specs.Record.{Record, change, close, encode, wordsOf, updateKind, commitKind}
 use Rattle.model.specs.World.{World, write, pages, work, each, perform}
-use Rattle.model.specs.Memory.{ownerAt, epochOf}
+use Rattle.model.specs.Memory.{ownerAt, copyOf}
 use Rattle.model.specs.State.{withLog, endOf, flushed, placeOf, diskAtPlace, firstAt, reservedAt, withPlace, without, hasUpdate}
 use Rattle.model.specs.Room.{noDisk, hasRoom, idlest}
-use Rattle.model.specs.Refusal.{Row, row, Task, Verdict, accepted, refused, verdict}
+use Rattle.model.specs.Refusal.{Row, row, Task, Verdict, accepted, rejected, verdict}
 use Rattle.model.specs.Causes.{whenServing, stageForbids, anchorWrong, lengthsWrong, slotMissing, notOpen, readerNotOpen, valueWrong, locked, tableFull, spent}
 use Rattle.model.specs.Append.{Appended, append, flush}
 
@@ -50,7 +50,7 @@ slotWords c w page slot = part (slotBase (c .sizes) page slot) (widthIn (c .size
 
 unfoldable pub updateRecord : Core → World → ℕ → ℕ → ℕ → List ℕ → Record
 updateRecord c w number page slot value =
-    change updateKind page slot number (epochOf (c .sizes) (w .work) page) (xors (slotWords c w page slot) value)
+    change updateKind page slot number (copyOf (c .sizes) (w .work) page) (xors (slotWords c w page slot) value)
 
 -- the transaction's entry after an update of r words: "an update of r words needs 2 × r", of which r are its record
 unfoldable pub updated : Core → ℕ → ℕ → Table
@@ -102,7 +102,7 @@ readTask c w reader page slot = record { actions = []; core = c; value = 0 }
 
 abbrev pub wordsIf : Verdict → List ℕ → List ℕ
 wordsIf accepted words = words
-wordsIf (refused number first second) words = []
+wordsIf (rejected number first second) words = []
 
 unfoldable pub readWords : Core → World → ℕ → ℕ → ℕ → List ℕ
 readWords c w reader page slot = wordsIf (verdict (readRows c w reader page slot)) (slotWords c w page slot)

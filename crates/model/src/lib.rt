@@ -45,7 +45,7 @@ pub struct Replay {
 }
 
 // The state by value: `epoch` is 01's checkpoint number c, `next` the number that the next begin answers.
-// Buffers, slot owners and copy epochs lie in the lent work memory.
+// Buffers, slot owners and copy numbers lie in the lent work memory.
 pub struct Core {
     pub stage: Stage,
     pub sizes: Sizes,
@@ -80,7 +80,7 @@ pub enum Decoded {
         page: u64,
         slot: u64,
         number: u64,
-        epoch: u64,
+        copy: u64,
         width: u64,
         next: u64,
     },
@@ -101,7 +101,7 @@ pub enum Fate {
 
 // What a check of log records finds.
 pub enum Fault {
-    Sound,
+    NoFault,
     BadRecord { disk: u64, position: u64 },
 }
 

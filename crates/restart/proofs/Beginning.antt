@@ -12,7 +12,7 @@ use Rattle.model.specs.declared.Stage.the-variants.{Shut}
 use Rattle.model.specs.declared.Sizes.{Sizes}
 use Rattle.model.specs.declared.Core.{Core}
 use Rattle.model.specs.declared.Fault.{Fault}
-use Rattle.model.specs.declared.Fault.the-variants.{Sound, BadRecord}
+use Rattle.model.specs.declared.Fault.the-variants.{NoFault, BadRecord}
 use Rattle.model.specs.declared.Reply.{Reply}
 use Rattle.model.specs.Below.{firstBelow}
 use Rattle.model.specs.Sizes.{ringOf, total, tailWord, sizesInBounds}
@@ -20,7 +20,7 @@ use Rattle.model.specs.Anchor.{anchorWords, epochOn, sizesOn, startOn}
 use Rattle.model.specs.World.{World, pages, write, each}
 use Rattle.model.specs.Memory.{lengthsRight}
 use Rattle.model.specs.State.{limit}
-use Rattle.model.specs.Refusal.{row, refused, verdict}
+use Rattle.model.specs.Refusal.{row, rejected, verdict}
 use Rattle.model.specs.Causes.{whenShut, stageForbids, anchorWrong, unformatted, sizesWrong, lengthsWrong, tailOn, tailWrong, wrongTail, faultFrom, spent}
 use Rattle.model.specs.Checkpoint.{perDisk}
 use Rattle.model.specs.Restart.{imageRows, restartBeginRows, restartBeginTask}
@@ -61,7 +61,7 @@ module _ (c : Core) (w : World) where
   module _ (shut : whenShut (c .stage) ≡ true) {n : ℕ} (refusal : n ≡ anchorRefusal (w .anchor)) where
     -- rows 1 to 4, and then the others
     begin-verdict : verdict (restartBeginRows c w)
-        ≡ cond (eqb n 0) (verdict (row 5 (lengthsWrong (sizesOn (w .anchor)) w) ∷ beginRest w)) (refused n 0 0)
+        ≡ cond (eqb n 0) (verdict (row 5 (lengthsWrong (sizesOn (w .anchor)) w) ∷ beginRest w)) (rejected n 0 0)
     unfolding restartBeginRows imageRows beginRest verdict stageForbids anchorWrong unformatted sizesWrong anchorRefusal
     begin-verdict =
         rw (refusal, shut, sound-at c Shut (shut-stage (c .stage) shut))
@@ -69,7 +69,7 @@ module _ (c : Core) (w : World) where
       where
         go : (a b d : Bool)
             → verdict (row 2 (not a) ∷ row 3 b ∷ row 4 (not d) ∷ row 5 (lengthsWrong (sizesOn (w .anchor)) w) ∷ beginRest w)
-            ≡ cond (eqb (cond a (cond b 3 (cond d 0 4)) 2) 0) (verdict (row 5 (lengthsWrong (sizesOn (w .anchor)) w) ∷ beginRest w)) (refused (cond a (cond b 3 (cond d 0 4)) 2) 0 0)
+            ≡ cond (eqb (cond a (cond b 3 (cond d 0 4)) 2) 0) (verdict (row 5 (lengthsWrong (sizesOn (w .anchor)) w) ∷ beginRest w)) (rejected (cond a (cond b 3 (cond d 0 4)) 2) 0 0)
         go true true d = refl
         go true false true = refl
         go true false false = refl
@@ -128,7 +128,7 @@ module _ (c : Core) (w : World) (s : Sizes) (same : s ≡ sizesOn (w .anchor)) (
         unfolding BeginsOn beginRest verdict
         begin-fault e = rw (← same, tails-right, same-fault, e)
 
-        pub begin-spent : fault ≡ Sound → limit ≤ epochOn (w .anchor) → BeginsOn c w (refusedWith c 13 0 0) w
+        pub begin-spent : fault ≡ NoFault → limit ≤ epochOn (w .anchor) → BeginsOn c w (refusedWith c 13 0 0) w
         unfolding BeginsOn beginRest verdict spent
         begin-spent e l = rw (← same, tails-right, same-fault, e, le-leb limit (epochOn (w .anchor)) l)
 
@@ -137,7 +137,7 @@ module _ (c : Core) (w : World) (s : Sizes) (same : s ≡ sizesOn (w .anchor)) (
         unfolding restartBeginTask replayingCore tailOn
         task-is = rw (from, to, same)
 
-        pub begin-taken : fault ≡ Sound → epochOn (w .anchor) < limit → {after : List ℕ} → after ≡ sets (w .pages) 0 (replicate (total s) 0)
+        pub begin-taken : fault ≡ NoFault → epochOn (w .anchor) < limit → {after : List ℕ} → after ≡ sets (w .pages) 0 (replicate (total s) 0)
             → {k : Core} → k ≡ replayingCore s (epochOn (w .anchor)) starts tails → BeginsOn c w (finished k) (withPages w after)
         unfolding BeginsOn beginRest verdict spent
         begin-taken e l did is =

@@ -11,7 +11,7 @@ use Rattle.model.specs.declared.Decoded.{Decoded}
 use Rattle.model.specs.declared.Decoded.the-variants.{Change, Close, Malformed}
 use Rattle.model.specs.declared.Fate.{Fate}
 use Rattle.model.specs.declared.Fate.the-variants.{Closed, Unclosed, Unreadable}
-use Rattle.model.specs.declared.Fault.the-variants.{Sound, BadRecord}
+use Rattle.model.specs.declared.Fault.the-variants.{NoFault, BadRecord}
 use Rattle.model.specs.declared.Reply.{Reply}
 use Rattle.model.specs.Word.{part}
 use Rattle.model.specs.Sizes.{pageBase, pageWords, slotBase}
@@ -20,7 +20,7 @@ use Rattle.model.specs.Decode.{span}
 use Rattle.model.specs.Image.{xorAt}
 use Rattle.model.specs.World.{World, Action, perform}
 use Rattle.model.specs.State.{tailOf}
-use Rattle.model.specs.Refusal.{refused, verdict}
+use Rattle.model.specs.Refusal.{rejected, verdict}
 use Rattle.model.specs.Causes.{whenReplaying, sourceMissing}
 use Rattle.model.specs.Abort.{xorIn}
 use Rattle.model.specs.Restart.{positionOf, remaining, withReplay, replays, readDisk, fateFrom, nextRecord, fateFault, recordFault, stepFault, restartStepRows, backupStep, movedTo, recordStep, restartStepTask}
@@ -36,7 +36,7 @@ use Rattle.restart.proofs.Storeless.{nothing-spent}
 
 module _ (c : Core) (w : World) (source : ℕ) where
   -- A refusal by one of these rows.
-  steps-refused : (number first second : ℕ) → verdict (stepRest c w source) ≡ refused number first second
+  steps-refused : (number first second : ℕ) → verdict (stepRest c w source) ≡ rejected number first second
       → StepsOn c w source (refusedWith c number first second) w
   unfolding StepsOn
   steps-refused number first second e = rw e
@@ -45,7 +45,7 @@ module _ (c : Core) (w : World) (source : ℕ) where
   unfolding stepRest verdict
   fault-refused disk p e = steps-refused 7 disk p (rw e)
 
-  none-refused : stepFault c w source ≡ Sound → source ≤ c .sizes .disks → remaining c source ≡ 0
+  none-refused : stepFault c w source ≡ NoFault → source ≤ c .sizes .disks → remaining c source ≡ 0
       → StepsOn c w source (refusedWith c 15 0 0) w
   unfolding stepRest verdict sourceMissing
   none-refused e h z = steps-refused 15 0 0 (rw (e, le-ltb (c .sizes .disks) source h, eq-eqb (remaining c source) 0 z))
@@ -55,7 +55,7 @@ module _ (c : Core) (w : World) (source : ℕ) where
   step-missing h = steps-refused 8 0 0 (rw (le-ltb source (c .sizes .disks) (omega arith), lt-ltb (c .sizes .disks) source h))
 
   -- A step that none refuses.
-  steps-taken : {actions : List Action} {k : Core} {v : World} → stepFault c w source ≡ Sound → source ≤ c .sizes .disks
+  steps-taken : {actions : List Action} {k : Core} {v : World} → stepFault c w source ≡ NoFault → source ≤ c .sizes .disks
       → 0 < remaining c source → restartStepTask c w source ≡ record { actions = actions; core = k; value = 0 }
       → perform actions w ≡ v → StepsOn c w source (finished k) v
   unfolding StepsOn stepRest verdict sourceMissing
@@ -64,7 +64,7 @@ module _ (c : Core) (w : World) (source : ℕ) where
       (nothing-spent actions k w v (rw same at (storeless-finishes (restartStep source) c w refl)) did)
 
 -- A search ahead that meets no malformed record is no fault.
-fate-sound : (disk : ℕ) (f : Fate) → ((p : ℕ) → f ≡ Unreadable p → ⊥) → fateFault disk f ≡ Sound
+fate-sound : (disk : ℕ) (f : Fate) → ((p : ℕ) → f ≡ Unreadable p → ⊥) → fateFault disk f ≡ NoFault
 fate-sound disk Closed unmet = refl
 fate-sound disk Unclosed unmet = refl
 fate-sound disk (Unreadable p) unmet = absurd (unmet p refl)
@@ -97,12 +97,12 @@ module _ (c : Core) (w : World) (disk : ℕ) (h : disk < c .sizes .disks) where
     unfolding perform
     step-close e = steps-taken c w disk (fault-here e) (omega arith) some (task-here e) refl
 
-    module _ {kind page slot number epoch width next : ℕ} (e : nextRecord c w disk ≡ Change kind page slot number epoch width next) where
+    module _ {kind page slot number copy width next : ℕ} (e : nextRecord c w disk ≡ Change kind page slot number copy width next) where
       pub step-unreadable : {p : ℕ} → fateFrom c w disk number next ≡ Unreadable p → StepsOn c w disk (refusedWith c 7 disk p) w
       step-unreadable {p} f = fault-refused c w disk disk p (fault-here e ∙ ap (fateFault disk) f)
 
       pub step-change : {f : Fate} {b : Bool} {after : List ℕ} → fateFrom c w disk number next ≡ f → ((p : ℕ) → f ≡ Unreadable p → ⊥)
-          → b ≡ replays (c .epoch) f epoch
+          → b ≡ replays (c .epoch) f copy
           → after ≡ cond b (xorAt (slotBase (c .sizes) page slot) (span (readDisk c w disk) (positionOf c disk + 3) width) (w .pages)) (w .pages)
           → StepsOn c w disk (finished (movedTo c disk next)) (withPages w after)
       unfolding perform
@@ -122,7 +122,7 @@ module _ (c : Core) (w : World) (disk : ℕ) (h : disk < c .sizes .disks) where
 
 -- The backup.
 module _ (c : Core) (w : World) where
-  no-fault : stepFault c w (c .sizes .disks) ≡ Sound
+  no-fault : stepFault c w (c .sizes .disks) ≡ NoFault
   unfolding stepFault
   no-fault = rw (le-ltb (c .sizes .disks) (c .sizes .disks) (omega arith))
 

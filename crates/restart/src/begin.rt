@@ -71,7 +71,7 @@ fn begin_on(core: Core, sizes: Sizes, anchor: &[u64], pages: &mut [u64], logs: &
     let fault = check_disks(sizes, logs, starts);
     match fault {
         Fault::BadRecord { disk: d, position } => refuse_at(core, 7, d, position),
-        Fault::Sound => {
+        Fault::NoFault => {
             let epoch = anchor[3];
             if epoch >= LIMIT {
                 return refuse(core, 13);

@@ -49,10 +49,10 @@ fn move_on(core: Core, disk: u64, next: u64) -> Reply
 }
 
 // A closed transaction's record not in the backup, or a loose one's record in it, is XORed in.
-fn is_replayed(current: u64, fate: Fate, epoch: u64) -> bool
-    ensures { λ r. ⌜ r ≡ replays current fate epoch ⌝ }
+fn is_replayed(current: u64, fate: Fate, copy: u64) -> bool
+    ensures { λ r. ⌜ r ≡ replays current fate copy ⌝ }
 {
-    let in_backup = epoch < current;
+    let in_backup = copy < current;
     match fate {
         Fate::Closed => !in_backup,
         Fate::Unclosed => in_backup,
@@ -83,7 +83,7 @@ fn log_step(core: Core, disk: u64, pages: &mut [u64], logs: &[u64]) -> Reply
             page,
             slot,
             number,
-            epoch,
+            copy,
             width,
             next,
             ..
@@ -92,7 +92,7 @@ fn log_step(core: Core, disk: u64, pages: &mut [u64], logs: &[u64]) -> Reply
             if let Fate::Unreadable { position: p } = fate {
                 return refuse_at(core, 7, disk, p);
             }
-            let replays = is_replayed(core.epoch, fate, epoch);
+            let replays = is_replayed(core.epoch, fate, copy);
             let at = slot_base(sizes, page, slot);
             let from = position + 3;
             replay_span(replays, pages, at, sizes, logs, disk, tail, from, width);

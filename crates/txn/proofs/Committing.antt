@@ -16,7 +16,7 @@ use Rattle.model.specs.Record.{encode, close, commitKind}
 use Rattle.model.specs.World.{World}
 use Rattle.model.specs.Memory.{bufferWords}
 use Rattle.model.specs.State.{tailOf, fillOf, endOf, isOpen, servingSound, withFill, withLog, without, flushed}
-use Rattle.model.specs.Refusal.{row, verdict, accepted, refused}
+use Rattle.model.specs.Refusal.{row, verdict, accepted, rejected}
 use Rattle.model.specs.Causes.{whenServing, notOpen}
 use Rattle.model.specs.Append.{appendIf, append, flush}
 use Rattle.model.specs.Transaction.{diskOf, commitRows, commitTask}
@@ -39,11 +39,11 @@ use Rattle.frame.proofs.Verdicts.{first-refused, first-accepted, task-settled}
 module _ (c : Core) (w : World) (number : ℕ) {a : Bool} {r : ℕ} (stage : a ≡ whenServing (c .stage))
     (first : r ≡ firstRefusal a c (length (w .anchor)) (length (w .pages)) (length (w .backups)) (length (w .logs)) (length (w .work)))
   where
-    pub commit-refused : (r ≡ 0 → ⊥) → verdict (commitRows c w number) ≡ refused r 0 0
+    pub commit-refused : (r ≡ 0 → ⊥) → verdict (commitRows c w number) ≡ rejected r 0 0
     unfolding commitRows
     commit-refused some = first-refused whenServing c w stage first some (row 9 (notOpen c number) ∷ [])
 
-    pub commit-unopened : r ≡ 0 → isOpen (c .table) number ≡ false → verdict (commitRows c w number) ≡ refused 9 0 0
+    pub commit-unopened : r ≡ 0 → isOpen (c .table) number ≡ false → verdict (commitRows c w number) ≡ rejected 9 0 0
     unfolding commitRows verdict notOpen
     commit-unopened none shut = first-accepted whenServing c w stage first none (row 9 (notOpen c number) ∷ []) ∙ rw shut refl
 

@@ -20,17 +20,17 @@ use Rattle.model.proofs.Booleans.{true-false}
 use Rattle.model.proofs.Ledger.Lists.{some-halves}
 
 -- ---- a page copied, which was not yet in this checkpoint
-module _ {x size : ℕ} {a : Ledger} (inPage : ℕ → Bool) (before : (w : ℕ) → w < size → inPage w ≡ true → a .epochs w ≤ a .epoch) (g : Good x size a) where
-  copied-word : (w : ℕ) → w < size → (b : Bool) → inPage w ≡ b → a .epoch < cond b (a .epoch + 1) (a .epochs w)
+module _ {x size : ℕ} {a : Ledger} (inPage : ℕ → Bool) (before : (w : ℕ) → w < size → inPage w ≡ true → a .copies w ≤ a .epoch) (g : Good x size a) where
+  copied-word : (w : ℕ) → w < size → (b : Bool) → inPage w ≡ b → a .epoch < cond b (a .epoch + 1) (a .copies w)
       → Copied w (a .epoch + 1) (cond b (a .pages w) (a .other w)) (a .pages w) (a .flushed ++ a .buffered)
   copied-word w i true e h = copy-page w (a .epoch + 1) (a .pages w) (a .flushed ++ a .buffered) (g .older w i (before w i e))
   copied-word w i false e h = g .copied w i h
 
-  number : (w : ℕ) → w < size → (b : Bool) → (a .epoch ≤ cond b (a .epoch + 1) (a .epochs w)) × (cond b (a .epoch + 1) (a .epochs w) ≤ a .epoch + 1)
+  number : (w : ℕ) → w < size → (b : Bool) → (a .epoch ≤ cond b (a .epoch + 1) (a .copies w)) × (cond b (a .epoch + 1) (a .copies w) ≤ a .epoch + 1)
   number w i true = omega arith
   number w i false = g .numbers w i
 
-  still-older : (w : ℕ) → w < size → (b : Bool) → cond b (a .epoch + 1) (a .epochs w) ≤ a .epoch → newer w (a .epoch + 1) (a .flushed ++ a .buffered) ≡ 0
+  still-older : (w : ℕ) → w < size → (b : Bool) → cond b (a .epoch + 1) (a .copies w) ≤ a .epoch → newer w (a .epoch + 1) (a .flushed ++ a .buffered) ≡ 0
   still-older w i true h = absurd (omega arith)
   still-older w i false h = g .older w i h
 
@@ -55,9 +55,9 @@ module _ {x size : ℕ} {a : Ledger} (inPage : ℕ → Bool) (before : (w : ℕ)
 pub record MaySwitch (size : ℕ) (a : Ledger) (kept : Entry → Bool) : Type 0 where
   -- all is flushed and copied
   pub flushed : a .buffered ≡ []
-  pub all-copied : (w : ℕ) → w < size → a .epoch < a .epochs w
+  pub all-copied : (w : ℕ) → w < size → a .epoch < a .copies w
   -- what goes is in the new backup, and of finished transactions
-  pub old : (w : ℕ) → w < size → All (λ r. mask (leb (a .epoch + 1) (r .epoch)) (adds w r) ≡ 0) (pick (λ r. not (kept r)) (a .flushed))
+  pub old : (w : ℕ) → w < size → All (λ r. mask (leb (a .epoch + 1) (r .copy)) (adds w r) ≡ 0) (pick (λ r. not (kept r)) (a .flushed))
   pub closed : All (λ r. closedIn (a .flushed) (r .number) ≡ true) (pick (λ r. not (kept r)) (a .flushed))
   -- where a closing record goes, its transaction has nothing in what stays
   pub last : (t : ℕ) → closedIn (a .flushed) t ≡ true → closedIn (pick kept (a .flushed)) t ≡ false → All (λ r. eqb (r .number) t ≡ false) (pick kept (a .flushed))
@@ -94,7 +94,7 @@ module _ {size : ℕ} {a : Ledger} {kept : Entry → Bool} (g : Good 0 size a) (
   shed-newer : (w n : ℕ) → w < size → a .epoch + 1 ≤ n → newer w n (R ++ []) ≡ newer w n (a .flushed ++ a .buffered)
   unfolding D
   shed-newer w n i h =
-      shed (λ r. mask (leb n (r .epoch)) (adds w r)) (all-map (λ r e. mask-mono (a .epoch + 1) n (r .epoch) (adds w r) h e) D (may .old w i))
+      shed (λ r. mask (leb n (r .copy)) (adds w r)) (all-map (λ r e. mask-mono (a .epoch + 1) n (r .copy) (adds w r) h e) D (may .old w i))
 
   whole : (w : ℕ) → w < size → Inv w (a .epoch) (a .current w) (a .pages w) (a .committed w) (D ++ R) [] (a .opened)
   unfolding D R

@@ -44,7 +44,7 @@ closing-word : {x size : ℕ} {a : Ledger} (r : Entry) → Good x size a → isC
 closing-word {a = a} r g c opened w i =
     rw (adds-close w r c, ⊕-zero-r (a .pages w)) at
     (append-keeps w (a .epoch) (a .current w) (a .pages w) (a .committed w) (a .flushed) (a .buffered) (a .opened) r (g .words w i)
-    (masked-close w r c (not (leb (a .epoch) (r .epoch)))) opened)
+    (masked-close w r c (not (leb (a .epoch) (r .copy)))) opened)
 
 -- ---- an abort's end: the transaction's records cancel
 module _ {size : ℕ} {a : Ledger} (r : Entry) (g : Good (r .number) size a) (opened : a .opened (r .number) ≡ true) (c : isClose r ≡ true)
@@ -79,14 +79,14 @@ module _ {size : ℕ} {a : Ledger} (r : Entry) (g : Good (r .number) size a) (op
         (closing-word r g c opened w i) opened (sums w (λ q. eqb (q .number) (r .number)) ∙ cancels w i);
     sheets = accounts;
     copied = λ w i h. record {
-      page = g .copied w i h .page ∙ ap (λ (y : ℕ). a .other w ⊕ y) (sym (sums w (λ q. leb (a .epoch + 1) (q .epoch))));
+      page = g .copied w i h .page ∙ ap (λ (y : ℕ). a .other w ⊕ y) (sym (sums w (λ q. leb (a .epoch + 1) (q .copy))));
     };
     numbers = g .numbers;
     unclosed = λ u o. still u (kept-open (a .opened) (r .number) u o .1) (g .unclosed u (kept-open (a .opened) (r .number) u o .0));
     unused = λ u h. (still u (λ e. true-false opened (rw (sym e) (g .unused u h .1))) (g .unused u h .0), rw (g .unused u h .1));
     unlogged = λ w u i h. sums w (λ q. eqb (q .number) u) ∙ g .unlogged w u i h;
-    older = λ w i h. sums w (λ q. leb (a .epoch + 1) (q .epoch)) ∙ g .older w i h;
-    bounded = λ w n i h. sums w (λ q. leb n (q .epoch)) ∙ g .bounded w n i h;
+    older = λ w i h. sums w (λ q. leb (a .epoch + 1) (q .copy)) ∙ g .older w i h;
+    bounded = λ w n i h. sums w (λ q. leb n (q .copy)) ∙ g .bounded w n i h;
     nobody = rw (g .nobody);
     counting = g .counting;
   }
@@ -188,13 +188,13 @@ module _ {size : ℕ} {a : Ledger} (home : ℕ → ℕ) (r : Entry) (homed : All
         sheets-same 0 w (patched w (a .writes (r .number)) (a .committed w)) (a .flushed ++ a .buffered) (log ++ rest) (except (a .opened) (r .number))
         (a .writes) (a .writes) (a .owners w) (λ u n o. commit-sums w (λ q. eqb (q .number) u)) (λ u o. refl)
         (commit-others 0 w (a .committed w) (a .flushed ++ a .buffered) (a .opened) (a .writes) (a .owners w) (r .number) (g .sheets w i) not-none opened);
-    copied = λ w i h. record { page = g .copied w i h .page ∙ ap (λ (y : ℕ). a .other w ⊕ y) (sym (commit-sums w (λ q. leb (a .epoch + 1) (q .epoch)))) };
+    copied = λ w i h. record { page = g .copied w i h .page ∙ ap (λ (y : ℕ). a .other w ⊕ y) (sym (commit-sums w (λ q. leb (a .epoch + 1) (q .copy)))) };
     numbers = g .numbers;
     unclosed = λ u o. still-open u o .1;
     unused = λ u h. (unclosed-log u (λ e. true-false opened (rw (sym e) (g .unused u h .1))) (g .unused u h .0) .1, rw (g .unused u h .1));
     unlogged = λ w u i h. commit-sums w (λ q. eqb (q .number) u) ∙ g .unlogged w u i h;
-    older = λ w i h. commit-sums w (λ q. leb (a .epoch + 1) (q .epoch)) ∙ g .older w i h;
-    bounded = λ w n i h. commit-sums w (λ q. leb n (q .epoch)) ∙ g .bounded w n i h;
+    older = λ w i h. commit-sums w (λ q. leb (a .epoch + 1) (q .copy)) ∙ g .older w i h;
+    bounded = λ w n i h. commit-sums w (λ q. leb n (q .copy)) ∙ g .bounded w n i h;
     nobody = rw (g .nobody);
     counting = g .counting;
   }

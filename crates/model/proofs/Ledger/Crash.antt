@@ -25,9 +25,9 @@ regroup b n d l p hp hd = rw (hp, hd) (simp xor)
 -- what is known when the power fails
 pub record Cut (w c b pages : ℕ) (F B : List Entry) (O : ℕ → Bool) : Type 0 where
   -- the word is the backup's with the records that are not in the backup
-  pub page : pages ≡ b ⊕ sum (λ r. mask (leb c (r .epoch)) (adds w r)) (F ++ B)
+  pub page : pages ≡ b ⊕ sum (λ r. mask (leb c (r .copy)) (adds w r)) (F ++ B)
   -- a buffered record is not in the backup
-  pub late : All (λ r. mask (not (leb c (r .epoch))) (adds w r) ≡ 0) B
+  pub late : All (λ r. mask (not (leb c (r .copy))) (adds w r) ≡ 0) B
   -- no record of a transaction that is closed in the flushed log is buffered
   pub apart : All (λ r. closedIn F (r .number) ≡ false) B
   -- an open transaction is not closed
@@ -47,7 +47,7 @@ crash w c b pages F B O h =
     rep r = mask (chosen (closedIn F) c r) (adds w r)
 
     new : Entry → ℕ
-    new r = mask (leb c (r .epoch)) (adds w r)
+    new r = mask (leb c (r .copy)) (adds w r)
 
     dead : Entry → ℕ
     dead r = mask (not (closedIn F (r .number)) && not (O (r .number))) (adds w r)
@@ -55,14 +55,14 @@ crash w c b pages F B O h =
     live : Entry → ℕ
     live r = mask (O (r .number)) (adds w r)
 
-    none : (r : Entry) → mask (not (leb c (r .epoch))) (adds w r) ≡ 0 → closedIn F (r .number) ≡ false → rep r ≡ 0
+    none : (r : Entry) → mask (not (leb c (r .copy))) (adds w r) ≡ 0 → closedIn F (r .number) ≡ false → rep r ≡ 0
     none r p q = rw q p
 
     whole : sum rep F ≡ sum rep (F ++ B)
     whole = sym (sum-append rep F B ∙ rw (sum-zero rep B (all-zip none B (h .late) (h .apart))) (⊕-zero-r (sum rep F)))
 
     each : (r : Entry) → rep r ≡ new r ⊕ (dead r ⊕ live r)
-    each r = masks (closedIn F (r .number)) (leb c (r .epoch)) (O (r .number)) (adds w r) (h .open-loose (r .number))
+    each r = masks (closedIn F (r .number)) (leb c (r .copy)) (O (r .number)) (adds w r) (h .open-loose (r .number))
 
     split : sum rep (F ++ B) ≡ sum new (F ++ B) ⊕ (sum dead (F ++ B) ⊕ sum live (F ++ B))
     split =

@@ -16,7 +16,7 @@ pub record Entry : Type 0 where
   pub page : ℕ
   pub slot : ℕ
   pub number : ℕ
-  pub epoch : ℕ
+  pub copy : ℕ
   pub at : ℕ
   pub diff : List ℕ
 
@@ -26,7 +26,7 @@ isClose r = leb 2 (r .kind)
 -- the record that is stored
 unfoldable pub recordOf : Entry → Record
 recordOf r =
-    cond (isClose r) (close (r .kind) (r .number)) (change (r .kind) (r .page) (r .slot) (r .number) (r .epoch) (r .diff))
+    cond (isClose r) (close (r .kind) (r .number)) (change (r .kind) (r .page) (r .slot) (r .number) (r .copy) (r .diff))
 
 -- `x` where the test holds, else 0
 abbrev pub mask : Bool → ℕ → ℕ
@@ -69,7 +69,7 @@ closedIn l t = some (λ r. isClose r && eqb (r .number) t) l
 
 -- restart's choice: a finished transaction's record that is not in backup c, or an unfinished one's that is
 unfoldable pub chosen : (ℕ → Bool) → ℕ → Entry → Bool
-chosen closed c r = cond (closed (r .number)) (leb c (r .epoch)) (not (leb c (r .epoch)))
+chosen closed c r = cond (closed (r .number)) (leb c (r .copy)) (not (leb c (r .copy)))
 
 unfoldable pub onDisk : ℕ → Entry → Bool
 onDisk d r = eqb (r .disk) d

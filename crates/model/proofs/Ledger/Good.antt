@@ -22,14 +22,14 @@ pub record Good (x size : ℕ) (a : Ledger) : Type 0 where
   pub words : (w : ℕ) → w < size → Inv w (a .epoch) (a .current w) (a .pages w) (a .committed w) (a .flushed) (a .buffered) (a .opened)
   pub sheets : (w : ℕ) → w < size → Sheets x w (a .committed w) (a .flushed ++ a .buffered) (a .opened) (a .writes) (a .owners w)
   -- a page copied in this checkpoint has the next epoch, and lies in the other backup; what came later has that epoch
-  pub copied : (w : ℕ) → w < size → a .epoch < a .epochs w → Copied w (a .epoch + 1) (a .other w) (a .pages w) (a .flushed ++ a .buffered)
-  pub numbers : (w : ℕ) → w < size → (a .epoch ≤ a .epochs w) × (a .epochs w ≤ a .epoch + 1)
+  pub copied : (w : ℕ) → w < size → a .epoch < a .copies w → Copied w (a .epoch + 1) (a .other w) (a .pages w) (a .flushed ++ a .buffered)
+  pub numbers : (w : ℕ) → w < size → (a .epoch ≤ a .copies w) × (a .copies w ≤ a .epoch + 1)
   pub unclosed : (t : ℕ) → a .opened t ≡ true → closedIn (a .flushed ++ a .buffered) t ≡ false
   -- numbers not yet handed out
   pub unused : (t : ℕ) → a .next ≤ t → (closedIn (a .flushed ++ a .buffered) t ≡ false) × (a .opened t ≡ false)
   pub unlogged : (w t : ℕ) → w < size → a .next ≤ t → ofTxn w t (a .flushed ++ a .buffered) ≡ 0
-  -- the records' epochs: no later than the page's, and never past the next checkpoint's
-  pub older : (w : ℕ) → w < size → a .epochs w ≤ a .epoch → newer w (a .epoch + 1) (a .flushed ++ a .buffered) ≡ 0
+  -- the records' copies: no later than the page's, and never past the next checkpoint's
+  pub older : (w : ℕ) → w < size → a .copies w ≤ a .epoch → newer w (a .epoch + 1) (a .flushed ++ a .buffered) ≡ 0
   pub bounded : (w n : ℕ) → w < size → a .epoch + 2 ≤ n → newer w n (a .flushed ++ a .buffered) ≡ 0
   -- number 0 is no transaction's
   pub nobody : a .opened 0 ≡ false
@@ -76,12 +76,12 @@ good-same {x} {size} {a} {b} s g = record {
   sheets = λ w i. rw (← s .committed w i, ← s .flushed, ← s .buffered, ← opened, ← s .owners w i)
       (sheets-same x w (a .committed w) (a .flushed ++ a .buffered) (a .flushed ++ a .buffered) (a .opened) (a .writes) (b .writes) (a .owners w)
       (λ u n o. refl) (s .writes) (g .sheets w i));
-  copied = λ w i. rw (← s .epoch, ← s .epochs w i, ← s .other w i, ← s .pages w i, ← s .flushed, ← s .buffered) (g .copied w i);
-  numbers = λ w i. rw (← s .epoch, ← s .epochs w i) (g .numbers w i);
+  copied = λ w i. rw (← s .epoch, ← s .copies w i, ← s .other w i, ← s .pages w i, ← s .flushed, ← s .buffered) (g .copied w i);
+  numbers = λ w i. rw (← s .epoch, ← s .copies w i) (g .numbers w i);
   unclosed = rw (← s .flushed, ← s .buffered, ← opened) (g .unclosed);
   unused = rw (← s .flushed, ← s .buffered, ← opened, ← s .next) (g .unused);
   unlogged = rw (← s .flushed, ← s .buffered, ← s .next) (g .unlogged);
-  older = λ w i. rw (← s .epoch, ← s .epochs w i, ← s .flushed, ← s .buffered) (g .older w i);
+  older = λ w i. rw (← s .epoch, ← s .copies w i, ← s .flushed, ← s .buffered) (g .older w i);
   bounded = rw (← s .epoch, ← s .flushed, ← s .buffered) (g .bounded);
   nobody = rw (← opened) (g .nobody);
   counting = rw (← s .next) (g .counting);

@@ -18,7 +18,7 @@ use Rattle.model.proofs.Booleans.{or-right}
 -- a closing record has two words, a change three or more
 record-size : (r : Record) → 2 ≤ length (encode r)
 unfolding encode
-record-size (change kind page slot number epoch diff) = omega arith
+record-size (change kind page slot number copy diff) = omega arith
 record-size (close kind number) = omega arith
 
 pub size-ge : (r : Entry) → 2 ≤ sizeOf r

@@ -9,14 +9,14 @@ use Rattle.model.specs.Word.{_⊕_}
 use Rattle.model.proofs.Ledger.Entry.{Entry, adds, pick, onDisk, spanning, Patch, patched}
 
 -- Words are functions from index to word. `current` is the backup of checkpoint `epoch`, `other` the one that is written next.
--- `epochs` and `owners` are by word: the copy epoch of its page, the owner of its slot.
+-- `copies` and `owners` are by word: the copy number of its page, the owner of its slot.
 pub record Ledger : Type 0 where
   pub epoch : ℕ
   pub next : ℕ
   pub pages : ℕ → ℕ
   pub current : ℕ → ℕ
   pub other : ℕ → ℕ
-  pub epochs : ℕ → ℕ
+  pub copies : ℕ → ℕ
   pub owners : ℕ → ℕ
   pub committed : ℕ → ℕ
   pub writes : ℕ → List Patch
@@ -39,7 +39,7 @@ begun a =
       pages = a .pages;
       current = a .current;
       other = a .other;
-      epochs = a .epochs;
+      copies = a .copies;
       owners = a .owners;
       committed = a .committed;
       writes = λ u. cond (eqb u (a .next)) [] (a .writes u);
@@ -57,7 +57,7 @@ logged a r =
       pages = λ w. a .pages w ⊕ adds w r;
       current = a .current;
       other = a .other;
-      epochs = a .epochs;
+      copies = a .copies;
       owners = a .owners;
       committed = a .committed;
       writes = a .writes;
@@ -75,7 +75,7 @@ updated a r value =
       pages = λ w. a .pages w ⊕ adds w r;
       current = a .current;
       other = a .other;
-      epochs = a .epochs;
+      copies = a .copies;
       owners = λ w. cond (spanning (r .at) (length value) w) (r .number) (a .owners w);
       committed = a .committed;
       writes = λ u. cond (eqb u (r .number)) (a .writes u ++ record { at = r .at; value = value } ∷ []) (a .writes u);
@@ -93,7 +93,7 @@ flushedDisk a d =
       pages = a .pages;
       current = a .current;
       other = a .other;
-      epochs = a .epochs;
+      copies = a .copies;
       owners = a .owners;
       committed = a .committed;
       writes = a .writes;
@@ -111,7 +111,7 @@ committedBy a r =
       pages = a .pages;
       current = a .current;
       other = a .other;
-      epochs = a .epochs;
+      copies = a .copies;
       owners = a .owners;
       committed = λ w. patched w (a .writes (r .number)) (a .committed w);
       writes = a .writes;
@@ -129,7 +129,7 @@ abortedBy a r =
       pages = a .pages;
       current = a .current;
       other = a .other;
-      epochs = a .epochs;
+      copies = a .copies;
       owners = a .owners;
       committed = a .committed;
       writes = a .writes;
@@ -147,7 +147,7 @@ copied a inPage =
       pages = a .pages;
       current = a .current;
       other = λ w. cond (inPage w) (a .pages w) (a .other w);
-      epochs = λ w. cond (inPage w) (a .epoch + 1) (a .epochs w);
+      copies = λ w. cond (inPage w) (a .epoch + 1) (a .copies w);
       owners = a .owners;
       committed = a .committed;
       writes = a .writes;
@@ -165,7 +165,7 @@ switched a kept =
       pages = a .pages;
       current = a .other;
       other = a .current;
-      epochs = a .epochs;
+      copies = a .copies;
       owners = a .owners;
       committed = a .committed;
       writes = a .writes;
@@ -183,7 +183,7 @@ fresh c words other owners =
       pages = words;
       current = words;
       other = other;
-      epochs = λ w. c;
+      copies = λ w. c;
       owners = owners;
       committed = words;
       writes = λ u. [];
@@ -199,7 +199,7 @@ pub record Same (size : ℕ) (a b : Ledger) : Type 0 where
   pub pages : (w : ℕ) → w < size → a .pages w ≡ b .pages w
   pub current : (w : ℕ) → w < size → a .current w ≡ b .current w
   pub other : (w : ℕ) → w < size → a .other w ≡ b .other w
-  pub epochs : (w : ℕ) → w < size → a .epochs w ≡ b .epochs w
+  pub copies : (w : ℕ) → w < size → a .copies w ≡ b .copies w
   pub owners : (w : ℕ) → w < size → a .owners w ≡ b .owners w
   pub committed : (w : ℕ) → w < size → a .committed w ≡ b .committed w
   pub writes : (u : ℕ) → a .opened u ≡ true → a .writes u ≡ b .writes u

@@ -21,7 +21,7 @@ use Rattle.model.proofs.Ledger.Close.{adds-close}
 pub record Placed (O : ℕ → Bool) (first marks : ℕ → ℕ) (c : ℕ) (F : List Entry) : Type 0 where
   pub opened : All (λ r. O (r .number) ≡ true → first (r .number) ≤ r .position) F
   pub settled : All (λ r. O (r .number) ≡ false → closedIn F (r .number) ≡ true) F
-  pub early : All (λ r. r .position < marks (r .disk) → isClose r ≡ false → r .epoch ≤ c) F
+  pub early : All (λ r. r .position < marks (r .disk) → isClose r ≡ false → r .copy ≤ c) F
 
 -- Any later starts: a transaction's closing record is its last one, so it is kept with any other.
 module _ {disks : ℕ} {start home : ℕ → ℕ} {F : List Entry} (o : Ordered disks start home F []) (start' : ℕ → ℕ) where
@@ -65,19 +65,19 @@ module _ {disks : ℕ} {start home : ℕ → ℕ} {F : List Entry} (o : Ordered 
 
     -- what goes is in the backup that now counts
     pub switch-old : ((d : ℕ) → d < disks → start' d ≤ marks d) → (w : ℕ)
-        → All (λ r. mask (leb (c + 1) (r .epoch)) (adds w r) ≡ 0) (pick (λ r. not (keptFrom start' r)) F)
+        → All (λ r. mask (leb (c + 1) (r .copy)) (adds w r) ≡ 0) (pick (λ r. not (keptFrom start' r)) F)
     switch-old low w = all-zip one (pick (λ r. not (keptFrom start' r)) F) (pick-all _ F)
         (all-pick _ (λ r. not (keptFrom start' r)) F (all-zip (λ r a b. (a, b)) F (all-left _ F [] (o .inside)) (p .early)))
       where
-        one : (r : Entry) → not (keptFrom start' r) ≡ true → (r .disk < disks) × (r .position < marks (r .disk) → isClose r ≡ false → r .epoch ≤ c)
-            → mask (leb (c + 1) (r .epoch)) (adds w r) ≡ 0
+        one : (r : Entry) → not (keptFrom start' r) ≡ true → (r .disk < disks) × (r .position < marks (r .disk) → isClose r ≡ false → r .copy ≤ c)
+            → mask (leb (c + 1) (r .copy)) (adds w r) ≡ 0
         one r x h = go (isClose r) refl
           where
-            go : (b : Bool) → isClose r ≡ b → mask (leb (c + 1) (r .epoch)) (adds w r) ≡ 0
-            go true e = rw (adds-close w r e) (mask-zero (leb (c + 1) (r .epoch)))
+            go : (b : Bool) → isClose r ≡ b → mask (leb (c + 1) (r .copy)) (adds w r) ≡ 0
+            go true e = rw (adds-close w r e) (mask-zero (leb (c + 1) (r .copy)))
             go false e =
-                let old : r .epoch ≤ c = h .1 (omega (arith, before r x, low (r .disk) (h .0))) e in
-                rw (lt-leb (c + 1) (r .epoch) (omega arith))
+                let old : r .copy ≤ c = h .1 (omega (arith, before r x, low (r .disk) (h .0))) e in
+                rw (lt-leb (c + 1) (r .copy) (omega arith))
 
     -- and of closed transactions
     pub switch-closed : All (λ r. O (r .number) ≡ true → start' (r .disk) ≤ first (r .number)) F

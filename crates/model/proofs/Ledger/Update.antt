@@ -28,17 +28,17 @@ adds-out w r e = rw e (mask-zero (not (isClose r)))
 
 -- ---- the record of a change, of an open transaction, with the epoch of its page
 module _ {x size : ℕ} {a : Ledger} (r : Entry) (g : Good x size a) (opened : a .opened (r .number) ≡ true) (change : isClose r ≡ false)
-    (epochs : (w : ℕ) → w < size → spanning (r .at) (length (r .diff)) w ≡ true → a .epochs w ≡ r .epoch) where
+    (copies : (w : ℕ) → w < size → spanning (r .at) (length (r .diff)) w ≡ true → a .copies w ≡ r .copy) where
   -- the record's epoch is late enough wherever it adds something
-  high : (n w : ℕ) → w < size → n ≤ a .epochs w → (b : Bool) → spanning (r .at) (length (r .diff)) w ≡ b
-      → mask (not (leb n (r .epoch))) (adds w r) ≡ 0
-  high n w i h true e = rw (le-leb n (r .epoch) (omega (arith, epochs w i e)))
-  high n w i h false e = rw (adds-out w r e) (mask-zero (not (leb n (r .epoch))))
+  high : (n w : ℕ) → w < size → n ≤ a .copies w → (b : Bool) → spanning (r .at) (length (r .diff)) w ≡ b
+      → mask (not (leb n (r .copy))) (adds w r) ≡ 0
+  high n w i h true e = rw (le-leb n (r .copy) (omega (arith, copies w i e)))
+  high n w i h false e = rw (adds-out w r e) (mask-zero (not (leb n (r .copy))))
 
   -- and too early for a later checkpoint
-  low : (n w : ℕ) → w < size → a .epochs w < n → (b : Bool) → spanning (r .at) (length (r .diff)) w ≡ b → mask (leb n (r .epoch)) (adds w r) ≡ 0
-  low n w i h true e = rw (lt-leb n (r .epoch) (omega (arith, epochs w i e)))
-  low n w i h false e = rw (adds-out w r e) (mask-zero (leb n (r .epoch)))
+  low : (n w : ℕ) → w < size → a .copies w < n → (b : Bool) → spanning (r .at) (length (r .diff)) w ≡ b → mask (leb n (r .copy)) (adds w r) ≡ 0
+  low n w i h true e = rw (lt-leb n (r .copy) (omega (arith, copies w i e)))
+  low n w i h false e = rw (adds-out w r e) (mask-zero (leb n (r .copy)))
 
   word : (w : ℕ) → w < size
       → Inv w (a .epoch) (a .current w) (a .pages w ⊕ adds w r) (a .committed w) (a .flushed) (a .buffered ++ r ∷ []) (a .opened)
@@ -46,16 +46,16 @@ module _ {x size : ℕ} {a : Ledger} (r : Entry) (g : Good x size a) (opened : a
       append-keeps w (a .epoch) (a .current w) (a .pages w) (a .committed w) (a .flushed) (a .buffered) (a .opened) r (g .words w i)
       (high (a .epoch) w i (g .numbers w i .0) (spanning (r .at) (length (r .diff)) w) refl) opened
 
-  copied-word : (w : ℕ) → w < size → a .epoch < a .epochs w
+  copied-word : (w : ℕ) → w < size → a .epoch < a .copies w
       → Copied w (a .epoch + 1) (a .other w) (a .pages w ⊕ adds w r) (a .flushed ++ (a .buffered ++ r ∷ []))
   copied-word w i h =
       append-copied w (a .epoch + 1) (a .other w) (a .pages w) (a .flushed) (a .buffered) r (g .copied w i h)
       (high (a .epoch + 1) w i (omega arith) (spanning (r .at) (length (r .diff)) w) refl)
 
-  none-newer : (w n : ℕ) → w < size → a .epochs w < n → newer w n (a .flushed ++ a .buffered) ≡ 0
+  none-newer : (w n : ℕ) → w < size → a .copies w < n → newer w n (a .flushed ++ a .buffered) ≡ 0
       → newer w n (a .flushed ++ (a .buffered ++ r ∷ [])) ≡ 0
   none-newer w n i h e =
-      sum-snoc (λ r. mask (leb n (r .epoch)) (adds w r)) (a .flushed) (a .buffered) r
+      sum-snoc (λ r. mask (leb n (r .copy)) (adds w r)) (a .flushed) (a .buffered) r
       ∙ rw (low n w i h (spanning (r .at) (length (r .diff)) w) refl, e) (⊕-zero-l 0)
 
   no-close : (u : ℕ) → closedIn (r ∷ []) u ≡ false
@@ -87,14 +87,14 @@ pub record MayUpdate (size : ℕ) (a : Ledger) (r : Entry) (value : List ℕ) : 
   -- the slot is free or the transaction's own
   pub free : (w : ℕ) → w < size → spanning (r .at) (length value) w ≡ true → (u : ℕ) → a .opened u ≡ true → (u ≡ r .number → ⊥) → u ≡ a .owners w → ⊥
   -- the record has the epoch of its page
-  pub copy : (w : ℕ) → w < size → spanning (r .at) (length value) w ≡ true → a .epochs w ≡ r .epoch
+  pub copy : (w : ℕ) → w < size → spanning (r .at) (length value) w ≡ true → a .copies w ≡ r .copy
 
 module _ {size : ℕ} {a : Ledger} {r : Entry} {value : List ℕ} (g : Good 0 size a) (may : MayUpdate size a r value) where
   write : Patch
   write = record { at = r .at; value = value }
 
-  epochs : (w : ℕ) → w < size → spanning (r .at) (length (r .diff)) w ≡ true → a .epochs w ≡ r .epoch
-  epochs w i e = may .copy w i (rw (may .lengths) at e)
+  copies : (w : ℕ) → w < size → spanning (r .at) (length (r .diff)) w ≡ true → a .copies w ≡ r .copy
+  copies w i e = may .copy w i (rw (may .lengths) at e)
 
   accounts : (w : ℕ) → w < size → (b : Bool) → spanning (r .at) (length value) w ≡ b
       → Sheets 0 w (a .committed w) ((a .flushed ++ a .buffered) ++ r ∷ []) (a .opened) (noted (a .writes) (r .number) write) (cond b (r .number) (a .owners w))
@@ -110,34 +110,34 @@ module _ {size : ℕ} {a : Ledger} {r : Entry} {value : List ℕ} (g : Good 0 si
   pub update-good : Good 0 size (updated a r value)
   unfolding updated write
   update-good = record {
-    words = word r g (may .opened) (may .change) epochs;
+    words = word r g (may .opened) (may .change) copies;
     sheets = λ w i. rw (← append-assoc (a .flushed) (a .buffered) (r ∷ [])) (accounts w i (spanning (r .at) (length value) w) refl);
-    copied = copied-word r g (may .opened) (may .change) epochs;
+    copied = copied-word r g (may .opened) (may .change) copies;
     numbers = g .numbers;
-    unclosed = λ u o. still r g (may .opened) (may .change) epochs u (g .unclosed u o);
-    unused = λ u h. (still r g (may .opened) (may .change) epochs u (g .unused u h .0), g .unused u h .1);
-    unlogged = none-logged r g (may .opened) (may .change) epochs;
-    older = λ w i h. none-newer r g (may .opened) (may .change) epochs w (a .epoch + 1) i (omega arith) (g .older w i h);
-    bounded = λ w n i h. none-newer r g (may .opened) (may .change) epochs w n i (omega (arith, g .numbers w i .1)) (g .bounded w n i h);
+    unclosed = λ u o. still r g (may .opened) (may .change) copies u (g .unclosed u o);
+    unused = λ u h. (still r g (may .opened) (may .change) copies u (g .unused u h .0), g .unused u h .1);
+    unlogged = none-logged r g (may .opened) (may .change) copies;
+    older = λ w i h. none-newer r g (may .opened) (may .change) copies w (a .epoch + 1) i (omega arith) (g .older w i h);
+    bounded = λ w n i h. none-newer r g (may .opened) (may .change) copies w n i (omega (arith, g .numbers w i .1)) (g .bounded w n i h);
     nobody = g .nobody;
     counting = g .counting;
   }
 
 -- ---- a compensation: inside the abort, nothing is claimed of the transaction's writes
 pub compensate-good : {size : ℕ} {a : Ledger} (r : Entry) → Good (r .number) size a → a .opened (r .number) ≡ true → isClose r ≡ false
-    → ((w : ℕ) → w < size → spanning (r .at) (length (r .diff)) w ≡ true → a .epochs w ≡ r .epoch) → Good (r .number) size (logged a r)
+    → ((w : ℕ) → w < size → spanning (r .at) (length (r .diff)) w ≡ true → a .copies w ≡ r .copy) → Good (r .number) size (logged a r)
 unfolding logged
-compensate-good {size} {a} r g opened change epochs = record {
-  words = word r g opened change epochs;
+compensate-good {size} {a} r g opened change copies = record {
+  words = word r g opened change copies;
   sheets = λ w i. sheets-same (r .number) w (a .committed w) (a .flushed ++ a .buffered) (a .flushed ++ (a .buffered ++ r ∷ [])) (a .opened) (a .writes) (a .writes) (a .owners w)
-      (λ u n o. others r g opened change epochs w u (λ e. n (sym e))) (λ u o. refl) (g .sheets w i);
-  copied = copied-word r g opened change epochs;
+      (λ u n o. others r g opened change copies w u (λ e. n (sym e))) (λ u o. refl) (g .sheets w i);
+  copied = copied-word r g opened change copies;
   numbers = g .numbers;
-  unclosed = λ u o. still r g opened change epochs u (g .unclosed u o);
-  unused = λ u h. (still r g opened change epochs u (g .unused u h .0), g .unused u h .1);
-  unlogged = none-logged r g opened change epochs;
-  older = λ w i h. none-newer r g opened change epochs w (a .epoch + 1) i (omega arith) (g .older w i h);
-  bounded = λ w n i h. none-newer r g opened change epochs w n i (omega (arith, g .numbers w i .1)) (g .bounded w n i h);
+  unclosed = λ u o. still r g opened change copies u (g .unclosed u o);
+  unused = λ u h. (still r g opened change copies u (g .unused u h .0), g .unused u h .1);
+  unlogged = none-logged r g opened change copies;
+  older = λ w i h. none-newer r g opened change copies w (a .epoch + 1) i (omega arith) (g .older w i h);
+  bounded = λ w n i h. none-newer r g opened change copies w n i (omega (arith, g .numbers w i .1)) (g .bounded w n i h);
   nobody = g .nobody;
   counting = g .counting;
 }

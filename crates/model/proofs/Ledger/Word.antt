@@ -17,7 +17,7 @@ use Rattle.model.proofs.Booleans.{true-false, both-fail}
 
 -- the sums that the invariant speaks of
 abbrev pub newer : ℕ → ℕ → List Entry → ℕ
-newer w c l = sum (λ r. mask (leb c (r .epoch)) (adds w r)) l
+newer w c l = sum (λ r. mask (leb c (r .copy)) (adds w r)) l
 
 abbrev pub ofTxn : ℕ → ℕ → List Entry → ℕ
 ofTxn w t l = sum (λ r. mask (eqb (r .number) t) (adds w r)) l
@@ -34,7 +34,7 @@ pub record Inv (w c b v res : ℕ) (F B : List Entry) (O : ℕ → Bool) : Type 
   -- the page is the backup with the records that are not in it
   pub page : v ≡ b ⊕ newer w c (F ++ B)
   -- a buffered record is not in the backup
-  pub late : All (λ r. mask (not (leb c (r .epoch))) (adds w r) ≡ 0) B
+  pub late : All (λ r. mask (not (leb c (r .copy))) (adds w r) ≡ 0) B
   -- the flushed log closes no open transaction, and none with a buffered record
   pub apart : All (λ r. closedIn F (r .number) ≡ false) B
   pub loose : (t : ℕ) → O t ≡ true → closedIn F t ≡ false
@@ -78,9 +78,9 @@ mask-late false x h = sym h
 
 -- an update, a compensation, a closing record in the buffer: a record of an open transaction, and the word changed by it
 pub append-keeps : (w c b v res : ℕ) (F B : List Entry) (O : ℕ → Bool) (r : Entry) → Inv w c b v res F B O
-    → mask (not (leb c (r .epoch))) (adds w r) ≡ 0 → O (r .number) ≡ true → Inv w c b (v ⊕ adds w r) res F (B ++ r ∷ []) O
+    → mask (not (leb c (r .copy))) (adds w r) ≡ 0 → O (r .number) ≡ true → Inv w c b (v ⊕ adds w r) res F (B ++ r ∷ []) O
 append-keeps w c b v res F B O r h new open? = record {
-  page = rw (sum-snoc (λ r. mask (leb c (r .epoch)) (adds w r)) F B r, mask-late (leb c (r .epoch)) (adds w r) new)
+  page = rw (sum-snoc (λ r. mask (leb c (r .copy)) (adds w r)) F B r, mask-late (leb c (r .copy)) (adds w r) new)
       (swap-page b (newer w c (F ++ B)) (adds w r) v (h .page));
   late = all-append _ B (r ∷ []) (h .late) (new, tt);
   apart = all-append _ B (r ∷ []) (h .apart) (h .loose (r .number) open?, tt);
@@ -133,7 +133,7 @@ abort-keeps w c b v res F B O t h open? zero? = record {
 -- a flush, and a commit's: records move from the buffer to the log; a transaction that this closes is no longer open
 pub flush-keeps : (w c b v res res′ : ℕ) (F B F′ B′ : List Entry) (O O′ : ℕ → Bool) → Inv w c b v res F B O
     → ((f : Entry → ℕ) → sum f (F′ ++ B′) ≡ sum f (F ++ B))
-    → All (λ r. mask (not (leb c (r .epoch))) (adds w r) ≡ 0) B′
+    → All (λ r. mask (not (leb c (r .copy))) (adds w r) ≡ 0) B′
     → All (λ r. closedIn F′ (r .number) ≡ false) B′
     → ((t : ℕ) → O′ t ≡ true → closedIn F′ t ≡ false)
     → ((t : ℕ) → closedIn F′ t ≡ false → closedIn F t ≡ false)
@@ -141,7 +141,7 @@ pub flush-keeps : (w c b v res res′ : ℕ) (F B F′ B′ : List Entry) (O O�
     → res′ ≡ v ⊕ ofOpen w O′ (F ++ B)
     → Inv w c b v res′ F′ B′ O′
 flush-keeps w c b v res res′ F B F′ B′ O O′ h same late apart loose mono gone book = record {
-  page = rw (same (λ r. mask (leb c (r .epoch)) (adds w r))) (h .page);
+  page = rw (same (λ r. mask (leb c (r .copy)) (adds w r))) (h .page);
   late = late;
   apart = apart;
   loose = loose;
@@ -158,10 +158,10 @@ pub copy-page : (w n v : ℕ) (L : List Entry) → newer w n L ≡ 0 → Copied 
 copy-page w n v L h = record { page = rw h (sym (⊕-zero-r v)) }
 
 -- an update while it is written: the record has the new epoch, or changes nothing here
-pub append-copied : (w n nb v : ℕ) (F B : List Entry) (r : Entry) → Copied w n nb v (F ++ B) → mask (not (leb n (r .epoch))) (adds w r) ≡ 0
+pub append-copied : (w n nb v : ℕ) (F B : List Entry) (r : Entry) → Copied w n nb v (F ++ B) → mask (not (leb n (r .copy))) (adds w r) ≡ 0
     → Copied w n nb (v ⊕ adds w r) (F ++ (B ++ r ∷ []))
 append-copied w n nb v F B r h new = record {
-  page = rw (sum-snoc (λ r. mask (leb n (r .epoch)) (adds w r)) F B r, mask-late (leb n (r .epoch)) (adds w r) new)
+  page = rw (sum-snoc (λ r. mask (leb n (r .copy)) (adds w r)) F B r, mask-late (leb n (r .copy)) (adds w r) new)
       (swap-page nb (newer w n (F ++ B)) (adds w r) v (h .page));
 }
 
@@ -175,7 +175,7 @@ shed f D R h = rw (append-assoc D R []) (sum-append f D (R ++ []) ∙ rw (sum-ze
 
 -- records before the new start go: of closed transactions, and in the backup
 module _ (w c b v res : ℕ) (D R : List Entry) (O : ℕ → Bool) (h : Inv w c b v res (D ++ R) [] O)
-    (old : All (λ r. mask (leb c (r .epoch)) (adds w r) ≡ 0) D)
+    (old : All (λ r. mask (leb c (r .copy)) (adds w r) ≡ 0) D)
     (closed : All (λ r. closedIn (D ++ R) (r .number) ≡ true) D)
     (mono : (t : ℕ) → closedIn (D ++ R) t ≡ false → closedIn R t ≡ false)
     (last : (t : ℕ) → closedIn (D ++ R) t ≡ true → closedIn R t ≡ false → All (λ r. eqb (r .number) t ≡ false) R) where

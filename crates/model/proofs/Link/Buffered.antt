@@ -12,7 +12,7 @@ use Rattle.model.specs.Word.{part}
 use Rattle.model.specs.Sizes.{total}
 use Rattle.model.specs.Record.{encode}
 use Rattle.model.specs.World.{World, work, perform}
-use Rattle.model.specs.Memory.{bufferAt, bufferOf, epochAt, workWords}
+use Rattle.model.specs.Memory.{bufferAt, bufferOf, copyAt, workWords}
 use Rattle.model.specs.State.{startOf, tailOf, fillOf, withFill}
 use Rattle.model.specs.Causes.{tailOn}
 use Rattle.model.specs.Append.{buffered}
@@ -34,15 +34,15 @@ pub record InBuffer (s : Sizes) (d : ℕ) (before after : World) : Type 0 where
   pub work-before : (i : ℕ) → i < bufferAt s d → getD (after .work) i 0 ≡ getD (before .work) i 0
   pub work-behind : (i : ℕ) → bufferAt s d + 64 ≤ i → getD (after .work) i 0 ≡ getD (before .work) i 0
 
--- so the owners and the copy epochs stay
+-- so the owners and the copy numbers stay
 module _ {s : Sizes} {d : ℕ} {before after : World} (k : InBuffer s d before after) (i : ℕ) where
   pub owners-same : i < total s → getD (after .work) i 0 ≡ getD (before .work) i 0
   unfolding bufferAt
   owners-same h = k .work-before i (omega arith)
 
-  pub epochs-same : d < s .disks → bufferAt s (s .disks) ≤ i → getD (after .work) i 0 ≡ getD (before .work) i 0
+  pub copies-same : d < s .disks → bufferAt s (s .disks) ≤ i → getD (after .work) i 0 ≡ getD (before .work) i 0
   unfolding bufferAt
-  epochs-same below h = k .work-behind i (omega arith)
+  copies-same below h = k .work-behind i (omega arith)
 
 -- stores on the logs before it change nothing of that
 pub after-flush : {s : Sizes} {d : ℕ} {first between after : World} → OnlyLogs first between → InBuffer s d between after
@@ -83,7 +83,7 @@ module _ {s : Sizes} {l : Logs} {w : World} {F B : List Entry} (k : Link s l w F
   one-more = words-first r [] ∙ rw words-none (append-nil words)
 
   inside : bufferAt s d + n + length words ≤ length (w .work)
-  unfolding workWords epochAt bufferAt sizeOf
+  unfolding workWords copyAt bufferAt sizeOf
   inside = omega (arith, right .work)
 
   buffer-here : bufferOf s filled d m ≡ wordsOf (on d B) ++ words
@@ -131,7 +131,7 @@ module _ {s : Sizes} {l : Logs} {w : World} {F B : List Entry} (k : Link s l w F
 module _ {s : Sizes} (l : Logs) {w v : World} (right : Lengths s w) (also : Lengths s v) (small : Small s l)
     (work-same : (i : ℕ) → total s ≤ i → i < bufferAt s (s .disks) → getD (v .work) i 0 ≡ getD (w .work) i 0) where
   buffer-same : (e : ℕ) → e < s .disks → bufferOf s (v .work) e (fillOf l e) ≡ bufferOf s (w .work) e (fillOf l e)
-  unfolding bufferOf bufferAt workWords epochAt
+  unfolding bufferOf bufferAt workWords copyAt
   buffer-same e h =
       let few = small e h in
       part-cong (bufferAt s e) (fillOf l e) (v .work) (w .work) (omega (arith, also .work)) (omega (arith, right .work))

@@ -11,7 +11,7 @@ use Rattle.model.specs.declared.Core.{Core}
 use Rattle.model.specs.Below.{joinBelow, listBelow}
 use Rattle.model.specs.Sizes.{pageBase, pageWords, total}
 use Rattle.model.specs.Anchor.{epochWord, startWord, backupAt}
-use Rattle.model.specs.Memory.{epochAt}
+use Rattle.model.specs.Memory.{copyAt}
 use Rattle.model.specs.World.{World, Action, store, write, anchor, backups, work, act, perform, each}
 use Rattle.model.specs.State.{tailOf}
 use Rattle.model.specs.Format.{freshMemory}

@@ -33,7 +33,7 @@ unfolding recordOf
 record-close r e = rw e
 
 record-change : (r : Entry) → isClose r ≡ false
-    → recordOf r ≡ change (r .kind) (r .page) (r .slot) (r .number) (r .epoch) (r .diff)
+    → recordOf r ≡ change (r .kind) (r .page) (r .slot) (r .number) (r .copy) (r .diff)
 unfolding recordOf
 record-change r e = rw e
 
@@ -68,17 +68,17 @@ fate-entries t (r ∷ l) = go (isClose r) refl (fate-entries t l)
     go false e rest = rw (record-change r e, closed-cons r l t, e) rest
 
 -- restart's choice by a record's fate is the ledger's choice
-in-backup-not : (c epoch : ℕ) → inBackup c epoch ≡ not (leb c epoch)
+in-backup-not : (c copy : ℕ) → inBackup c copy ≡ not (leb c copy)
 unfolding inBackup
-in-backup-not c epoch = go (leb c epoch) refl
+in-backup-not c copy = go (leb c copy) refl
   where
-    go : (b : Bool) → leb c epoch ≡ b → ltb epoch c ≡ not b
-    go true e = le-ltb epoch c (leb-true c epoch e)
-    go false e = lt-ltb epoch c (leb-false c epoch e)
+    go : (b : Bool) → leb c copy ≡ b → ltb copy c ≡ not b
+    go true e = le-ltb copy c (leb-true c copy e)
+    go false e = lt-ltb copy c (leb-false c copy e)
 
-replays-choice : (c epoch : ℕ) (b : Bool) → replays c (cond b Closed Unclosed) epoch ≡ cond b (leb c epoch) (not (leb c epoch))
-replays-choice c epoch true = rw (in-backup-not c epoch) (Bool·not-not (leb c epoch))
-replays-choice c epoch false = in-backup-not c epoch
+replays-choice : (c copy : ℕ) (b : Bool) → replays c (cond b Closed Unclosed) copy ≡ cond b (leb c copy) (not (leb c copy))
+replays-choice c copy true = rw (in-backup-not c copy) (Bool·not-not (leb c copy))
+replays-choice c copy false = in-backup-not c copy
 
 -- what the test says of the later records' transactions does not hang on the first record
 later : (closed : ℕ → Bool) (r : Entry) (l k : List Entry) → (isClose r ≡ true → All (λ e. eqb (e .number) (r .number) ≡ false) k)
@@ -102,7 +102,7 @@ module _ (s : Sizes) (c : ℕ) (closed : ℕ → Bool) (x : ℕ) where
       → gain s c (entriesScan (r ∷ l)) x ≡ mask (chosen closed c r) (adds x r) ⊕ gain s c (entriesScan l) x
   unfolding entriesScan gain adds chosen
   gain-change r l e at same =
-      rw (record-change r e, e, at e, same, fate-entries (r .number) l, replays-choice c (r .epoch) (closedIn l (r .number)))
+      rw (record-change r e, e, at e, same, fate-entries (r .number) l, replays-choice c (r .copy) (closedIn l (r .number)))
 
   -- The gain of the entries of a log is the sum of what restart chooses of them.
   pub gain-entries : (l : List Entry) → All (Placed s) l → ClosesLast l → Agrees closed l l

@@ -28,8 +28,8 @@ unfoldable pub gain : Sizes → ℕ → Scan → ℕ → ℕ
 gain s c end x = 0
 gain s c (bad p) x = 0
 gain s c (item p (close kind number) rest) x = gain s c rest x
-gain s c (item p (change kind page slot number epoch diff) rest) x =
-    mask (replays c (fateIn number rest) epoch) (share (slotBase s page slot) diff x) ⊕ gain s c rest x
+gain s c (item p (change kind page slot number copy diff) rest) x =
+    mask (replays c (fateIn number rest) copy) (share (slotBase s page slot) diff x) ⊕ gain s c rest x
 
 -- what the logs of the disks below n of an image add to word x
 unfoldable pub gains : Image → ℕ → ℕ → ℕ
@@ -40,7 +40,7 @@ abbrev pub Fitting : Sizes → Scan → Type 0
 Fitting s end = Unit {0}
 Fitting s (bad p) = Unit {0}
 Fitting s (item p (close kind number) rest) = Fitting s rest
-Fitting s (item p (change kind page slot number epoch diff) rest) = (slotBase s page slot + length diff ≤ total s) × Fitting s rest
+Fitting s (item p (change kind page slot number copy diff) rest) = (slotBase s page slot + length diff ≤ total s) × Fitting s rest
 
 pub length-span : (read : ℕ → ℕ) (p n : ℕ) → length (span read p n) ≡ n
 unfolding span
@@ -51,7 +51,7 @@ length-span read p (suc n) = ap suc (length-span read (p + 1) n)
 module _ (s : Sizes) (read : ℕ → ℕ) (stop : ℕ) where
   decoded-fitting : (p : ℕ) (d : Decoded) → Found s stop p d → (rest : ℕ → Scan) → ((q : ℕ) → p < q → Fitting s (rest q))
       → Fitting s (scanned read p d rest)
-  decoded-fitting p (Change kind page slot number epoch width next) f rest fits =
+  decoded-fitting p (Change kind page slot number copy width next) f rest fits =
       (fit, fits next (omega arith))
     where
       fit : slotBase s page slot + length (span read (p + 3) width) ≤ total s
@@ -90,8 +90,8 @@ module _ (s : Sizes) (c : ℕ) where
   length-replayed end words = refl
   length-replayed (bad p) words = refl
   length-replayed (item p (close kind number) rest) words = length-replayed rest words
-  length-replayed (item p (change kind page slot number epoch diff) rest) words =
-      length-replayed rest _ ∙ choice-length (slotBase s page slot) diff words (replays c (fateIn number rest) epoch)
+  length-replayed (item p (change kind page slot number copy diff) rest) words =
+      length-replayed rest _ ∙ choice-length (slotBase s page slot) diff words (replays c (fateIn number rest) copy)
 
   pub replayed-word : (log : Scan) (words : List ℕ) (x : ℕ) → Fitting s log → length words ≡ total s
       → getD (replayed s c log words) x 0 ≡ getD words x 0 ⊕ gain s c log x
@@ -99,10 +99,10 @@ module _ (s : Sizes) (c : ℕ) where
   replayed-word end words x f e = sym (⊕-zero-r (getD words x 0))
   replayed-word (bad p) words x f e = sym (⊕-zero-r (getD words x 0))
   replayed-word (item p (close kind number) rest) words x f e = replayed-word rest words x f e
-  replayed-word (item p (change kind page slot number epoch diff) rest) words x f e =
-      replayed-word rest _ x (f .1) (choice-length (slotBase s page slot) diff words (replays c (fateIn number rest) epoch) ∙ e)
+  replayed-word (item p (change kind page slot number copy diff) rest) words x f e =
+      replayed-word rest _ x (f .1) (choice-length (slotBase s page slot) diff words (replays c (fateIn number rest) copy) ∙ e)
       ∙ ap (λ (v : ℕ). v ⊕ gain s c rest x)
-      (choice-word (slotBase s page slot) diff words (replays c (fateIn number rest) epoch) x (omega (arith, f .0)))
+      (choice-word (slotBase s page slot) diff words (replays c (fateIn number rest) copy) x (omega (arith, f .0)))
       ∙ ⊕-assoc (getD words x 0) _ (gain s c rest x)
 
 -- the pages that a restart makes of an image: the backup's word, and the gains of all logs

@@ -118,10 +118,10 @@ module _ (c : Core) (w : World) (m : Progress c w) (d : ℕ) (h : d < c .sizes .
   choose at diff true = perform-xor at diff w
   choose at diff false = refl
 
-  change-less : {kind page slot number epoch width next : ℕ}
-      → decodeAt (c .sizes) (readDisk c w d) (tailOf (c .logs) d) (positionOf c d) ≡ Change kind page slot number epoch width next
+  change-less : {kind page slot number copy width next : ℕ}
+      → decodeAt (c .sizes) (readDisk c w d) (tailOf (c .logs) d) (positionOf c d) ≡ Change kind page slot number copy width next
       → (x : ℕ) → gain (c .sizes) (c .epoch) (logLeft c w d) x
-      ≡ mask (replays (c .epoch) (fateIn number (scan (c .sizes) (readDisk c w d) (tailOf (c .logs) d) next)) epoch)
+      ≡ mask (replays (c .epoch) (fateIn number (scan (c .sizes) (readDisk c w d) (tailOf (c .logs) d) next)) copy)
       (share (slotBase (c .sizes) page slot) (span (readDisk c w d) (positionOf c d + 3) width) x)
       ⊕ gain (c .sizes) (c .epoch) (scan (c .sizes) (readDisk c w d) (tailOf (c .logs) d) next) x
   unfolding logLeft gain
@@ -135,8 +135,8 @@ module _ (c : Core) (w : World) (m : Progress c w) (d : ℕ) (h : d < c .sizes .
   close-less e x = rw (scan-close (c .sizes) (readDisk c w d) (tailOf (c .logs) d) k e) (sym (⊕-zero-l _))
 
   -- the rest of a well-formed log behind a record is well formed
-  pub change-well : {kind page slot number epoch width next : ℕ}
-      → decodeAt (c .sizes) (readDisk c w d) (tailOf (c .logs) d) (positionOf c d) ≡ Change kind page slot number epoch width next
+  pub change-well : {kind page slot number copy width next : ℕ}
+      → decodeAt (c .sizes) (readDisk c w d) (tailOf (c .logs) d) (positionOf c d) ≡ Change kind page slot number copy width next
       → ending (scan (c .sizes) (readDisk c w d) (tailOf (c .logs) d) next) ≡ end
   unfolding logLeft ending
   change-well e = rw (scan-change (c .sizes) (readDisk c w d) (tailOf (c .logs) d) k e) at (m .clean d h)
@@ -147,16 +147,16 @@ module _ (c : Core) (w : World) (m : Progress c w) (d : ℕ) (h : d < c .sizes .
   unfolding logLeft ending
   close-well e = rw (scan-close (c .sizes) (readDisk c w d) (tailOf (c .logs) d) k e) at (m .clean d h)
 
-  change-progress : {kind page slot number epoch width next : ℕ}
-      → decodeAt (c .sizes) (readDisk c w d) (tailOf (c .logs) d) (positionOf c d) ≡ Change kind page slot number epoch width next
-      → Progress (recordStep c w d (Change kind page slot number epoch width next) .core)
-      (perform (recordStep c w d (Change kind page slot number epoch width next) .actions) w)
+  change-progress : {kind page slot number copy width next : ℕ}
+      → decodeAt (c .sizes) (readDisk c w d) (tailOf (c .logs) d) (positionOf c d) ≡ Change kind page slot number copy width next
+      → Progress (recordStep c w d (Change kind page slot number copy width next) .core)
+      (perform (recordStep c w d (Change kind page slot number copy width next) .actions) w)
   unfolding fateFrom
-  change-progress {kind} {page} {slot} {number} {epoch} {width} {next} e =
+  change-progress {kind} {page} {slot} {number} {copy} {width} {next} e =
       let s : Sizes = c .sizes in
       let at : ℕ = slotBase s page slot in
       let diff : List ℕ = span (readDisk c w d) (positionOf c d + 3) width in
-      let b : Bool = replays (c .epoch) (fateIn number (scan s (readDisk c w d) (tailOf (c .logs) d) next)) epoch in
+      let b : Bool = replays (c .epoch) (fateIn number (scan s (readDisk c w d) (tailOf (c .logs) d) next)) copy in
       let f = found-change s (readDisk c w d) (tailOf (c .logs) d) e in
       let fits = slot-end-total s page slot (f .page-in) (f .slot-in) in
       let wide = length-span (readDisk c w d) (positionOf c d + 3) width in
@@ -170,7 +170,7 @@ module _ (c : Core) (w : World) (m : Progress c w) (d : ℕ) (h : d < c .sizes .
   pub record-progress : (r : Decoded) → nextRecord c w d ≡ r
       → Progress (recordStep c w d r .core) (perform (recordStep c w d r .actions) w)
   unfolding nextRecord perform
-  record-progress (Change kind page slot number epoch width next) e = change-progress e
+  record-progress (Change kind page slot number copy width next) e = change-progress e
   record-progress (Close kind number next) e =
       let f = found-close (c .sizes) (readDisk c w d) (tailOf (c .logs) d) e in
       moved c w m d next h (omega (arith, f .next-eq)) (f .next-le) (w .pages) (m .lengths .pages) (λ x. 0)

@@ -5,7 +5,7 @@ use Prim.Native.Nat.{ℕ}
 use native.Mathlib.Omega.{arith}
 use Rattle.model.specs.declared.Core.{Core}
 use Rattle.model.specs.World.{World, perform, finishes}
-use Rattle.model.specs.Refusal.{Verdict, accepted, refused, verdict, Task, conclude}
+use Rattle.model.specs.Refusal.{Verdict, accepted, rejected, verdict, Task, conclude}
 use Rattle.model.specs.Reference.{taken, outcomeOf}
 use Rattle.model.specs.Call.{Call, rowsOf, taskOf, budgetOf, resultOf}
 use Rattle.model.proofs.Run.{finished-run}
@@ -19,7 +19,7 @@ pub record Taken (k : Call) (c : Core) (w : World) : Type 0 where
 
 concluded : (v : Verdict) (budget : ℕ) (t : Task) (c : Core) (w : World) → outcomeOf (conclude v budget t c w .answer) ≡ taken
     → (v ≡ accepted) × (conclude v budget t c w .core ≡ t .core) × (conclude v budget t c w .world ≡ perform (t .actions) w)
-concluded (refused number first second) budget t c w e = let z : _≡_ {A = ℕ} 0 1 = cc in absurd (omega arith)
+concluded (rejected number first second) budget t c w e = let z : _≡_ {A = ℕ} 0 1 = cc in absurd (omega arith)
 concluded accepted budget t c w e = go (finishes budget (t .actions)) refl
   where
     go : (b : Bool) → finishes budget (t .actions) ≡ b
@@ -45,5 +45,5 @@ taken-or-left P k c w h left done = go (verdict (rowsOf k c w)) done
         → (outcomeOf (conclude v (budgetOf k) (taskOf k c w) c w .answer) ≡ taken
         → P (conclude v (budgetOf k) (taskOf k c w) c w .core) (conclude v (budgetOf k) (taskOf k c w) c w .world))
         → P (conclude v (budgetOf k) (taskOf k c w) c w .core) (conclude v (budgetOf k) (taskOf k c w) c w .world)
-    go (refused number first second) done = left
+    go (rejected number first second) done = left
     go accepted done = done (rw (storeless-finishes k c w h))

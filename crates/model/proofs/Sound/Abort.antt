@@ -13,7 +13,7 @@ use Rattle.model.specs.Record.{change, close, encode, updateKind, compen
 use Rattle.model.specs.Decode.{span, decodeAt}
 use Rattle.model.specs.Scan.{Scan, scan, Update, updatesIn, updateWords}
 use Rattle.model.specs.World.{World, perform}
-use Rattle.model.specs.Memory.{epochOf}
+use Rattle.model.specs.Memory.{copyOf}
 use Rattle.model.specs.State.{endOf, placeOf, firstAt, withLog, sound}
 use Rattle.model.specs.Refusal.{accepted, verdict}
 use Rattle.model.specs.Append.{Appended}
@@ -38,12 +38,12 @@ Short u = length (u .diff) ≤ 32
 short-updates : (s : Sizes) (read : ℕ → ℕ) (stop : ℕ) → Bounded s → (number p : ℕ) → Every Short (updatesIn number (scan s read stop p))
 short-updates s read stop b number p u m =
     let from = updates-from number (scan s read stop p) u m in
-    let stands = scan-items s read stop p (itemOf number u (from .epoch)) (from .listed) in
-    go (from .epoch) (stands .next) (decodeAt s read stop (u .position)) refl (stands .decodes)
+    let stands = scan-items s read stop p (itemOf number u (from .copy)) (from .listed) in
+    go (from .copy) (stands .next) (decodeAt s read stop (u .position)) refl (stands .decodes)
   where
     go : (e next : ℕ) (d : Decoded) → decodeAt s read stop (u .position) ≡ d
         → Decodes read (u .position) d (change updateKind (u .page) (u .slot) number e (u .diff)) next → Short u
-    go e next (Change kind page slot n epoch width to) x h =
+    go e next (Change kind page slot n copy width to) x h =
         let same = h .0 in
         let diff : u .diff ≡ span read (u .position + 3) width = cc in
         let f = found-change s read stop x in
@@ -65,7 +65,7 @@ one-grown : (s : Sizes) (l : Logs) (w : World) (number d : ℕ) (u : Update) →
     → length (u .diff) ≤ 32 → Longer s d (3 + length (u .diff)) l (compensate s l w number d u .logs)
 unfolding compensate encode
 one-grown s l w number d u sized small below short =
-    let words : List ℕ = encode (change compensationKind (u .page) (u .slot) number (epochOf s (w .work) (u .page)) (u .diff)) in
+    let words : List ℕ = encode (change compensationKind (u .page) (u .slot) number (copyOf s (w .work) (u .page)) (u .diff)) in
     let long : length words ≡ 3 + length (u .diff) = omega arith in
     rw long at (append-longer s l d sized small below (w .work) words (omega arith))
 

@@ -141,7 +141,7 @@ module _ (c : Core) (w : World) (sized : Sized c) (replaying : whenReplaying (c 
 
   record-passes : (d : ℕ) → d < c .sizes .disks → (r : Decoded) → nextRecord c w d ≡ r → Passing (recordStep c w d r .core)
   unfolding nextRecord
-  record-passes d below (Change kind page slot number epoch width next) e =
+  record-passes d below (Change kind page slot number copy width next) e =
       moved-passes d next below (found-change (c .sizes) (readDisk c w d) (tailOf (c .logs) d) e .next-le)
   record-passes d below (Close kind number next) e =
       moved-passes d next below (found-close (c .sizes) (readDisk c w d) (tailOf (c .logs) d) e .next-le)

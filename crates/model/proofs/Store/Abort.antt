@@ -66,7 +66,7 @@ abort-begins {F = F} {B = B} t g =
             settled = g .accounts .settled;
             numbered = g .accounts .numbered;
           };
-      epochs = g .epochs;
+      copies = g .copies;
       sets = g .sets;
       owners = g .owners;
       told = g .told;

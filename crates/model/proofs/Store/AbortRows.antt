@@ -9,7 +9,7 @@ use lib.Dec.{eqb}
 use borrow.Author.Tests.{le-ltb, eqb-true, eq-eqb}
 use Rattle.model.specs.declared.Core.{Core}
 use Rattle.model.specs.declared.Fault.{Fault}
-use Rattle.model.specs.declared.Fault.the-variants.{Sound}
+use Rattle.model.specs.declared.Fault.the-variants.{NoFault}
 use Rattle.model.specs.Record.{encode}
 use Rattle.model.specs.Scan.{Scan, faultIn, updatesIn, updateWords}
 use Rattle.model.specs.World.{World}
@@ -52,12 +52,12 @@ fault-entries disk (q ∷ l) rest = fault-entries disk l rest
 
 -- a scan without a fault, and updates of no more words than are reserved for them
 none-bad : (c : Core) (w : World) (t : ℕ) → ((rest : Fault) → faultIn (diskOf c t) (abortScan c w t) rest ≡ rest)
-    → updateWords (updatesLeft c w t) ≤ reservedAt (c .table) (placeOf (c .table) t) - 2 → abortFault c w t ≡ Sound
+    → updateWords (updatesLeft c w t) ≤ reservedAt (c .table) (placeOf (c .table) t) - 2 → abortFault c w t ≡ NoFault
 unfolding abortFault
 none-bad c w t clean fits = clean _ ∙ rw (le-ltb _ _ fits)
 
 -- a transaction that is not open, or has no update: nothing is read
-pub nothing-bad : (c : Core) (w : World) (t : ℕ) → isOpen (c .table) t && hasUpdate (c .table) (placeOf (c .table) t) ≡ false → abortFault c w t ≡ Sound
+pub nothing-bad : (c : Core) (w : World) (t : ℕ) → isOpen (c .table) t && hasUpdate (c .table) (placeOf (c .table) t) ≡ false → abortFault c w t ≡ NoFault
 unfolding abortScan updatesLeft updatesIn updateWords faultIn
 nothing-bad c w t none = none-bad c w t (λ rest. rw none) (rw none (omega arith))
 
@@ -75,17 +75,17 @@ module _ {home : ℕ → ℕ} {puts : List Put} {c : Core} {w : World} {r : Refe
       ∙ ap (wordsFor t) (sym (on-append (diskOf c t) F B))
       ∙ words-for-picked t _ (F ++ B) (away g t opened below)
 
-  updates-fine : abortFault c w t ≡ Sound
+  updates-fine : abortFault c w t ≡ NoFault
   updates-fine =
       none-bad c w t
       (λ rest. rw (scanned g t opened (g .accounts .disks t opened) has) (fault-entries (diskOf c t) _ rest))
       (omega (arith, words-left, g .accounts .reserved t opened (open-place (c .table) t opened .0)))
 
 -- Whatever transaction is asked for, an abort of a store that serves finds no fault.
-pub abort-never-bad : {puts : List Put} {c : Core} {w : World} {r : Reference} → Served puts c w r → (number : ℕ) → abortFault c w number ≡ Sound
+pub abort-never-bad : {puts : List Put} {c : Core} {w : World} {r : Reference} → Served puts c w r → (number : ℕ) → abortFault c w number ≡ NoFault
 abort-never-bad {c = c} {w = w} g number = go (isOpen (c .table) number) refl (hasUpdate (c .table) (placeOf (c .table) number)) refl
   where
-    go : (o : Bool) → isOpen (c .table) number ≡ o → (h : Bool) → hasUpdate (c .table) (placeOf (c .table) number) ≡ h → abortFault c w number ≡ Sound
+    go : (o : Bool) → isOpen (c .table) number ≡ o → (h : Bool) → hasUpdate (c .table) (placeOf (c .table) number) ≡ h → abortFault c w number ≡ NoFault
     go true opened true has = updates-fine (g .serving) number opened has
     go true opened false none = nothing-bad c w number (rw (opened, none))
     go false shut h x = nothing-bad c w number (rw shut)

@@ -25,7 +25,7 @@ use Rattle.model.proofs.Ledger.State.{Same, begun as begunLedger}
 use Rattle.model.proofs.Ledger.Order.{on, boundary}
 use Rattle.model.proofs.Ledger.Sums.{all-map, all-zip}
 use Rattle.model.proofs.Ledger.Good.{good-same, begin-good}
-use Rattle.model.proofs.Store.View.{view, before, Safe, Own, wordsFor, Accounts, Epochs, Sets, Owners, Serving, Served}
+use Rattle.model.proofs.Store.View.{view, before, Safe, Own, wordsFor, Accounts, Copies, Sets, Owners, Serving, Served}
 use Rattle.model.proofs.Store.Same.{devices-same}
 use Rattle.model.proofs.Booleans.{true-false, or-none}
 use Rattle.model.proofs.Store.Accepted.{begin-accepted}
@@ -75,7 +75,7 @@ module _ {home : ℕ → ℕ} {puts : List Put} {c : Core} {w : World} {r : Refe
             pages = λ i h. refl;
             current = λ i h. refl;
             other = λ i h. refl;
-            epochs = λ i h. refl;
+            copies = λ i h. refl;
             owners = λ i h. refl;
             committed = λ i h. refl;
             writes = λ u o. rw (front-writes (c .next) (r .writeSets) u) (none-or u (eqb u (c .next)));
@@ -127,10 +127,10 @@ module _ {home : ℕ → ℕ} {puts : List Put} {c : Core} {w : World} {r : Refe
       still t p e o =
           record { has = same-update ok v t p ∙ o .has; first = rw (same-first ok v t p) (o .first); kind = o .kind }
 
-  epochs : Epochs (begun c) w F B
+  copies : Copies (begun c) w F B
   unfolding begun before
-  epochs =
-      let h = v .epochs in
+  copies =
+      let h = v .copies in
       record { copied = h .copied; pages = h .pages; capped = h .capped; early = h .early; ends = h .ends }
 
   sets : Sets (begun c) R
@@ -158,7 +158,7 @@ module _ {home : ℕ → ℕ} {puts : List Put} {c : Core} {w : World} {r : Refe
 
   begin-serving : Serving 0 homes puts (begun c) w R F B
   unfolding begun
-  begin-serving = record { stage = v .stage; safe = safe; accounts = accounts; epochs = epochs; sets = sets; owners = owners; told = v .told }
+  begin-serving = record { stage = v .stage; safe = safe; accounts = accounts; copies = copies; sets = sets; owners = owners; told = v .told }
 
 -- begin keeps what holds of an open store, with the reference's (new ok v), empty write set
 pub begin-serves : {puts : List Put} {c : Core} {w : World} {r : Reference} → Served puts c w r → verdict (beginRows c w) ≡ accepted

@@ -5,7 +5,7 @@ use Prim.Native.Nat.{ℕ}
 use Rattle.model.specs.declared.Core.{Core}
 use Rattle.model.specs.declared.Answer.the-variants.{Refused}
 use Rattle.model.specs.World.{World, finishes}
-use Rattle.model.specs.Refusal.{Verdict, accepted, refused, verdict, Task, Result, spend, conclude}
+use Rattle.model.specs.Refusal.{Verdict, accepted, rejected, verdict, Task, Result, spend, conclude}
 use Rattle.model.specs.Call.{Call, rowsOf, taskOf, budgetOf, resultOf}
 
 -- the result of a call whose rows do not apply, as its budget lasts or not
@@ -20,11 +20,11 @@ refusedBy budget number first second c w = record { answer = Refused number firs
 
 -- what holds of a refusal, of a finished call and of a cut one holds of the call
 pub conclude-cases : (X : Result → Type 0) (v : Verdict) (budget : ℕ) (t : Task) (c : Core) (w : World)
-    → ((number first second : ℕ) → v ≡ refused number first second → X (refusedBy budget number first second c w))
+    → ((number first second : ℕ) → v ≡ rejected number first second → X (refusedBy budget number first second c w))
     → (v ≡ accepted → finishes budget (t .actions) ≡ true → X (finishedBy budget t w))
     → (v ≡ accepted → finishes budget (t .actions) ≡ false → X (cutBy budget t w))
     → X (conclude v budget t c w)
-conclude-cases X (refused number first second) budget t c w r f i = r number first second refl
+conclude-cases X (rejected number first second) budget t c w r f i = r number first second refl
 conclude-cases X accepted budget t c w r f i = go (finishes budget (t .actions)) refl
   where
     go : (b : Bool) → finishes budget (t .actions) ≡ b → X (spend b budget t w)
@@ -32,7 +32,7 @@ conclude-cases X accepted budget t c w r f i = go (finishes budget (t .actions))
     go false e = i refl e
 
 pub call-cases : (X : Result → Type 0) (k : Call) (c : Core) (w : World)
-    → ((number first second : ℕ) → verdict (rowsOf k c w) ≡ refused number first second → X (refusedBy (budgetOf k) number first second c w))
+    → ((number first second : ℕ) → verdict (rowsOf k c w) ≡ rejected number first second → X (refusedBy (budgetOf k) number first second c w))
     → (verdict (rowsOf k c w) ≡ accepted → finishes (budgetOf k) (taskOf k c w .actions) ≡ true → X (finishedBy (budgetOf k) (taskOf k c w) w))
     → (verdict (rowsOf k c w) ≡ accepted → finishes (budgetOf k) (taskOf k c w .actions) ≡ false → X (cutBy (budgetOf k) (taskOf k c w) w))
     → X (resultOf k c w)

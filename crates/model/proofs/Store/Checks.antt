@@ -14,13 +14,13 @@ use Rattle.model.specs.declared.Core.{Core}
 use Rattle.model.specs.declared.Decoded.{Decoded}
 use Rattle.model.specs.declared.Decoded.the-variants.{Change, Close, Malformed}
 use Rattle.model.specs.declared.Fate.the-variants.{Closed}
-use Rattle.model.specs.declared.Fault.the-variants.{Sound}
+use Rattle.model.specs.declared.Fault.the-variants.{NoFault}
 use Rattle.model.specs.Anchor.{anchorWords, epochOn, sizesOn}
 use Rattle.model.specs.Record.{change, close}
 use Rattle.model.specs.Scan.{Scan, end, bad, item, scan, fateIn}
 use Rattle.model.specs.World.{World}
 use Rattle.model.specs.State.{tailOf, sound}
-use Rattle.model.specs.Refusal.{Row, row, accepted, refused, verdict, Result, numberOf}
+use Rattle.model.specs.Refusal.{Row, row, accepted, rejected, verdict, Result, numberOf}
 use Rattle.model.specs.Causes.{whenShut, whenReplaying, whenServing, stageForbids, anchorWrong, unformatted, sizesWrong, lengthsWrong, tailWrong, wrongTail, faultFrom, spent}
 use Rattle.model.specs.Format.{formatRows}
 use Rattle.model.specs.Transaction.{beginRows, updateRows, readRows, commitRows}
@@ -55,7 +55,7 @@ module _ {w : World} (h : Restartable w) where
       let s : Sizes = sizesOn (w .anchor) in
       rw (first-none (tailWrong s w) (s .disks) tail-right) (le-ltb (s .disks) (s .disks) (omega arith))
 
-  pub no-fault : faultFrom (sizesOn (w .anchor)) w (sizesOn (w .anchor) .disks) 0 ≡ Sound
+  pub no-fault : faultFrom (sizesOn (w .anchor)) w (sizesOn (w .anchor) .disks) 0 ≡ NoFault
   no-fault =
       let s : Sizes = sizesOn (w .anchor) in
       none-fault s w (s .disks) 0 (λ d from l. h .clean d (omega arith))
@@ -75,7 +75,7 @@ verdict-append (x ∷ l) k e =
     rw (f .0) (verdict-append l k (f .1))
 
 begin-verdict : (c : Core) (w : World) → c .stage ≡ Shut → Restartable w
-    → verdict (restartBeginRows c w) ≡ cond (spent (epochOn (w .anchor))) (refused 13 0 0) accepted
+    → verdict (restartBeginRows c w) ≡ cond (spent (epochOn (w .anchor))) (rejected 13 0 0) accepted
 unfolding verdict restartBeginRows stageForbids sound
 begin-verdict c w e h =
     rw e (verdict-append (imageRows w) (row 13 (spent (epochOn (w .anchor))) ∷ []) (restartable-rows h))
@@ -89,27 +89,27 @@ restart-begin-answers c w e h =
     (λ v f. refl)
     (λ v f. absurd (true≢false (sym (storeless-finishes restartBegin c w refl) ∙ f)))
   where
-    only : (b : Bool) (number first second : ℕ) → cond b (refused 13 0 0) accepted ≡ refused number first second → number ≡ 13
+    only : (b : Bool) (number first second : ℕ) → cond b (rejected 13 0 0) accepted ≡ rejected number first second → number ≡ 13
     only true number first second f = cc
     only false number first second f = let z : _≡_ {A = ℕ} 0 1 = cc in absurd (omega arith)
 
 -- A restart step: the record that it takes is well formed, and so is all that it reads to learn its transaction's fate.
-fate-sound : (disk number : ℕ) (sc : Scan) → ending sc ≡ end → fateFault disk (fateIn number sc) ≡ Sound
+fate-sound : (disk number : ℕ) (sc : Scan) → ending sc ≡ end → fateFault disk (fateIn number sc) ≡ NoFault
 unfolding ending fateIn
 fate-sound disk number end e = refl
 fate-sound disk number (bad p) e = let z : _≡_ {A = ℕ} 0 1 = cc in absurd (omega arith)
-fate-sound disk number (item p (change kind page slot n epoch diff) rest) e = fate-sound disk number rest e
+fate-sound disk number (item p (change kind page slot n copy diff) rest) e = fate-sound disk number rest e
 fate-sound disk number (item p (close kind n) rest) e = go (eqb n number) (fate-sound disk number rest e)
   where
-    go : (b : Bool) → fateFault disk (fateIn number rest) ≡ Sound → fateFault disk (cond b Closed (fateIn number rest)) ≡ Sound
+    go : (b : Bool) → fateFault disk (fateIn number rest) ≡ NoFault → fateFault disk (cond b Closed (fateIn number rest)) ≡ NoFault
     go true f = refl
     go false f = f
 
 module _ (c : Core) (w : World) (m : Progress c w) where
   pub record-sound : (d : ℕ) → d < c .sizes .disks → positionOf c d < tailOf (c .logs) d → (r : Decoded) → nextRecord c w d ≡ r
-      → recordFault c w d r ≡ Sound
+      → recordFault c w d r ≡ NoFault
   unfolding nextRecord fateFrom logLeft ending
-  record-sound d h k (Change kind page slot number epoch width next) e =
+  record-sound d h k (Change kind page slot number copy width next) e =
       fate-sound d number (scan (c .sizes) (readDisk c w d) (tailOf (c .logs) d) next) (change-well c w m d h k e)
   record-sound d h k (Close kind number next) e = refl
   record-sound d h k Malformed e =
@@ -117,12 +117,12 @@ module _ (c : Core) (w : World) (m : Progress c w) where
       let z : _≡_ {A = ℕ} 0 1 = cc in
       absurd (omega arith)
 
-  pub step-never-bad : (source : ℕ) → stepFault c w source ≡ Sound
+  pub step-never-bad : (source : ℕ) → stepFault c w source ≡ NoFault
   unfolding stepFault
   step-never-bad source = go (ltb source (c .sizes .disks) && ltb 0 (remaining c source)) refl
     where
       go : (b : Bool) → ltb source (c .sizes .disks) && ltb 0 (remaining c source) ≡ b
-          → cond b (recordFault c w source (nextRecord c w source)) Sound ≡ Sound
+          → cond b (recordFault c w source (nextRecord c w source)) NoFault ≡ NoFault
       go true e =
           let both = and-eq-true-iff (ltb source (c .sizes .disks)) (ltb 0 (remaining c source)) .0 e in
           let l = ltb-true source (c .sizes .disks) (both .0) in
@@ -135,13 +135,13 @@ unfoldable pub finds : ℕ → List Row → Bool
 finds n [] = false
 finds n (x ∷ rows) = eqb (x .number) n && x .applies || finds n rows
 
-refused-finds : (rows : List Row) (n first second : ℕ) → verdict rows ≡ refused n first second → finds n rows ≡ true
+refused-finds : (rows : List Row) (n first second : ℕ) → verdict rows ≡ rejected n first second → finds n rows ≡ true
 unfolding verdict finds
 refused-finds [] n a b e = let z : _≡_ {A = ℕ} 0 1 = cc in absurd (omega arith)
 refused-finds (x ∷ rows) n a b e = go (x .applies) (eqb (x .number) n) refl e (refused-finds rows n a b)
   where
-    go : (t f : Bool) → eqb (x .number) n ≡ f → cond t (refused (x .number) (x .first) (x .second)) (verdict rows) ≡ refused n a b
-        → (verdict rows ≡ refused n a b → finds n rows ≡ true) → (f && t || finds n rows) ≡ true
+    go : (t f : Bool) → eqb (x .number) n ≡ f → cond t (rejected (x .number) (x .first) (x .second)) (verdict rows) ≡ rejected n a b
+        → (verdict rows ≡ rejected n a b → finds n rows ≡ true) → (f && t || finds n rows) ≡ true
     go true true d e rest = refl
     go true false d e rest =
         let same : x .number ≡ n = cc in
@@ -154,7 +154,7 @@ pub number-row : (k : Call) (c : Core) (w : World) (n : ℕ) → 0 < n → n < 1
     → finds n (rowsOf k c w) ≡ true
 number-row k c w n low high =
     call-cases (λ (r : Result). numberOf (r .answer) ≡ n → finds n (rowsOf k c w) ≡ true) k c w
-    (λ number first second v e. refused-finds (rowsOf k c w) n first second (v ∙ ap (λ (x : ℕ). refused x first second) e))
+    (λ number first second v e. refused-finds (rowsOf k c w) n first second (v ∙ ap (λ (x : ℕ). rejected x first second) e))
     (λ v f e. absurd (omega arith)) (λ v f e. absurd (omega arith))
 
 pub seven-row : (k : Call) (c : Core) (w : World) → numberOf (resultOf k c w .answer) ≡ 7 → finds 7 (rowsOf k c w) ≡ true
@@ -197,7 +197,7 @@ replaying-stage Copying e = absurd (true≢false (sym e))
 -- No call finds a malformed record where, in its stage, the devices can be restarted from, the restart goes on as it began, and
 -- aborts find what was put there.
 pub never-seven : (k : Call) (c : Core) (w : World) → (c .stage ≡ Shut → Restartable w) → (c .stage ≡ Replaying → Progress c w)
-    → (whenServing (c .stage) ≡ true → (number : ℕ) → abortFault c w number ≡ Sound) → numberOf (resultOf k c w .answer) ≡ 7 → ⊥
+    → (whenServing (c .stage) ≡ true → (number : ℕ) → abortFault c w number ≡ NoFault) → numberOf (resultOf k c w .answer) ≡ 7 → ⊥
 unfolding finds formatRows beginRows updateRows readRows commitRows abortRows checkpointBeginRows checkpointStepRows checkpointEndRows imageRows restartBeginRows restartStepRows restartEndRows
 never-seven (format s budget) c w shut replaying serving e = true≢false (sym (seven-row (format s budget) c w e))
 never-seven begin c w shut replaying serving e = true≢false (sym (seven-row begin c w e))

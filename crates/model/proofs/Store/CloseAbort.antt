@@ -10,7 +10,7 @@ use Rattle.model.specs.declared.Core.{Core}
 use Rattle.model.specs.Sizes.{total, ringOf}
 use Rattle.model.specs.Record.{close, encode, abortKind}
 use Rattle.model.specs.World.{World, perform, stores, run}
-use Rattle.model.specs.Memory.{epochAt, epochOf}
+use Rattle.model.specs.Memory.{copyAt, copyOf}
 use Rattle.model.specs.State.{limit, startOf, endOf, withLog, isOpen, without}
 use Rattle.model.specs.Append.{Appended, append}
 use Rattle.model.specs.Transaction.{diskOf}
@@ -27,11 +27,11 @@ use Rattle.model.proofs.Ledger.Picks.{closed-append}
 use Rattle.model.proofs.Ledger.Word.{ofTxn, kept-open}
 use Rattle.model.proofs.Ledger.Good.{Good, good-same}
 use Rattle.model.proofs.Ledger.Close.{abort-good, closes-one}
-use Rattle.model.proofs.Link.Buffered.{InBuffer, owners-same, epochs-same}
+use Rattle.model.proofs.Link.Buffered.{InBuffer, owners-same, copies-same}
 use Rattle.model.proofs.Store.View.{Kept, view, Accounts, Serving, Served, open-used}
 use Rattle.model.proofs.Store.Logged.{none-written}
 use Rattle.model.proofs.Store.Closed.{sets-closed, owners-closed, accounts-closed, found-more}
-use Rattle.model.proofs.Store.Put.{MayPut, put-longer, put-in-buffer, F1, B1, made-sums, made-good, made-accounts, put-safe, put-epochs, put-told, put-cut}
+use Rattle.model.proofs.Store.Put.{MayPut, put-longer, put-in-buffer, F1, B1, made-sums, made-good, made-accounts, put-safe, put-copies, put-told, put-cut}
 use Rattle.model.proofs.Growth.{Small}
 use Rattle.model.proofs.Booleans.{true-false}
 use Rattle.model.proofs.Store.OneMore.{all-more, boundary-logged}
@@ -96,7 +96,7 @@ module _ {t : ℕ} {home : ℕ → ℕ} {puts : List Put} {c : Core} {w : World}
   buffer = put-in-buffer g e may
 
   same : Same (total s) (abortedBy (view c w r F' (B1 g e may)) e) (view core w1 reference F' B')
-  unfolding view abortedBy withLog epochOf epochAt
+  unfolding view abortedBy withLog copyOf copyAt
   same =
       record {
         epoch = refl;
@@ -104,7 +104,7 @@ module _ {t : ℕ} {home : ℕ → ℕ} {puts : List Put} {c : Core} {w : World}
         pages = λ i h. rw (buffer .pages-same);
         current = λ i h. rw (buffer .backups-same);
         other = λ i h. rw (buffer .backups-same);
-        epochs = λ i h. sym (epochs-same buffer _ below (omega arith));
+        copies = λ i h. sym (copies-same buffer _ below (omega arith));
         owners = λ i h. sym (owners-same buffer (slotStart s i) (slot-in s i h .start-lt));
         committed = λ i h. refl;
         writes =
@@ -143,7 +143,7 @@ module _ {t : ℕ} {home : ℕ → ℕ} {puts : List Put} {c : Core} {w : World}
               stage = g .stage;
               safe = put-safe g e may (none-written s w1) 0 (without (c .table) t) reference (g .safe .sizes) (g .safe .shaped) good;
               accounts = accounts;
-              epochs = put-epochs g e may (none-written s w1) (λ i h. refl) (λ h. true-false closes h) (λ h k. true-false closes k) (without (c .table) t);
+              copies = put-copies g e may (none-written s w1) (λ i h. refl) (λ h. true-false closes h) (λ h k. true-false closes k) (without (c .table) t);
               sets = sets-closed (g .accounts .tabled) t opened (g .sets) (closing .logs) reference refl;
               owners =
                   owners-closed (g .accounts .tabled) t opened (g .safe .devices .bounds) (g .owners) (owners-same buffer) (closing .logs)

@@ -13,7 +13,7 @@ use Rattle.model.specs.Sizes.{total, ringOf}
 use Rattle.model.specs.Record.{encode}
 use Rattle.model.specs.Anchor.{backupAt}
 use Rattle.model.specs.World.{World, Action, perform, stores, run}
-use Rattle.model.specs.Memory.{bufferAt, epochAt, epochOf}
+use Rattle.model.specs.Memory.{bufferAt, copyAt, copyOf}
 use Rattle.model.specs.State.{limit, startOf, endOf, flushed, withLog, without, isOpen}
 use Rattle.model.specs.Append.{Appended, append, flush}
 use Rattle.model.specs.Reference.{Reference, writesOf, removed, applied, wordsIn}
@@ -34,8 +34,8 @@ use Rattle.model.proofs.Ledger.Good.{Good, good-same}
 use Rattle.model.proofs.Ledger.Close.{commit-good}
 use Rattle.model.proofs.Link.Words.{Fit, Link, lengths-perform, arrays-flushed, arrays-longer, below-eight, Arrays}
 use Rattle.model.proofs.Link.Flush.{flush-link, flush-only, flush-cut, cut-only}
-use Rattle.model.proofs.Link.Buffered.{InBuffer, owners-same, epochs-same}
-use Rattle.model.proofs.Store.View.{Kept, view, Devices, Safe, Accounts, Epochs, Serving, before, open-used}
+use Rattle.model.proofs.Link.Buffered.{InBuffer, owners-same, copies-same}
+use Rattle.model.proofs.Store.View.{Kept, view, Devices, Safe, Accounts, Copies, Serving, before, open-used}
 use Rattle.model.proofs.Store.Flush.{devices-kept, left}
 use Rattle.model.proofs.Store.Logged.{longer, in-buffer, link-logged, ordered-logged, logged-stores, MayLog}
 use Rattle.model.proofs.Store.Linked.{kept-linked}
@@ -129,15 +129,15 @@ module _ {home : ℕ → ℕ} {puts : List Put} {c : Core} {w : World} {r : Refe
   ends d h (yes at) = rw at (ring-room, omega (arith, more .end-longer, may .in-limit))
   ends d h (no ne) = rw (more .start-same d, more .tail-same d ne, more .fill-same d ne) (g .safe .ends d h)
 
-  -- the owners and the copy epochs stay
+  -- the owners and the copy numbers stay
   owner-same : (i : ℕ) → i < total (c .sizes) → getD (doneWorld .work) i 0 ≡ getD (w .work) i 0
   owner-same i h = ap (λ (m : List ℕ). getD m i 0) (only .work-same) ∙ owners-same buffer i h
 
-  epoch-same : (p : ℕ) → epochOf (c .sizes) (doneWorld .work) p ≡ epochOf (c .sizes) (w .work) p
-  unfolding epochOf epochAt
+  epoch-same : (p : ℕ) → copyOf (c .sizes) (doneWorld .work) p ≡ copyOf (c .sizes) (w .work) p
+  unfolding copyOf copyAt
   epoch-same p =
       ap (λ (m : List ℕ). getD m (bufferAt (c .sizes) (c .sizes .disks) + p) 0) (only .work-same)
-      ∙ epochs-same buffer (bufferAt (c .sizes) (c .sizes .disks) + p) below (omega arith)
+      ∙ copies-same buffer (bufferAt (c .sizes) (c .sizes .disks) + p) below (omega arith)
 
   -- the committed contents are those before with the transaction's writes
   words-committed : (i : ℕ) → getD (wordsIn (doneReference .committed)) i 0
@@ -156,7 +156,7 @@ module _ {home : ℕ → ℕ} {puts : List Put} {c : Core} {w : World} {r : Refe
         pages = λ i h. ap (λ (m : List ℕ). getD m i 0) (sym (only .pages-same ∙ buffer .pages-same));
         current = λ i h. ap (λ (m : List ℕ). getD m (backupAt (c .sizes) (c .epoch) + i) 0) (sym (only .backups-same ∙ buffer .backups-same));
         other = λ i h. ap (λ (m : List ℕ). getD m (backupAt (c .sizes) (c .epoch + 1) + i) 0) (sym (only .backups-same ∙ buffer .backups-same));
-        epochs = λ i h. sym (epoch-same (pageOf (c .sizes) i));
+        copies = λ i h. sym (epoch-same (pageOf (c .sizes) i));
         owners = λ i h. sym (owner-same (slotStart (c .sizes) i) (slot-in (c .sizes) i h .start-lt));
         committed = λ i h. sym (words-committed i);
         writes =
@@ -203,15 +203,15 @@ module _ {home : ℕ → ℕ} {puts : List Put} {c : Core} {w : World} {r : Refe
   not-change : {X : Type 0} → isClose e ≡ false → X
   not-change o = true-false closes o
 
-  epochs : Epochs doneCore doneWorld gone rest
+  copies : Copies doneCore doneWorld gone rest
   unfolding withLog before
-  epochs =
+  copies =
       record {
-        copied = g .epochs .copied;
-        pages = λ p h. epoch-same p ∙ g .epochs .pages p h;
-        capped = moved F B e _ (g .epochs .capped) not-change;
-        early = moved F B e _ (g .epochs .early) (λ b. not-change);
-        ends = λ o d h. rw (start-same d) (bounds F B e _ _ d (g .epochs .ends o d h));
+        copied = g .copies .copied;
+        pages = λ p h. epoch-same p ∙ g .copies .pages p h;
+        capped = moved F B e _ (g .copies .capped) not-change;
+        early = moved F B e _ (g .copies .early) (λ b. not-change);
+        ends = λ o d h. rw (start-same d) (bounds F B e _ _ d (g .copies .ends o d h));
       }
 
   -- whole, the transaction is committed
@@ -222,7 +222,7 @@ module _ {home : ℕ → ℕ} {puts : List Put} {c : Core} {w : World} {r : Refe
         stage = g .stage;
         safe = safe;
         accounts = accounts;
-        epochs = epochs;
+        copies = copies;
         sets = sets-closed (g .accounts .tabled) (e .number) opened (g .sets) (flushed (added .logs) (e .disk)) doneReference refl;
         owners =
             owners-closed (g .accounts .tabled) (e .number) opened (g .safe .devices .bounds) (g .owners) owner-same

@@ -14,7 +14,7 @@ use Rattle.model.proofs.Link.Words.{Fit}
 
 -- of transaction n, at position p of disk d
 abbrev pub closingEntry : ℕ → ℕ → ℕ → ℕ → Entry
-closingEntry kind d p n = record { disk = d; position = p; kind = kind; page = 0; slot = 0; number = n; epoch = 0; at = 0; diff = [] }
+closingEntry kind d p n = record { disk = d; position = p; kind = kind; page = 0; slot = 0; number = n; copy = 0; at = 0; diff = [] }
 
 module _ (kind d p n : ℕ) (h : leb 2 kind ≡ true) where
   pub closing-closes : isClose (closingEntry kind d p n) ≡ true

@@ -13,7 +13,7 @@ use Rattle.model.specs.Word.{_⊕_, xors, part}
 use Rattle.model.specs.Sizes.{slotBase, total}
 use Rattle.model.specs.Scan.{Update}
 use Rattle.model.specs.World.{World, Action, pages, perform, stores, run}
-use Rattle.model.specs.Memory.{epochAt, epochOf}
+use Rattle.model.specs.Memory.{copyAt, copyOf}
 use Rattle.model.specs.State.{startOf, endOf, withLog}
 use Rattle.model.specs.Append.{Appended}
 use Rattle.model.specs.Transaction.{diskOf}
@@ -30,12 +30,12 @@ use Rattle.model.proofs.Ledger.State.{logged, Same}
 use Rattle.model.proofs.Ledger.Word.{ofTxn}
 use Rattle.model.proofs.Ledger.Good.{Good, good-same}
 use Rattle.model.proofs.Ledger.Update.{compensate-good}
-use Rattle.model.proofs.Link.Buffered.{InBuffer, owners-same, epochs-same}
+use Rattle.model.proofs.Link.Buffered.{InBuffer, owners-same, copies-same}
 use Rattle.model.proofs.Store.View.{Kept, view, Serving, open-used}
 use Rattle.model.proofs.Store.Same.{owners-same as owners-kept}
 use Rattle.model.proofs.Store.Logged.{Written}
 use Rattle.model.proofs.Store.LogEnd.{capped, early}
-use Rattle.model.proofs.Store.Put.{MayPut, put, put-longer, put-in-buffer, F1, B1, made-good, put-sums, put-safe, put-epochs, put-own, put-told, put-cut}
+use Rattle.model.proofs.Store.Put.{MayPut, put, put-longer, put-in-buffer, F1, B1, made-good, put-sums, put-safe, put-copies, put-own, put-told, put-cut}
 use Rattle.model.proofs.Growth.{Small}
 use Rattle.model.proofs.Parts.{spanning-true}
 use Rattle.model.proofs.Store.Steady.{kept-lost}
@@ -51,7 +51,7 @@ pub record Compensated (t : ℕ) (home : ℕ → ℕ) (after : List Put) (c : Co
   pub starts : (e : ℕ) → startOf (done .logs) e ≡ startOf (c .logs) e
   pub ends : endOf (done .logs) d ≡ endOf (c .logs) d + n
   pub small : Small (c .sizes) (done .logs)
-  pub epochs : (page : ℕ) → epochOf (c .sizes) (perform (done .actions) w .work) page ≡ epochOf (c .sizes) (w .work) page
+  pub copies : (page : ℕ) → copyOf (c .sizes) (perform (done .actions) w .work) page ≡ copyOf (c .sizes) (w .work) page
   pub cut : (k : ℕ) → k < stores (done .actions) → Kept after (run k (done .actions) w) r
 
 -- One update u of transaction t taken back, with room for its record.
@@ -101,15 +101,15 @@ module _ {t : ℕ} {home : ℕ → ℕ} {puts : List Put} {c : Core} {w : World}
   unfolding adds isClose
   pages-after i = rw (xor-at-word at (u .diff) (w1 .pages) i inside, buffer .pages-same)
 
-  epochs-after : (page : ℕ) → epochOf s (w .work) page ≡ epochOf s (w1 .work) page
-  unfolding epochOf epochAt
-  epochs-after page = sym (epochs-same buffer _ (ok .below) (omega arith))
+  copies-after : (page : ℕ) → copyOf s (w .work) page ≡ copyOf s (w1 .work) page
+  unfolding copyOf copyAt
+  copies-after page = sym (copies-same buffer _ (ok .below) (omega arith))
 
-  -- the words of the slot have the copy epoch of its page
-  copy : (i : ℕ) → i < total s → spanning at (length (u .diff)) i ≡ true → epochOf s (w .work) (pageOf s i) ≡ e .epoch
+  -- the words of the slot have the copy number of its page
+  copy : (i : ℕ) → i < total s → spanning at (length (u .diff)) i ≡ true → copyOf s (w .work) (pageOf s i) ≡ e .copy
   copy i h k =
       let there = spanning-true at (length (u .diff)) i k in
-      ap (epochOf s (w .work)) (slot-start s (u .page) (u .slot) i (ok .slotted .page-in) (ok .slotted .slot-in) (there .0) (omega (arith, ok .slotted .width)) .1)
+      ap (copyOf s (w .work)) (slot-start s (u .page) (u .slot) i (ok .slotted .page-in) (ok .slotted .slot-in) (there .0) (omega (arith, ok .slotted .width)) .1)
 
   same : Same (total s) (logged (view c w r F' (B1 g e may)) e) (view (withLog c (added .logs) (c .table)) w2 r F' B')
   unfolding view logged withLog
@@ -120,7 +120,7 @@ module _ {t : ℕ} {home : ℕ → ℕ} {puts : List Put} {c : Core} {w : World}
         pages = λ i h. pages-after i;
         current = λ i h. rw (buffer .backups-same);
         other = λ i h. rw (buffer .backups-same);
-        epochs = λ i h. epochs-after (pageOf s i);
+        copies = λ i h. copies-after (pageOf s i);
         owners = λ i h. sym (owners-same buffer (slotStart s i) (slot-in s i h .start-lt));
         committed = λ i h. refl;
         writes = λ v h. refl;
@@ -154,8 +154,8 @@ module _ {t : ℕ} {home : ℕ → ℕ} {puts : List Put} {c : Core} {w : World}
         stage = g .stage;
         safe = put-safe g e may written t (c .table) r (g .safe .sizes) (g .safe .shaped) good;
         accounts = put-own g e may (ok .has) refl;
-        epochs =
-            put-epochs g e may written (λ i h. refl) (λ h. capped g e (u .page) (ok .slotted .page-in) refl)
+        copies =
+            put-copies g e may written (λ i h. refl) (λ h. capped g e (u .page) (ok .slotted .page-in) refl)
             (λ h k. early g e (u .page) (ok .slotted .page-in) refl (ok .below) refl h) (c .table);
         sets = record { distinct = g .sets .distinct; has = g .sets .has; fits = g .sets .fits };
         owners = owners-kept (g .safe .devices .bounds) refl refl refl (owners-same buffer) (g .owners);
@@ -194,6 +194,6 @@ module _ {t : ℕ} {home : ℕ → ℕ} {puts : List Put} {c : Core} {w : World}
         starts = put-longer g e may .start-same;
         ends = put-longer g e may .end-longer ∙ ap (λ (n : ℕ). endOf (c .logs) d + n) (compensation-size c w t u);
         small = put-longer g e may .small;
-        epochs = λ page. rw world (sym (epochs-after page));
+        copies = λ page. rw world (sym (copies-after page));
         cut = λ k h. kept-lost (put-cut g e may slot-words storeless k h) _;
       })

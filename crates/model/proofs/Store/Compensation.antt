@@ -10,7 +10,7 @@ use Rattle.model.specs.Sizes.{slotsIn, widthIn, slotBase, ringOf}
 use Rattle.model.specs.Record.{encode, compensationKind}
 use Rattle.model.specs.Scan.{Update}
 use Rattle.model.specs.World.{World, pages}
-use Rattle.model.specs.Memory.{epochOf}
+use Rattle.model.specs.Memory.{copyOf}
 use Rattle.model.specs.State.{limit, startOf, endOf, isOpen, placeOf, hasUpdate}
 use Rattle.model.specs.Transaction.{diskOf}
 use Rattle.model.specs.History.{compensation}
@@ -48,7 +48,7 @@ compensationEntry c w t u =
       page = u .page;
       slot = u .slot;
       number = t;
-      epoch = epochOf (c .sizes) (w .work) (u .page);
+      copy = copyOf (c .sizes) (w .work) (u .page);
       at = slotBase (c .sizes) (u .page) (u .slot);
       diff = u .diff;
     }

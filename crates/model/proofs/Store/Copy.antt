@@ -12,7 +12,7 @@ use borrow.Author.Tests.{ltb-true, ltb-false, lt-ltb, le-ltb}
 use Rattle.model.specs.declared.Core.{Core}
 use Rattle.model.specs.Sizes.{pageBase, pageWords, total}
 use Rattle.model.specs.World.{World, backups, work, store, write, perform, run, finishes, each}
-use Rattle.model.specs.Memory.{epochAt, epochOf, lengthsRight}
+use Rattle.model.specs.Memory.{copyAt, copyOf, lengthsRight}
 use Rattle.model.specs.State.{startOf, fillOf, endOf}
 use Rattle.model.specs.Refusal.{accepted, verdict}
 use Rattle.model.specs.Causes.{whenOpen, tailOn}
@@ -29,7 +29,7 @@ use Rattle.model.proofs.Ledger.Good.{Good, good-same}
 use Rattle.model.proofs.Ledger.Checkpoint.{copy-good}
 use Rattle.model.proofs.Link.Words.{Link, log-end}
 use Rattle.model.proofs.Restart.Aside.{Aside, aside-append, aside-backup}
-use Rattle.model.proofs.Store.View.{Kept, view, before, Devices, Epochs, Serving, Served}
+use Rattle.model.proofs.Store.View.{Kept, view, before, Devices, Copies, Serving, Served}
 use Rattle.model.proofs.Store.Rows.{stage-row, copying-not-open, copying-serving, serving-sound, disk-sound}
 use Rattle.model.proofs.Store.Page.{at, words, after, copying, page-lt, page-first, stepped, fits, size-words, other-word, current-word, epoch-page, epoch-other, owner-word, buffer-words}
 use Rattle.model.proofs.Store.Same.{devices-same, accounts-same, sets-same, owners-same}
@@ -47,14 +47,14 @@ module _ {home : ℕ → ℕ} {puts : List Put} {c : Core} {w : World} {r : Refe
   unfolding checkpointBeginRows
   opened = stage-row whenOpen c (row-passed _ _ ok .0) .0
 
-  remembering : Epochs (checkpointBeginTask c w .core) w F B
+  remembering : Copies (checkpointBeginTask c w .core) w F B
   unfolding checkpointBeginTask before
   remembering =
       record {
         copied = λ e. refl;
-        pages = λ p h. rw (v .epochs .copied opened) at (v .epochs .pages p h);
-        capped = v .epochs .capped;
-        early = all-map (λ e h b. h (rw opened refl)) (F ++ B) (v .epochs .early);
+        pages = λ p h. rw (v .copies .copied opened) at (v .copies .pages p h);
+        capped = v .copies .capped;
+        early = all-map (λ e h b. h (rw opened refl)) (F ++ B) (v .copies .early);
         ends = λ e d h.
             rw (getD-per-disk (c .sizes) (endOf (c .logs)) d (v .safe .devices .bounds .disks-max) h, log-end (v .safe .link) d h)
             (boundary-end (startOf (c .logs) d) (on d F ++ on d B));
@@ -76,7 +76,7 @@ module _ {home : ℕ → ℕ} {puts : List Put} {c : Core} {w : World} {r : Refe
           shaped = v .safe .shaped;
         };
         accounts = accounts-same refl refl refl refl (v .accounts);
-        epochs = remembering;
+        copies = remembering;
         sets = sets-same refl refl (v .sets);
         owners = owners-same (v .safe .devices .bounds) refl refl refl (λ i h. refl) (v .owners);
         told = v .told;
@@ -123,11 +123,11 @@ module _ {home : ℕ → ℕ} {puts : List Put} {c : Core} {w : World} {r : Refe
       true-false (spanning-in (pageBase (c .sizes) p) (pageWords (c .sizes) p) i (near .1) (near .2)) e
 
   -- the page was not copied before, and is now
-  old-epoch : epochOf (c .sizes) (w .work) p ≡ c .epoch
-  old-epoch = v .epochs .pages p below ∙ rw (le-ltb p (c .checkpoint .copied) (omega (arith, page-first ok (v .safe .devices))))
+  old-epoch : copyOf (c .sizes) (w .work) p ≡ c .epoch
+  old-epoch = v .copies .pages p below ∙ rw (le-ltb p (c .checkpoint .copied) (omega (arith, page-first ok (v .safe .devices))))
 
   new-epoch : (i : ℕ) → i < total (c .sizes) → (b : Bool) → inPage i ≡ b
-      → cond b (c .epoch + 1) (epochOf (c .sizes) (w .work) (pageOf (c .sizes) i)) ≡ epochOf (c .sizes) (u .work) (pageOf (c .sizes) i)
+      → cond b (c .epoch + 1) (copyOf (c .sizes) (w .work) (pageOf (c .sizes) i)) ≡ copyOf (c .sizes) (u .work) (pageOf (c .sizes) i)
   new-epoch i h true e = rw (page-word i e) (sym (epoch-page ok (v .safe .devices)))
   new-epoch i h false e = sym (epoch-other ok (v .safe .devices) (pageOf (c .sizes) i) (other-page i h e))
 
@@ -143,7 +143,7 @@ module _ {home : ℕ → ℕ} {puts : List Put} {c : Core} {w : World} {r : Refe
             pages = λ i h. refl;
             current = current-word ok (v .safe .devices);
             other = λ i h. other-word ok (v .safe .devices) i h (inPage i) refl;
-            epochs = λ i h. new-epoch i h (inPage i) refl;
+            copies = λ i h. new-epoch i h (inPage i) refl;
             owners = λ i h. sym (owner-word ok (v .safe .devices) (slotStart (c .sizes) i) (slot-in (c .sizes) i h .start-lt));
             committed = λ i h. refl;
             writes = λ t o. refl;
@@ -169,25 +169,25 @@ module _ {home : ℕ → ℕ} {puts : List Put} {c : Core} {w : World} {r : Refe
         fill = v .safe .link .fill;
       }
 
-  copy-epochs : Epochs (checkpointStepTask c w .core) u F B
+  copy-copies : Copies (checkpointStepTask c w .core) u F B
   unfolding checkpointStepTask before
-  copy-epochs =
+  copy-copies =
       record {
         copied = λ e. true-false e (copying-not-open c (copying ok (v .safe .devices) .0));
         pages = λ q h. go q h (ℕ-discrete q p);
-        capped = v .epochs .capped;
-        early = v .epochs .early;
-        ends = v .epochs .ends;
+        capped = v .copies .capped;
+        early = v .copies .early;
+        ends = v .copies .ends;
       }
     where
       first : p ≡ c .checkpoint .copied
       first = page-first ok (v .safe .devices)
 
       go : (q : ℕ) → q < c .sizes .pages → Dec (q ≡ p)
-          → epochOf (c .sizes) (u .work) q ≡ cond (ltb q (c .checkpoint .copied + 1)) (c .epoch + 1) (c .epoch)
+          → copyOf (c .sizes) (u .work) q ≡ cond (ltb q (c .checkpoint .copied + 1)) (c .epoch + 1) (c .epoch)
       go q h (yes e) = rw (e, lt-ltb p (c .checkpoint .copied + 1) (omega (arith, first))) (epoch-page ok (v .safe .devices))
       go q h (no ne) =
-          epoch-other ok (v .safe .devices) q ne ∙ v .epochs .pages q h
+          epoch-other ok (v .safe .devices) q ne ∙ v .copies .pages q h
           ∙ ap (λ (b : Bool). cond b (c .epoch + 1) (c .epoch)) (ltb-other q (c .checkpoint .copied) (λ e. ne (e ∙ sym first)))
 
   step-serving : Serving 0 home puts (checkpointStepTask c w .core) u r F B
@@ -206,7 +206,7 @@ module _ {home : ℕ → ℕ} {puts : List Put} {c : Core} {w : World} {r : Refe
           shaped = v .safe .shaped;
         };
         accounts = accounts-same refl refl refl refl (v .accounts);
-        epochs = copy-epochs;
+        copies = copy-copies;
         sets = sets-same refl refl (v .sets);
         owners = owners-same (v .safe .devices .bounds) refl refl refl (owner-word ok (v .safe .devices)) (v .owners);
         told = v .told;
@@ -223,7 +223,7 @@ step-aside : {c : Core} {w : World} → Devices c w → verdict (checkpointStepR
 unfolding checkpointStepTask copyPage
 step-aside {c} {w} v ok =
     aside-append (c .sizes) (c .epoch) (each (store backups) (at ok v) (words ok v))
-    (write work (epochAt (c .sizes) (lowestToCopy c)) (c .epoch + 1) ∷ [])
+    (write work (copyAt (c .sizes) (lowestToCopy c)) (c .epoch + 1) ∷ [])
     (aside-backup (c .sizes) (c .epoch) (at ok v) (words ok v) (omega arith) (omega (arith, size-words ok v, fits ok v))) (tt, tt)
 
 pub checkpoint-step-cut : {puts : List Put} {c : Core} {w : World} {r : Reference} (budget : ℕ) → Served puts c w r → verdict (checkpointStepRows c w) ≡ accepted → Kept puts w r

@@ -16,7 +16,7 @@ use Rattle.model.specs.Below.{allBelow, listBelow}
 use Rattle.model.specs.Sizes.{total, sizesInBounds}
 use Rattle.model.specs.Anchor.{anchorWords, epochWord, epochOn, sizesOn, startWord, startOn, backupAt}
 use Rattle.model.specs.World.{World, Action, store, write, anchor, backups, work, cost, act, perform, stores, run, finishes, each}
-use Rattle.model.specs.Memory.{epochAt, freshWork}
+use Rattle.model.specs.Memory.{copyAt, freshWork}
 use Rattle.model.specs.State.{limit, tailOf, replaySound, soundIn, sound}
 use Rattle.model.specs.Refusal.{accepted, verdict}
 use Rattle.model.specs.Causes.{whenReplaying, anchorWrong, lengthsWrong, tailOn}
@@ -104,13 +104,13 @@ end-found c w e =
 end-puts : (s : Sizes) (w : World) (n disks : ℕ) (tail : ℕ → ℕ) (copy owners copies : List ℕ)
     → perform
     (each (store backups) (backupAt s n) copy ++ listBelow (λ d. store anchor (startWord n d) (tail d)) disks
-    ++ (store anchor epochWord n ∷ []) ++ (each (write work) 0 owners ++ each (write work) (epochAt s 0) copies)) w
+    ++ (store anchor epochWord n ∷ []) ++ (each (write work) 0 owners ++ each (write work) (copyAt s 0) copies)) w
     ≡ record {
       anchor = set (setEach (startWord n) tail disks (w .anchor)) epochWord n;
       pages = w .pages;
       backups = sets (w .backups) (backupAt s n) copy;
       logs = w .logs;
-      work = sets (sets (w .work) 0 owners) (epochAt s 0) copies;
+      work = sets (sets (w .work) 0 owners) (copyAt s 0) copies;
     }
 unfolding perform act
 end-puts s w n disks tail copy owners copies =
@@ -186,7 +186,7 @@ module _ (c : Core) (w : World) (r : Reference) (m : AtEnd c w r) (found : EndFo
             getD-sets-inside (w .backups) (backupAt s n) (w .pages) i (omega (arith, backup-within s n, found .lengths .pages, found .lengths .backups))
             (omega (arith, found .lengths .pages));
         pages = λ i h. ap (λ (l : List ℕ). getD l i 0) (m .pages);
-        epochs = λ p h. fresh-epoch s n (w .work) (found .lengths .work) p (omega (arith, b .pages-max));
+        copies = λ p h. fresh-epoch s n (w .work) (found .lengths .work) p (omega (arith, b .pages-max));
         owners = fresh-owner s n (w .work) (found .lengths .work);
         reference = m .reference;
         shaped = m .shaped;

@@ -10,7 +10,7 @@ use Rattle.model.specs.declared.Table.{Table}
 use Rattle.model.specs.declared.Core.{Core}
 use Rattle.model.specs.Sizes.{total, ringOf}
 use Rattle.model.specs.World.{World, perform, run, stores}
-use Rattle.model.specs.Memory.{epochOf, lengthsRight}
+use Rattle.model.specs.Memory.{copyOf, lengthsRight}
 use Rattle.model.specs.State.{startOf, endOf, flushed, withLog, placeOf, firstAt}
 use Rattle.model.specs.Anchor.{sizesOn, epochOn, startOn}
 use Rattle.model.specs.Append.{flush}
@@ -30,7 +30,7 @@ use Rattle.model.proofs.Ledger.Lists.{all-flush, closed-flush, on-flush
 use Rattle.model.proofs.Ledger.Ordered.{ordered-flush}
 use Rattle.model.proofs.Link.Words.{Fit, Arrays, arrays-flushed, below-eight}
 use Rattle.model.proofs.Link.Flush.{flush-link, flush-only, flush-cut, cut-only}
-use Rattle.model.proofs.Store.View.{view, Devices, Safe, Accounts, Epochs, Serving, before}
+use Rattle.model.proofs.Store.View.{view, Devices, Safe, Accounts, Copies, Serving, before}
 use Rattle.model.proofs.Store.Same.{owners-same}
 use Rattle.model.proofs.Growth.{start-flushed, ends-flushed}
 use Rattle.model.proofs.Store.WordsFor.{words-for-flush}
@@ -79,7 +79,7 @@ module _ {x : ℕ} {home : ℕ → ℕ} {c : Core} {w : World} {r : Reference} {
   only = flush-only (c .sizes) (c .logs) w d
 
   same : Same (total (c .sizes)) (flushedDisk (view c w r F B) d) (view (flushedCore c d) flushedWorld r (F ++ on d B) (left d B))
-  unfolding view flushedDisk withLog on epochOf
+  unfolding view flushedDisk withLog on copyOf
   same =
       record {
         epoch = refl;
@@ -87,7 +87,7 @@ module _ {x : ℕ} {home : ℕ → ℕ} {c : Core} {w : World} {r : Reference} {
         pages = λ i h. rw (only .pages-same);
         current = λ i h. rw (only .backups-same);
         other = λ i h. rw (only .backups-same);
-        epochs = λ i h. rw (only .work-same);
+        copies = λ i h. rw (only .work-same);
         owners = λ i h. rw (only .work-same);
         committed = λ i h. refl;
         writes = λ u h. refl;
@@ -121,7 +121,7 @@ module _ {x : ℕ} {home : ℕ → ℕ} {c : Core} {w : World} {r : Reference} {
     part-way = cut-only (c .sizes) (c .logs) w d n cut
 
     unmoved : Same (total (c .sizes)) (view c w r F B) (view c cutWorld r F B)
-    unfolding view epochOf
+    unfolding view copyOf
     unmoved =
         record {
           epoch = refl;
@@ -129,7 +129,7 @@ module _ {x : ℕ} {home : ℕ → ℕ} {c : Core} {w : World} {r : Reference} {
           pages = λ i h. rw (part-way .pages-same);
           current = λ i h. rw (part-way .backups-same);
           other = λ i h. rw (part-way .backups-same);
-          epochs = λ i h. rw (part-way .work-same);
+          copies = λ i h. rw (part-way .work-same);
           owners = λ i h. rw (part-way .work-same);
           committed = λ i h. refl;
           writes = λ u h. refl;
@@ -154,7 +154,7 @@ module _ {x : ℕ} {home : ℕ → ℕ} {c : Core} {w : World} {r : Reference} {
           shaped = g .shaped;
         }
 
--- the table, the copy epochs and the write sets do not see where an entry of the log lies
+-- the table, the copy numbers and the write sets do not see where an entry of the log lies
 module _ {x : ℕ} {home : ℕ → ℕ} {puts : List Put} {c : Core} {w : World} {r : Reference} {F B : List Entry} (g : Serving x home puts c w r F B)
     (d : ℕ) (below : d < c .sizes .disks) where
   moved : (P : Entry → Type 0) → All P (F ++ B) → All P ((F ++ on d B) ++ left d B)
@@ -176,15 +176,15 @@ module _ {x : ℕ} {home : ℕ → ℕ} {puts : List Put} {c : Core} {w : World}
         numbered = moved _ (g .accounts .numbered);
       }
 
-  epochs : Epochs (flushedCore c d) (flushedWorld (g .safe) d below) (F ++ on d B) (left d B)
-  unfolding withLog on flushed startOf before epochOf
-  epochs =
+  copies : Copies (flushedCore c d) (flushedWorld (g .safe) d below) (F ++ on d B) (left d B)
+  unfolding withLog on flushed startOf before copyOf
+  copies =
       record {
-        copied = g .epochs .copied;
-        pages = λ p h. rw (flush-only (c .sizes) (c .logs) w d .work-same) (g .epochs .pages p h);
-        capped = moved _ (g .epochs .capped);
-        early = moved _ (g .epochs .early);
-        ends = λ o e h. rw (on-flush d F B e) (g .epochs .ends o e h);
+        copied = g .copies .copied;
+        pages = λ p h. rw (flush-only (c .sizes) (c .logs) w d .work-same) (g .copies .pages p h);
+        capped = moved _ (g .copies .capped);
+        early = moved _ (g .copies .early);
+        ends = λ o e h. rw (on-flush d F B e) (g .copies .ends o e h);
       }
 
   pub flush-serving : Serving x home puts (flushedCore c d) (flushedWorld (g .safe) d below) r (F ++ on d B) (left d B)
@@ -194,7 +194,7 @@ module _ {x : ℕ} {home : ℕ → ℕ} {puts : List Put} {c : Core} {w : World}
         stage = g .stage;
         safe = flush-safe (g .safe) d below;
         accounts = accounts;
-        epochs = epochs;
+        copies = copies;
         sets = record { distinct = g .sets .distinct; has = g .sets .has; fits = g .sets .fits };
         owners = owners-same (g .safe .devices .bounds) refl refl refl (λ i h. rw (flush-only (c .sizes) (c .logs) w d .work-same)) (g .owners);
         told = λ e h. rw (on-flush d F B e) (g .told e h);

@@ -14,7 +14,7 @@ use Rattle.model.specs.Word.{part}
 use Rattle.model.specs.Sizes.{total, tailWord, sizesInBounds}
 use Rattle.model.specs.Anchor.{epochWord, slotsAt, widthsAt, rowsAt, epochOn, sizesOn, startWord, startOn, backupAt}
 use Rattle.model.specs.World.{World, store, write, anchor, backups, logs, pages, work, act, perform, each}
-use Rattle.model.specs.Memory.{epochAt, lengthsRight, freshWork}
+use Rattle.model.specs.Memory.{copyAt, lengthsRight, freshWork}
 use Rattle.model.specs.Refusal.{accepted, verdict}
 use Rattle.model.specs.Causes.{anchorWrong, sizesWrong, lengthsWrong, tailOn}
 use Rattle.model.specs.Format.{formatRows, formatStores, freshMemory, formatTask}
@@ -40,13 +40,13 @@ laid-world : (s : Sizes) (w : World) (front slots widths rows zeros owners copie
     ++ each (store anchor) widthsAt widths ++ each (store anchor) rowsAt rows
     ++ listBelow (λ d. store logs (tailWord s d) 0) (s .disks)
     ++ each (store backups) (backupAt s 1) zeros ++ (store anchor epochWord 1 ∷ [])
-    ++ each (write pages) 0 zeros ++ (each (write work) 0 owners ++ each (write work) (epochAt s 0) copies)) w
+    ++ each (write pages) 0 zeros ++ (each (write work) 0 owners ++ each (write work) (copyAt s 0) copies)) w
     ≡ record {
       anchor = laidAnchor (w .anchor) front slots widths rows;
       pages = sets (w .pages) 0 zeros;
       backups = sets (w .backups) (backupAt s 1) zeros;
       logs = setEach (tailWord s) (λ d. 0) (s .disks) (w .logs);
-      work = sets (sets (w .work) 0 owners) (epochAt s 0) copies;
+      work = sets (sets (w .work) 0 owners) (copyAt s 0) copies;
     }
 unfolding perform act laidAnchor
 laid-world s w front slots widths rows zeros owners copies =
@@ -138,7 +138,7 @@ module _ (s : Sizes) (w : World) (b : Bounded s) (long : length (w .anchor) ≡ 
             same-word (w .backups) (backupAt s 1) (total s) 0 i (omega (arith, backup-within s 1, right .backups)) h
             ∙ sym (zero-page i h);
         pages = λ i h. zero-page i h ∙ sym (ap (λ (l : List ℕ). getD l i 0) (blank-words s) ∙ getD-replicate (total s) i 0 0 h);
-        epochs = λ p h. fresh-epoch s 1 (w .work) (right .work) p (omega (arith, b .pages-max));
+        copies = λ p h. fresh-epoch s 1 (w .work) (right .work) p (omega (arith, b .pages-max));
         owners = fresh-owner s 1 (w .work) (right .work);
         reference = refl;
         shaped = blank-shaped s;

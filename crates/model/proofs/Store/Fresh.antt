@@ -13,7 +13,7 @@ use Rattle.model.specs.Sizes.{total, slotsIn, ringOf}
 use Rattle.model.specs.Anchor.{anchorWords, epochOn, sizesOn, startOn, backupAt}
 use Rattle.model.specs.Record.{encodeAll}
 use Rattle.model.specs.World.{World}
-use Rattle.model.specs.Memory.{ownerAt, ownerOf, bufferOf, epochOf, lengthsRight}
+use Rattle.model.specs.Memory.{ownerAt, ownerOf, bufferOf, copyOf, lengthsRight}
 use Rattle.model.specs.State.{limit, places, noTable, emptyLogs, openCore, startOf, tailOf, fillOf, endOf, numberAt, placeOf, isOpen}
 use Rattle.model.specs.Causes.{tailOn}
 use Rattle.model.specs.Reference.{Reference, wordsIn, hasSet}
@@ -27,7 +27,7 @@ use Rattle.model.proofs.Ledger.State.{fresh}
 use Rattle.model.proofs.Ledger.Order.{Ordered, on, wordsOf}
 use Rattle.model.proofs.Ledger.Good.{Good, fresh-good, good-same}
 use Rattle.model.proofs.Link.Words.{Link}
-use Rattle.model.proofs.Store.View.{view, Devices, Safe, Accounts, Epochs, Sets, Owners, Served}
+use Rattle.model.proofs.Store.View.{view, Devices, Safe, Accounts, Copies, Sets, Owners, Served}
 use Rattle.model.proofs.Store.Same.{slot-lt}
 use Rattle.model.proofs.Growth.{none-buffered}
 
@@ -49,8 +49,8 @@ pub record Freshly (s : Sizes) (n : ℕ) (tails : List ℕ) (v : World) (r : Ref
   -- the current backup and the pages have the committed words
   pub backup : (i : ℕ) → i < total s → getD (v .backups) (backupAt s n + i) 0 ≡ getD (v .pages) i 0
   pub pages : (i : ℕ) → i < total s → getD (v .pages) i 0 ≡ getD (wordsIn (r .committed)) i 0
-  -- every page has copy epoch n, and no slot an owner
-  pub epochs : (p : ℕ) → p < s .pages → epochOf s (v .work) p ≡ n
+  -- every page has copy number n, and no slot an owner
+  pub copies : (p : ℕ) → p < s .pages → copyOf s (v .work) p ≡ n
   pub owners : (i : ℕ) → i < total s → getD (v .work) i 0 ≡ 0
   -- the reference has these sizes and no write set
   pub reference : r .sizes ≡ s
@@ -107,7 +107,7 @@ module _ {s : Sizes} {n : ℕ} {tails : List ℕ} {v : World} {r : Reference} (f
         pages = λ i h. refl;
         current = λ i h. sym (f .backup i h);
         other = λ i h. refl;
-        epochs = λ i h. sym (f .epochs (pageOf s i) (page-in s i h .0));
+        copies = λ i h. sym (f .copies (pageOf s i) (page-in s i h .0));
         owners = λ i h. refl;
         committed = f .pages;
         writes = λ u o. absurd (true≢false (sym o));
@@ -169,12 +169,12 @@ module _ {s : Sizes} {n : ℕ} {tails : List ℕ} {v : World} {r : Reference} (f
         numbered = tt;
       }
 
-  fresh-epochs : Epochs (openCore s n tails) v [] []
+  fresh-copies : Copies (openCore s n tails) v [] []
   unfolding openCore
-  fresh-epochs =
+  fresh-copies =
       record {
         copied = λ o. refl;
-        pages = λ p h. rw (le-ltb p 0 (omega arith)) (f .epochs p h);
+        pages = λ p h. rw (le-ltb p 0 (omega arith)) (f .copies p h);
         capped = tt;
         early = tt;
         ends = λ o. absurd (true≢false o);
@@ -209,7 +209,7 @@ module _ {s : Sizes} {n : ℕ} {tails : List ℕ} {v : World} {r : Reference} (f
               stage = refl;
               safe = fresh-safe;
               accounts = fresh-accounts;
-              epochs = fresh-epochs;
+              copies = fresh-copies;
               sets = fresh-sets;
               owners = fresh-owners;
               told = λ d h. record { old = []; all = refl };

@@ -51,7 +51,7 @@ update-slotted : (s : Sizes) (t p : ℕ) (q : Record) (rest : Scan) → WellForm
     → All (Slotted s) (updatesIn t (item p q rest))
 unfolding updatesIn
 update-slotted s t p (close kind n) rest f h = h
-update-slotted s t p (change kind page slot n epoch diff) rest f h =
+update-slotted s t p (change kind page slot n copy diff) rest f h =
     all-append (Slotted s) (updatesIn t rest) _ h (go (eqb kind updateKind && eqb n t))
   where
     go : (b : Bool) → All (Slotted s) (cond b (record { position = p; page = page; slot = slot; diff = diff } ∷ []) [])

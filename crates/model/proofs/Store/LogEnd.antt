@@ -1,4 +1,4 @@
--- The end of a disk's log: no boundary lies behind it, and an entry put there has a copy epoch in its bounds.
+-- The end of a disk's log: no boundary lies behind it, and an entry put there has a copy number in its bounds.
 use mathlib.Core.Path.{_≡_, refl, sym, subst, _∙_}
 use mathlib.Core.List.{List, [], _∷_, _++_}
 use mathlib.Core.Bool.{Bool, true, false, cond, _||_}
@@ -9,7 +9,7 @@ use lib.ListN.{length, getD}
 use borrow.Author.Tests.{ltb-true, le-ltb, eqb-true}
 use Rattle.model.specs.declared.Core.{Core}
 use Rattle.model.specs.World.{World}
-use Rattle.model.specs.Memory.{epochOf}
+use Rattle.model.specs.Memory.{copyOf}
 use Rattle.model.specs.State.{startOf, endOf}
 use Rattle.model.specs.Causes.{whenOpen}
 use Rattle.model.specs.Reference.{Reference}
@@ -31,22 +31,22 @@ boundary-to q p (r ∷ l) h = go (eqb q p) refl h (boundary-to q (p + sizeOf r) 
     go true e x ih = omega (arith, eqb-true q p e)
     go false e x ih = omega (arith, ih x, length-words r l)
 
--- An entry at the end of its disk's log, with the copy epoch of its page.
+-- An entry at the end of its disk's log, with the copy number of its page.
 module _ {x : ℕ} {home : ℕ → ℕ} {puts : List Put} {c : Core} {w : World} {r : Reference} {F B : List Entry} (g : Serving x home puts c w r F B)
-    (e : Entry) (page : ℕ) (page-lt : page < c .sizes .pages) (copy : e .epoch ≡ epochOf (c .sizes) (w .work) page) where
-  page-epoch : e .epoch ≡ cond (ltb page (c .checkpoint .copied)) (c .epoch + 1) (c .epoch)
-  page-epoch = copy ∙ g .epochs .pages page page-lt
+    (e : Entry) (page : ℕ) (page-lt : page < c .sizes .pages) (copy : e .copy ≡ copyOf (c .sizes) (w .work) page) where
+  page-copy : e .copy ≡ cond (ltb page (c .checkpoint .copied)) (c .epoch + 1) (c .epoch)
+  page-copy = copy ∙ g .copies .pages page page-lt
 
   -- the epoch is no later than the next checkpoint's
-  pub capped : e .epoch ≤ c .epoch + 1
-  capped = subst (λ (k : ℕ). k ≤ c .epoch + 1) (sym page-epoch) (go (ltb page (c .checkpoint .copied)))
+  pub capped : e .copy ≤ c .epoch + 1
+  capped = subst (λ (k : ℕ). k ≤ c .epoch + 1) (sym page-copy) (go (ltb page (c .checkpoint .copied)))
     where
       go : (b : Bool) → cond b (c .epoch + 1) (c .epoch) ≤ c .epoch + 1
       go true = omega arith
       go false = omega arith
 
   -- and with no checkpoint under way it is this one's; a checkpoint under way began before the entry
-  pub early : e .disk < c .sizes .disks → e .position ≡ endOf (c .logs) (e .disk) → before c e ≡ true → e .epoch ≤ c .epoch
+  pub early : e .disk < c .sizes .disks → e .position ≡ endOf (c .logs) (e .disk) → before c e ≡ true → e .copy ≤ c .epoch
   unfolding before
   early below at-end h = go (whenOpen (c .stage)) refl h
     where
@@ -54,8 +54,8 @@ module _ {x : ℕ} {home : ℕ → ℕ} {puts : List Put} {c : Core} {w : World}
       none k z = rw (z, le-ltb page 0 (omega arith)) (omega arith)
 
       go : (b : Bool) → whenOpen (c .stage) ≡ b → b || ltb (e .position) (getD (c .checkpoint .ends) (e .disk) 0) ≡ true
-          → e .epoch ≤ c .epoch
-      go true o y = subst (λ (k : ℕ). k ≤ c .epoch) (sym page-epoch) (none (c .checkpoint .copied) (g .epochs .copied o))
+          → e .copy ≤ c .epoch
+      go true o y = subst (λ (k : ℕ). k ≤ c .epoch) (sym page-copy) (none (c .checkpoint .copied) (g .copies .copied o))
       go false o y =
           absurd
           (omega (
@@ -63,5 +63,5 @@ module _ {x : ℕ} {home : ℕ → ℕ} {puts : List Put} {c : Core} {w : World}
             ltb-true (e .position) (getD (c .checkpoint .ends) (e .disk) 0) y,
             log-end (g .safe .link) (e .disk) below,
             boundary-to (getD (c .checkpoint .ends) (e .disk) 0) (startOf (c .logs) (e .disk)) (on (e .disk) F ++ on (e .disk) B)
-                (g .epochs .ends o (e .disk) below),
+                (g .copies .ends o (e .disk) below),
           ))

@@ -12,7 +12,7 @@ use Rattle.model.specs.declared.Core.{Core}
 use Rattle.model.specs.Sizes.{total, ringOf}
 use Rattle.model.specs.Record.{encode}
 use Rattle.model.specs.World.{World, perform, stores}
-use Rattle.model.specs.Memory.{bufferAt, epochAt, epochOf}
+use Rattle.model.specs.Memory.{bufferAt, copyAt, copyOf}
 use Rattle.model.specs.State.{limit, startOf, fillOf, endOf, withLog}
 use Rattle.model.specs.Append.{Appended, append}
 use Rattle.model.specs.Reference.{Reference}
@@ -24,9 +24,9 @@ use Rattle.model.proofs.Ledger.Order.{Ordered, sizeOf, wordsOf, on}
 use Rattle.model.proofs.Ledger.Ordered.{ordered-append}
 use Rattle.model.proofs.Ledger.Good.{Good}
 use Rattle.model.proofs.Link.Words.{Fit, Link, lengths-perform, arrays-longer, log-end}
-use Rattle.model.proofs.Link.Buffered.{InBuffer, epochs-same, link-frame}
+use Rattle.model.proofs.Link.Buffered.{InBuffer, copies-same, link-frame}
 use Rattle.model.proofs.Link.Append.{entry-longer, append-in-buffer, append-room, room-stores}
-use Rattle.model.proofs.Store.View.{view, Devices, Safe, Epochs, before}
+use Rattle.model.proofs.Store.View.{view, Devices, Safe, Copies, before}
 use Rattle.model.proofs.Store.Flush.{lengths-same, devices-kept}
 use Rattle.model.proofs.Growth.{Small, Longer}
 use Rattle.model.proofs.Store.OneMore.{all-more, boundary-logged}
@@ -133,15 +133,15 @@ module _ {x : ℕ} {home : ℕ → ℕ} {c : Core} {w : World} {r : Reference} {
           shaped = shaped;
         }
 
-    -- copy epochs, where none was written
-    pub epochs-written : Epochs c w F B → ((i : ℕ) → bufferAt (c .sizes) (c .sizes .disks) ≤ i → getD (u .work) i 0 ≡ getD (loggedWorld .work) i 0)
-        → (isClose e ≡ false → e .epoch ≤ c .epoch + 1) → (before c e ≡ true → isClose e ≡ false → e .epoch ≤ c .epoch)
-        → (t : Table) → Epochs (withLog c (logged .logs) t) u F (B ++ e ∷ [])
-    unfolding withLog before epochOf epochAt
-    epochs-written h same capped early t =
+    -- copy numbers, where none was written
+    pub copies-written : Copies c w F B → ((i : ℕ) → bufferAt (c .sizes) (c .sizes .disks) ≤ i → getD (u .work) i 0 ≡ getD (loggedWorld .work) i 0)
+        → (isClose e ≡ false → e .copy ≤ c .epoch + 1) → (before c e ≡ true → isClose e ≡ false → e .copy ≤ c .epoch)
+        → (t : Table) → Copies (withLog c (logged .logs) t) u F (B ++ e ∷ [])
+    unfolding withLog before copyOf copyAt
+    copies-written h same capped early t =
         record {
           copied = h .copied;
-          pages = λ p l. same _ (omega arith) ∙ epochs-same in-buffer _ (may .below) (omega arith) ∙ h .pages p l;
+          pages = λ p l. same _ (omega arith) ∙ copies-same in-buffer _ (may .below) (omega arith) ∙ h .pages p l;
           capped = all-more _ F B e (h .capped) capped;
           early = all-more _ F B e (h .early) early;
           ends = λ o d l. rw (longer .start-same d) (boundary-logged _ _ d F B e (h .ends o d l));

@@ -12,7 +12,7 @@ use Rattle.model.specs.declared.Core.{Core}
 use Rattle.model.specs.Sizes.{total}
 use Rattle.model.specs.World.{World}
 use Rattle.model.specs.Record.{Record}
-use Rattle.model.specs.Memory.{epochOf}
+use Rattle.model.specs.Memory.{copyOf}
 use Rattle.model.specs.State.{places, startOf, numberAt, firstAt, reservedAt, hasUpdate, placeOf, isOpen}
 use Rattle.model.specs.Causes.{whenOpen}
 use Rattle.model.specs.Checkpoint.{newStart}
@@ -136,7 +136,7 @@ module _ {home : ℕ → ℕ} {puts : List Put} {c : Core} {w : World} {r : Refe
       go : (newStart c d ≡ markOf c d)
           ⊎ ((i : ℕ) × (i < places) × Holds (c .table) d i × (newStart c d ≡ firstAt (c .table) i))
           → boundary (newStart c d) (startOf (c .logs) d) (on d F) ≡ true
-      go (inl e) = rw (e, ← flat-on d) (g .epochs .ends copying d h)
+      go (inl e) = rw (e, ← flat-on d) (g .copies .ends copying d h)
       go (inr x) =
           let i : ℕ = x .0 in
           let t : ℕ = numberAt (c .table) i in
@@ -199,12 +199,12 @@ module _ {home : ℕ → ℕ} {puts : List Put} {c : Core} {w : World} {r : Refe
         opened = all-map (λ e h o. h o .first) F own-entries;
         settled = all-map (λ e h o. rw (append-nil F) at (h o)) F (flat _ (g .accounts .settled));
         early = all-map (λ e h l. h (rw (copying, lt-ltb (e .position) (getD (c .checkpoint .ends) (e .disk) 0) l))) F
-            (flat _ (g .epochs .early));
+            (flat _ (g .copies .early));
       }
 
-  -- every page has the checkpoint's copy epoch
-  pub page-copied : (p : ℕ) → p < c .sizes .pages → epochOf (c .sizes) (w .work) p ≡ c .epoch + 1
-  page-copied p h = rw (lt-ltb p (c .checkpoint .copied) (omega arith)) at (g .epochs .pages p h)
+  -- every page has the checkpoint's copy number
+  pub page-copied : (p : ℕ) → p < c .sizes .pages → copyOf (c .sizes) (w .work) p ≡ c .epoch + 1
+  page-copied p h = rw (lt-ltb p (c .checkpoint .copied) (omega arith)) at (g .copies .pages p h)
 
   -- the last store may be made
   pub may : MaySwitch (total (c .sizes)) (view c w r F []) (keptFrom (newStart c))

@@ -17,7 +17,7 @@ use Rattle.model.specs.Word.{part}
 use Rattle.model.specs.Sizes.{pageBase, pageWords, total}
 use Rattle.model.specs.Anchor.{backupAt}
 use Rattle.model.specs.World.{World, backups, store, act, perform, each}
-use Rattle.model.specs.Memory.{bufferAt, epochAt, bufferOf, epochOf, workWords}
+use Rattle.model.specs.Memory.{bufferAt, copyAt, bufferOf, copyOf, workWords}
 use Rattle.model.specs.State.{sound}
 use Rattle.model.specs.Refusal.{accepted, verdict}
 use Rattle.model.specs.Causes.{whenCopying}
@@ -95,7 +95,7 @@ module _ {c : Core} {w : World} (ok : verdict (checkpointStepRows c w) ≡ accep
         pages = w .pages;
         backups = sets (w .backups) at words;
         logs = w .logs;
-        work = set (w .work) (epochAt (c .sizes) page) (c .epoch + 1);
+        work = set (w .work) (copyAt (c .sizes) page) (c .epoch + 1);
       }
 
   pub stepped : perform (checkpointStepTask c w .actions) w ≡ after
@@ -142,24 +142,24 @@ module _ {c : Core} {w : World} (ok : verdict (checkpointStepRows c w) ≡ accep
       go (inl l) = sym (getD-sets-before (w .backups) at words _ (omega arith))
       go (inr l) = sym (getD-sets-behind (w .backups) at words _ (omega (arith, size-words, fits)))
 
-  epoch-within : epochAt (c .sizes) page < length (w .work)
-  unfolding workWords epochAt
+  epoch-within : copyAt (c .sizes) page < length (w .work)
+  unfolding workWords copyAt
   epoch-within = omega (arith, lengths .work, page-lt, devices .bounds .pages-max)
 
-  -- the copy epoch of the page, and of the others
-  pub epoch-page : epochOf (c .sizes) (after .work) page ≡ c .epoch + 1
-  unfolding epochOf
-  epoch-page = getD-set-same (w .work) (epochAt (c .sizes) page) (c .epoch + 1) 0 epoch-within
+  -- the copy number of the page, and of the others
+  pub epoch-page : copyOf (c .sizes) (after .work) page ≡ c .epoch + 1
+  unfolding copyOf
+  epoch-page = getD-set-same (w .work) (copyAt (c .sizes) page) (c .epoch + 1) 0 epoch-within
 
-  pub epoch-other : (q : ℕ) → (q ≡ page → ⊥) → epochOf (c .sizes) (after .work) q ≡ epochOf (c .sizes) (w .work) q
-  unfolding epochOf epochAt
-  epoch-other q ne = getD-set-other (w .work) (epochAt (c .sizes) page) (epochAt (c .sizes) q) (c .epoch + 1) 0 (omega arith)
+  pub epoch-other : (q : ℕ) → (q ≡ page → ⊥) → copyOf (c .sizes) (after .work) q ≡ copyOf (c .sizes) (w .work) q
+  unfolding copyOf copyAt
+  epoch-other q ne = getD-set-other (w .work) (copyAt (c .sizes) page) (copyAt (c .sizes) q) (c .epoch + 1) 0 (omega arith)
 
   pub owner-word : (i : ℕ) → i < total (c .sizes) → getD (after .work) i 0 ≡ getD (w .work) i 0
-  unfolding epochAt bufferAt
-  owner-word i h = getD-set-other (w .work) (epochAt (c .sizes) page) i (c .epoch + 1) 0 (omega arith)
+  unfolding copyAt bufferAt
+  owner-word i h = getD-set-other (w .work) (copyAt (c .sizes) page) i (c .epoch + 1) 0 (omega arith)
 
   pub buffer-words : (d fill : ℕ) → d < c .sizes .disks → fill ≤ 64 → bufferOf (c .sizes) (after .work) d fill ≡ bufferOf (c .sizes) (w .work) d fill
-  unfolding bufferOf epochAt bufferAt
+  unfolding bufferOf copyAt bufferAt
   buffer-words d fill h f =
-      part-sets-before (bufferAt (c .sizes) d) fill (w .work) (epochAt (c .sizes) page) ((c .epoch + 1) ∷ []) (omega arith)
+      part-sets-before (bufferAt (c .sizes) d) fill (w .work) (copyAt (c .sizes) page) ((c .epoch + 1) ∷ []) (omega arith)

@@ -12,7 +12,7 @@ use Rattle.model.specs.Word.{_⊕_}
 use Rattle.model.specs.Sizes.{total, ringOf}
 use Rattle.model.specs.Record.{encode}
 use Rattle.model.specs.World.{World, Action, perform, stores, run}
-use Rattle.model.specs.Memory.{bufferAt, epochOf}
+use Rattle.model.specs.Memory.{bufferAt, copyOf}
 use Rattle.model.specs.State.{limit, startOf, endOf, withLog, isOpen, placeOf, firstAt, hasUpdate}
 use Rattle.model.specs.Append.{Appended, append}
 use Rattle.model.specs.Transaction.{diskOf}
@@ -30,10 +30,10 @@ use Rattle.model.proofs.Ledger.Good.{Good, good-same}
 use Rattle.model.proofs.Link.Words.{Fit, log-end}
 use Rattle.model.proofs.Link.Buffered.{InBuffer}
 use Rattle.model.proofs.Link.Append.{entry-longer, append-in-buffer}
-use Rattle.model.proofs.Store.View.{Kept, view, Safe, Accounts, Epochs, Since, Serving, before, open-used}
+use Rattle.model.proofs.Store.View.{Kept, view, Safe, Accounts, Copies, Since, Serving, before, open-used}
 use Rattle.model.proofs.Store.Ready.{Ready, ready, ready-sums}
 use Rattle.model.proofs.Store.LogEnd.{boundary-to}
-use Rattle.model.proofs.Store.Logged.{Written, logged, logged-stores, safe-written, epochs-written, MayLog}
+use Rattle.model.proofs.Store.Logged.{Written, logged, logged-stores, safe-written, copies-written, MayLog}
 use Rattle.model.proofs.Growth.{Small, Longer}
 use Rattle.model.proofs.Store.OneMore.{told-more, boundary-logged}
 use Rattle.model.proofs.Store.Entered.{accounts-logged}
@@ -92,7 +92,7 @@ module _ {x : ℕ} {home : ℕ → ℕ} {puts : List Put} {c : Core} {w : World}
 
   -- the ledger before the entry
   pub made-good : Good x (total (c .sizes)) (view c w r F1 B1)
-  unfolding view withLog epochOf
+  unfolding view withLog copyOf
   made-good = good-same same (serving1 .safe .good)
     where
       same : Same (total s) (view c1 w1 r F1 B1) (view c w r F1 B1)
@@ -103,7 +103,7 @@ module _ {x : ℕ} {home : ℕ → ℕ} {puts : List Put} {c : Core} {w : World}
             pages = λ i h. rw (made .only .pages-same);
             current = λ i h. rw (made .only .backups-same);
             other = λ i h. rw (made .only .backups-same);
-            epochs = λ i h. rw (made .only .work-same);
+            copies = λ i h. rw (made .only .work-same);
             owners = λ i h. rw (made .only .work-same);
             committed = λ i h. refl;
             writes = λ u h. refl;
@@ -193,13 +193,13 @@ module _ {x : ℕ} {home : ℕ → ℕ} {puts : List Put} {c : Core} {w : World}
         rw put-logs
         (safe-written (serving1 .safe) e may1 written1 y t q sizes shaped (rw put-logs at good))
 
-    pub put-epochs : ((i : ℕ) → bufferAt (c .sizes) (c .sizes .disks) ≤ i → getD (u .work) i 0 ≡ getD (perform (put .actions) w .work) i 0)
-        → (isClose e ≡ false → e .epoch ≤ c .epoch + 1) → (before c e ≡ true → isClose e ≡ false → e .epoch ≤ c .epoch)
-        → (t : Table) → Epochs (withLog c (put .logs) t) u F1 (B1 ++ e ∷ [])
+    pub put-copies : ((i : ℕ) → bufferAt (c .sizes) (c .sizes .disks) ≤ i → getD (u .work) i 0 ≡ getD (perform (put .actions) w .work) i 0)
+        → (isClose e ≡ false → e .copy ≤ c .epoch + 1) → (before c e ≡ true → isClose e ≡ false → e .copy ≤ c .epoch)
+        → (t : Table) → Copies (withLog c (put .logs) t) u F1 (B1 ++ e ∷ [])
     unfolding withLog before
-    put-epochs same capped early t =
+    put-copies same capped early t =
         rw put-logs
-        (epochs-written (serving1 .safe) e may1 written1 (serving1 .epochs) (rw put-world at same) capped early t)
+        (copies-written (serving1 .safe) e may1 written1 (serving1 .copies) (rw put-world at same) capped early t)
 
   -- An entry of transaction x more, where the table knows of an earlier one.
   pub put-own : hasUpdate (c .table) (placeOf (c .table) (e .number)) ≡ true → e .number ≡ x

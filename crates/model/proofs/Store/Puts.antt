@@ -13,7 +13,7 @@ use Rattle.model.specs.declared.Sizes.{Sizes}
 use Rattle.model.specs.Below.{joinBelow, listBelow}
 use Rattle.model.specs.Sizes.{total}
 use Rattle.model.specs.World.{World, Device, Action, store, anchor, logs, cost, act, perform, stores, covered, run}
-use Rattle.model.specs.Memory.{bufferAt, epochAt, workWords, epochOf, freshWork, lengthsRight}
+use Rattle.model.specs.Memory.{bufferAt, copyAt, workWords, copyOf, freshWork, lengthsRight}
 use Rattle.model.proofs.Below.{below-suc}
 use Rattle.model.proofs.Run.{perform-append, covered-append, covered-cut, covered-all}
 use Rattle.model.proofs.Lengths.{Lengths}
@@ -83,23 +83,23 @@ same-word l i n x k fits h =
     let long : length (replicate n x) ≡ n = length-replicate n x in
     getD-sets-inside l i (replicate n x) k (omega (arith, long)) (omega (arith, long)) ∙ getD-replicate n k x 0 h
 
--- the copy epoch of every page, read from the fresh memory
-pub fresh-epoch : (s : Sizes) (epoch : ℕ) (l : List ℕ) → length l ≡ workWords s → (p : ℕ) → p < 64
-    → epochOf s (freshWork s epoch l) p ≡ epoch
-unfolding freshWork epochOf epochAt workWords
-fresh-epoch s epoch l long p h =
+-- the copy number of every page, read from the fresh memory
+pub fresh-epoch : (s : Sizes) (copy : ℕ) (l : List ℕ) → length l ≡ workWords s → (p : ℕ) → p < 64
+    → copyOf s (freshWork s copy l) p ≡ copy
+unfolding freshWork copyOf copyAt workWords
+fresh-epoch s copy l long p h =
     let owners : List ℕ = replicate (total s) 0 in
-    let here : epochAt s p ≡ epochAt s 0 + p = omega arith in
-    ap (λ (i : ℕ). getD (sets (sets l 0 owners) (epochAt s 0) (replicate 64 epoch)) i 0) here
-    ∙ same-word (sets l 0 owners) (epochAt s 0) 64 epoch p (omega (arith, length-sets l 0 owners)) h
+    let here : copyAt s p ≡ copyAt s 0 + p = omega arith in
+    ap (λ (i : ℕ). getD (sets (sets l 0 owners) (copyAt s 0) (replicate 64 copy)) i 0) here
+    ∙ same-word (sets l 0 owners) (copyAt s 0) 64 copy p (omega (arith, length-sets l 0 owners)) h
 
 -- no slot has an owner there
-pub fresh-owner : (s : Sizes) (epoch : ℕ) (l : List ℕ) → length l ≡ workWords s → (i : ℕ) → i < total s → getD (freshWork s epoch l) i 0 ≡ 0
-unfolding freshWork epochAt bufferAt workWords
-fresh-owner s epoch l long i h =
+pub fresh-owner : (s : Sizes) (copy : ℕ) (l : List ℕ) → length l ≡ workWords s → (i : ℕ) → i < total s → getD (freshWork s copy l) i 0 ≡ 0
+unfolding freshWork copyAt bufferAt workWords
+fresh-owner s copy l long i h =
     let owners : List ℕ = replicate (total s) 0 in
     let many : length owners ≡ total s = length-replicate (total s) 0 in
-    getD-sets-before (sets l 0 owners) (epochAt s 0) (replicate 64 epoch) i (omega arith)
+    getD-sets-before (sets l 0 owners) (copyAt s 0) (replicate 64 copy) i (omega arith)
     ∙ first-word l owners i (omega arith) (omega arith)
     ∙ getD-replicate (total s) i 0 0 h
 

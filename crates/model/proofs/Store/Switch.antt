@@ -12,7 +12,7 @@ use Rattle.model.specs.declared.Core.{Core}
 use Rattle.model.specs.Word.{part}
 use Rattle.model.specs.Sizes.{total, ringOf, ringWord}
 use Rattle.model.specs.World.{World}
-use Rattle.model.specs.Memory.{epochOf, bufferOf}
+use Rattle.model.specs.Memory.{copyOf, bufferOf}
 use Rattle.model.specs.State.{limit, startOf, tailOf, fillOf, endOf, hasUpdate, placeOf, isOpen, noCheckpoint}
 use Rattle.model.specs.Causes.{whenOpen, tailOn}
 use Rattle.model.specs.Checkpoint.{perDisk, newStart}
@@ -33,7 +33,7 @@ use Rattle.model.proofs.Ledger.Good.{good-same}
 use Rattle.model.proofs.Ledger.Checkpoint.{switch-good}
 use Rattle.model.proofs.Ledger.Switch.{placed-kept}
 use Rattle.model.proofs.Link.Words.{Link}
-use Rattle.model.proofs.Store.View.{view, Devices, Safe, Accounts, Epochs, Since, Serving, before}
+use Rattle.model.proofs.Store.View.{view, Devices, Safe, Accounts, Copies, Since, Serving, before}
 use Rattle.model.proofs.Store.Same.{sets-same, owners-same}
 use Rattle.model.proofs.Store.Flush.{lengths-same}
 use Rattle.model.proofs.Store.NewStarts.{firstOf, boundary-later, since-later, first-boundary, new-boundary, start-early, first-stays, reserved-stays, placed, page-copied, may}
@@ -112,7 +112,7 @@ module _ {home : ℕ → ℕ} {puts : List Put} {c : Core} {w : World} {r : Refe
         }
 
     same : Same (total (c .sizes)) (switched (view c w r F []) kept) (view now v r (pick kept F) [])
-    unfolding view switched epochOf
+    unfolding view switched copyOf
     same =
         record {
           epoch = refl;
@@ -120,7 +120,7 @@ module _ {home : ℕ → ℕ} {puts : List Put} {c : Core} {w : World} {r : Refe
           pages = λ i h. rw (moved .pages-same);
           current = λ i h. rw (moved .backups-same);
           other = λ i h. rw (moved .backups-same, backup-back (c .sizes) (c .epoch));
-          epochs = λ i h. rw (moved .work-same);
+          copies = λ i h. rw (moved .work-same);
           owners = λ i h. rw (moved .work-same);
           committed = λ i h. refl;
           writes = λ u h. refl;
@@ -211,14 +211,14 @@ module _ {home : ℕ → ℕ} {puts : List Put} {c : Core} {w : World} {r : Refe
           numbered = thin _ (g .accounts .numbered);
         }
 
-    epochs : Epochs now v (pick kept F) []
-    unfolding epochOf before
-    epochs =
+    copies : Copies now v (pick kept F) []
+    unfolding copyOf before
+    copies =
         record {
           copied = λ o. refl;
           pages = λ p h. rw (moved .work-same, le-ltb p 0 (omega arith)) (page-copied g copying copied p h);
-          capped = thin _ (all-map (λ e h k. omega (arith, h k)) (F ++ []) (g .epochs .capped));
-          early = thin _ (all-map (λ e h b k. h k) (F ++ []) (g .epochs .capped));
+          capped = thin _ (all-map (λ e h k. omega (arith, h k)) (F ++ []) (g .copies .capped));
+          early = thin _ (all-map (λ e h b k. h k) (F ++ []) (g .copies .capped));
           ends = λ o. true-false refl o;
         }
 
@@ -236,7 +236,7 @@ module _ {home : ℕ → ℕ} {puts : List Put} {c : Core} {w : World} {r : Refe
           stage = refl;
           safe = safe;
           accounts = accounts;
-          epochs = epochs;
+          copies = copies;
           sets = sets-same refl refl (g .sets);
           owners = owners-same (g .safe .devices .bounds) refl refl refl (λ i h. rw (moved .work-same)) (g .owners);
           told = told;

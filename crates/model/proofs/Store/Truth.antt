@@ -59,8 +59,8 @@ log-of m r g d below =
     let B = on d (g .buffered) in
     record {
       old = s .told d below .old;
-      flushed = map recordOf F;
-      buffered = map recordOf B;
+      inRing = map recordOf F;
+      inBuffer = map recordOf B;
       parts = s .told d below .all ∙ ap (λ (l : List Record). s .told d below .old ++ l) (map-append recordOf F B);
       words = retained (s .safe .link) d below (s .safe .devices .starts d below);
       buffer = s .safe .link .buffer d below;
@@ -200,5 +200,5 @@ truth m r g =
       tails = s .safe .link .stored;
       reserved = reserved-true s;
       first = first-true s;
-      pages = s .epochs .pages;
+      pages = s .copies .pages;
     }

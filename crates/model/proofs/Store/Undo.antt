@@ -45,7 +45,7 @@ module _ {t : ℕ} {home : ℕ → ℕ} {c : Core} {w : World} {r : Reference} {
         starts = λ e. refl;
         ends = omega arith;
         small = small;
-        epochs = λ page. refl;
+        copies = λ page. refl;
         cut = λ k h. absurd (omega arith);
       }
 
@@ -63,7 +63,7 @@ module _ {t : ℕ} {home : ℕ → ℕ} {c : Core} {w : World} {r : Reference} {
         starts = λ e. b .starts e ∙ a .starts e;
         ends = omega (arith, a .ends, b .ends);
         small = b .small;
-        epochs = λ page. rw (perform-append (one .actions) (rest .actions) w) (b .epochs page ∙ a .epochs page);
+        copies = λ page. rw (perform-append (one .actions) (rest .actions) w) (b .copies page ∙ a .copies page);
         cut = λ k l. cut k l (decLt k (stores (one .actions)));
       }
     where
@@ -73,11 +73,11 @@ module _ {t : ℕ} {home : ℕ → ℕ} {c : Core} {w : World} {r : Reference} {
           rw (run-append k (one .actions) (rest .actions) w (omega arith))
           (b .cut (k - stores (one .actions)) (omega (arith, stores-append (one .actions) (rest .actions))))
 
-  -- compensations leave copy epochs as they are, so they do not change the records of the next ones
+  -- compensations leave copy numbers as they are, so they do not change the records of the next ones
   same-compensations : {after : List Put} {d n : ℕ} {f : ℕ → ℕ} {one : Appended} → Compensated t home after c w r F B d n f one → (us : List Update)
       → compensations (withLog c (one .logs) (c .table)) (perform (one .actions) w) t us ≡ compensations c w t us
   unfolding compensation withLog diskOf
-  same-compensations a us = ap (λ (f : Update → Put). map f us) (fun-ext (λ u. rw (a .epochs (u .page))))
+  same-compensations a us = ap (λ (f : Update → Put). map f us) (fun-ext (λ u. rw (a .copies (u .page))))
 
   -- the first of some updates and then the others
   first-undone : {d m n : ℕ} {f h : ℕ → ℕ} {one rest : Appended} (puts : List Put) (u : Update) (us : List Update)

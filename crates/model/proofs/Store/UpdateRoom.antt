@@ -15,7 +15,7 @@ use Rattle.model.specs.Word.{_⊕_, xors}
 use Rattle.model.specs.Sizes.{slotsIn, widthIn, slotBase, total}
 use Rattle.model.specs.Record.{encode}
 use Rattle.model.specs.World.{World}
-use Rattle.model.specs.Memory.{bufferAt, epochAt, workWords, ownerAt, ownerOf, epochOf}
+use Rattle.model.specs.Memory.{bufferAt, copyAt, workWords, ownerAt, ownerOf, copyOf}
 use Rattle.model.specs.State.{endOf, withLog, isOpen, placeOf, reservedAt}
 use Rattle.model.specs.Transaction.{diskOf, slotWords}
 use Rattle.model.specs.Reference.{Reference, Write, writesOf, added, withSets}
@@ -32,7 +32,7 @@ use Rattle.model.proofs.Ledger.Order.{sizeOf}
 use Rattle.model.proofs.Ledger.Good.{Good, good-same}
 use Rattle.model.proofs.Ledger.Update.{MayUpdate, adds-in, adds-out, update-good}
 use Rattle.model.proofs.Link.Words.{Fit}
-use Rattle.model.proofs.Link.Buffered.{InBuffer, owners-same, epochs-same}
+use Rattle.model.proofs.Link.Buffered.{InBuffer, owners-same, copies-same}
 use Rattle.model.proofs.Store.View.{view, Serving}
 use Rattle.model.proofs.Parts.{length-part, getD-part, getD-sets-in, spanning-true, getD-sets-outside}
 
@@ -56,7 +56,7 @@ updateEntry c w number page slot value =
       page = page;
       slot = slot;
       number = number;
-      epoch = epochOf (c .sizes) (w .work) page;
+      copy = copyOf (c .sizes) (w .work) page;
       at = slotBase (c .sizes) page slot;
       diff = xors (slotWords c w page slot) value;
     }
@@ -153,7 +153,7 @@ module _ {home : ℕ → ℕ} {puts : List Put} {c : Core} {w : World} {r : Refe
         lengths = diff-width;
         differs = λ i l h. differs i h;
         free = λ i l h u o ne owns. may .free u o ne (owns ∙ ap (λ (k : ℕ). getD (w .work) k 0) (here i h .0));
-        copy = λ i l h. ap (epochOf s (w .work)) (here i h .1);
+        copy = λ i l h. ap (copyOf s (w .work)) (here i h .1);
       }
 
   -- The world v after the record is buffered, and a table with the same transactions.
@@ -174,18 +174,18 @@ module _ {home : ℕ → ℕ} {puts : List Put} {c : Core} {w : World} {r : Refe
             ap (λ (x : ℕ). getD (w .pages) i 0 ⊕ x) (adds-out i e (rw diff-width h)) ∙ ⊕-zero-r (getD (w .pages) i 0)
             ∙ sym (getD-sets-outside (w .pages) at value i h)
 
-    -- an owner or a copy epoch other than the slot's owner
+    -- an owner or a copy number other than the slot's owner
     work-other : (j : ℕ) → (j ≡ at → ⊥) → getD (set (v .work) at number) j 0 ≡ getD (v .work) j 0
     work-other j ne = getD-set-other (v .work) at j number 0 ne
 
-    epochs-after : (p : ℕ) → epochOf s (w .work) p ≡ epochOf s (set (v .work) at number) p
-    unfolding epochOf epochAt bufferAt
-    epochs-after p =
-        sym (work-other (epochAt s p) (λ x. omega (arith, at-lt)) ∙ epochs-same k (epochAt s p) (may .disk) (omega arith))
+    copies-after : (p : ℕ) → copyOf s (w .work) p ≡ copyOf s (set (v .work) at number) p
+    unfolding copyOf copyAt bufferAt
+    copies-after p =
+        sym (work-other (copyAt s p) (λ x. omega (arith, at-lt)) ∙ copies-same k (copyAt s p) (may .disk) (omega arith))
 
     owners-after : (i : ℕ) → i < total s
         → cond (spanning at (length value) i) number (getD (w .work) (slotStart s i) 0) ≡ getD (set (v .work) at number) (slotStart s i) 0
-    unfolding workWords epochAt bufferAt
+    unfolding workWords copyAt bufferAt
     owners-after i l = go (spanning at (length value) i) refl
       where
         go : (b : Bool) → spanning at (length value) i ≡ b
@@ -223,7 +223,7 @@ module _ {home : ℕ → ℕ} {puts : List Put} {c : Core} {w : World} {r : Refe
           pages = λ i l. pages-after i;
           current = λ i l. rw (k .backups-same);
           other = λ i l. rw (k .backups-same);
-          epochs = λ i l. epochs-after (pageOf s i);
+          copies = λ i l. copies-after (pageOf s i);
           owners = owners-after;
           committed = λ i l. refl;
           writes = λ n o. writes-after n;

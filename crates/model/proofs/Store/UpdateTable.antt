@@ -1,4 +1,4 @@
--- An update whose record fits the buffer keeps what holds of an open store: the table of transactions, the copy epochs, the write sets.
+-- An update whose record fits the buffer keeps what holds of an open store: the table of transactions, the copy numbers, the write sets.
 use mathlib.Core.Path.{_≡_, refl, sym, ap, _∙_}
 use mathlib.Core.List.{List, [], _∷_, _++_, append-assoc}
 use mathlib.Core.Bool.{Bool, true, false, cond, _&&_, _||_, or-true}
@@ -14,7 +14,7 @@ use Rattle.model.specs.declared.Core.{Core}
 use Rattle.model.specs.Sizes.{slotBase, total, ringOf}
 use Rattle.model.specs.Record.{encode}
 use Rattle.model.specs.World.{World, perform}
-use Rattle.model.specs.Memory.{bufferAt, epochAt, workWords}
+use Rattle.model.specs.Memory.{bufferAt, copyAt, workWords}
 use Rattle.model.specs.State.{places, limit, startOf, fillOf, endOf, withLog, isOpen, placeOf, numberAt, diskAtPlace, firstAt, reservedAt, hasUpdate, withPlace}
 use Rattle.model.specs.Append.{Appended, append}
 use Rattle.model.specs.Transaction.{diskOf}
@@ -33,7 +33,7 @@ use Rattle.model.proofs.Ledger.Positions.{boundary-end}
 use Rattle.model.proofs.Link.Words.{log-end}
 use Rattle.model.proofs.Link.Buffered.{InBuffer, owners-same}
 use Rattle.model.proofs.Store.View.{Sets, Owners, Serving, open-used}
-use Rattle.model.proofs.Store.Logged.{Written, in-buffer, safe-written, epochs-written, MayLog}
+use Rattle.model.proofs.Store.Logged.{Written, in-buffer, safe-written, copies-written, MayLog}
 use Rattle.model.proofs.Store.LogEnd.{boundary-to, capped, early}
 use Rattle.model.proofs.Store.UpdateRoom.{Allowed, updateEntry, slotChanged, noted, at-lt, update-size, update-fit, update-unclosed, good-updated}
 use Rattle.model.proofs.Store.UpdateOwners.{fits-added, owners-updated}
@@ -225,7 +225,7 @@ module _ {home : ℕ → ℕ} {puts : List Put} {c : Core} {w : World} {r : Refe
       }
 
   owners-after : Owners updatedCore changed (noted r number page slot value)
-  unfolding withLog workWords epochAt bufferAt
+  unfolding withLog workWords copyAt bufferAt
   owners-after =
       owners-updated (g .owners) (g .safe .devices .bounds) number page slot value may (sym (g .sets .has number) ∙ may .opened) (open-used (g .safe) number (may .opened) .1)
       bufferedWorld (omega (arith, long)) (owners-same buffer) updatedCore refl refl same-open
@@ -240,8 +240,8 @@ module _ {home : ℕ → ℕ} {puts : List Put} {c : Core} {w : World} {r : Refe
             (g .safe .sizes) (g .safe .shaped)
             (good-updated g number page slot value may bufferedWorld buffer long t same-open _);
         accounts = accounts-logged (g .safe) e loggable (g .accounts) t entered (open-used (g .safe) number (may .opened) .1);
-        epochs =
-            epochs-written (g .safe) e loggable written (g .epochs)
+        copies =
+            copies-written (g .safe) e loggable written (g .copies)
             (λ i h. other-word i (omega arith)) (λ o. capped g e page (may .page-lt) refl) (λ h o. early g e page (may .page-lt) refl (may .disk) refl h) t;
         sets = sets-after;
         owners = owners-after;

@@ -11,7 +11,7 @@ use Rattle.model.specs.declared.Core.{Core}
 use Rattle.model.specs.Sizes.{total, slotsIn, ringOf, sizesInBounds}
 use Rattle.model.specs.Anchor.{anchorWords, epochOn, sizesOn, startOn, backupAt}
 use Rattle.model.specs.World.{World}
-use Rattle.model.specs.Memory.{ownerOf, epochOf, lengthsRight}
+use Rattle.model.specs.Memory.{ownerOf, copyOf, lengthsRight}
 use Rattle.model.specs.State.{limit, startOf, endOf, isOpen, placeOf, firstAt, reservedAt, hasUpdate}
 use Rattle.model.specs.Causes.{whenOpen, whenServing, tailOn, retained}
 use Rattle.model.specs.Transaction.{diskOf}
@@ -65,7 +65,7 @@ view c w r F B =
       pages = λ i. getD (w .pages) i 0;
       current = λ i. getD (w .backups) (backupAt (c .sizes) (c .epoch) + i) 0;
       other = λ i. getD (w .backups) (backupAt (c .sizes) (c .epoch + 1) + i) 0;
-      epochs = λ i. epochOf (c .sizes) (w .work) (pageOf (c .sizes) i);
+      copies = λ i. copyOf (c .sizes) (w .work) (pageOf (c .sizes) i);
       owners = λ i. getD (w .work) (slotStart (c .sizes) i) 0;
       committed = λ i. getD (wordsIn (r .committed)) i 0;
       writes = λ u. map (patchOf (c .sizes)) (writesOf u (r .writeSets));
@@ -129,13 +129,13 @@ pub record Accounts (x : ℕ) (home : ℕ → ℕ) (c : Core) (F B : List Entry)
 unfoldable pub before : Core → Entry → Bool
 before c e = whenOpen (c .stage) || ltb (e .position) (getD (c .checkpoint .ends) (e .disk) 0)
 
--- The checkpoint under way, and copy epochs.
-pub record Epochs (c : Core) (w : World) (F B : List Entry) : Type 0 where
+-- The checkpoint under way, and copy numbers.
+pub record Copies (c : Core) (w : World) (F B : List Entry) : Type 0 where
   pub copied : whenOpen (c .stage) ≡ true → c .checkpoint .copied ≡ 0
   pub pages : (p : ℕ) → p < c .sizes .pages
-      → epochOf (c .sizes) (w .work) p ≡ cond (ltb p (c .checkpoint .copied)) (c .epoch + 1) (c .epoch)
-  pub capped : All (λ e. isClose e ≡ false → e .epoch ≤ c .epoch + 1) (F ++ B)
-  pub early : All (λ e. before c e ≡ true → isClose e ≡ false → e .epoch ≤ c .epoch) (F ++ B)
+      → copyOf (c .sizes) (w .work) p ≡ cond (ltb p (c .checkpoint .copied)) (c .epoch + 1) (c .epoch)
+  pub capped : All (λ e. isClose e ≡ false → e .copy ≤ c .epoch + 1) (F ++ B)
+  pub early : All (λ e. before c e ≡ true → isClose e ≡ false → e .copy ≤ c .epoch) (F ++ B)
   pub ends : whenOpen (c .stage) ≡ false → (d : ℕ) → d < c .sizes .disks
       → boundary (getD (c .checkpoint .ends) d 0) (startOf (c .logs) d) (on d F ++ on d B) ≡ true
 
@@ -163,7 +163,7 @@ pub record Serving (x : ℕ) (home : ℕ → ℕ) (puts : List Put) (c : Core) (
   pub stage : whenServing (c .stage) ≡ true
   pub safe : Safe x home c w r F B
   pub accounts : Accounts x home c F B
-  pub epochs : Epochs c w F B
+  pub copies : Copies c w F B
   pub sets : Sets c r
   pub owners : Owners c w r
   pub told : (d : ℕ) → d < c .sizes .disks → Since (recordsOn d puts) (on d F ++ on d B)

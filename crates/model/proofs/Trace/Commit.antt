@@ -21,7 +21,7 @@ use Rattle.model.specs.Call.{commit}
 use Rattle.model.specs.Reference.{taken, interrupted, outcomeOf}
 use Rattle.model.specs.Machine.{Machine, result}
 use Rattle.model.specs.Promise.{coversCommit, CommitPoint, CommitPoints, Truth, StateTrue}
-use Rattle.model.specs.Trace.{reached, begins, AlwaysInCode, CommitPointsInCode}
+use Rattle.model.specs.Trace.{followInCode, formattedInCode, AlwaysInCode, CommitPointsInCode}
 use Rattle.model.proofs.Members.{Every}
 use Rattle.model.proofs.Booleans.{cond-all}
 use Rattle.model.proofs.Verdict.{row-passed}
@@ -143,7 +143,7 @@ module _ (m : Machine) (t : ℕ) where
 pub commit-points-in-code : CommitPointsInCode
 unfolding CommitPointsInCode AlwaysInCode CommitPoints StateTrue
 commit-points-in-code o s f steps l c t budget is on =
-    let m = reached steps (begins o s) .machine in
+    let m = followInCode steps (formattedInCode o s) .machine in
     let points = in-code _ commit-point o s f steps l in
     let truth = in-code _ state-true o s f steps l in
     subst (Leaves m t) (sym (gave m c (commit t budget) is on)) (commit-leaves m t budget (points t) truth)

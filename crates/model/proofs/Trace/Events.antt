@@ -17,7 +17,7 @@ use Rattle.model.specs.Reference.{taken, refused, outcomeOf, Reference, 
 use Rattle.model.specs.Machine.{Machine, Event, call, lent, scramble, result, outcome, isRefused, allowedCall, allowed, after, referred, Run, follow, allowedAll, formatted}
 use Rattle.model.specs.History.{Put, told, history}
 use Rattle.model.specs.Promise.{Always}
-use Rattle.model.specs.Trace.{Observed, KeepsContract, seen, Step, called, elsewhere, lost, On, Beside, FormatRefused, Fits, next, reached, Linked, Formats, begins, toldIn, historyIn, AlwaysInCode}
+use Rattle.model.specs.Trace.{Observed, KeepsContract, seen, EventInCode, callInCode, lentInCode, scrambleInCode, On, Beside, FormatRefused, AllowedInCode, afterInCode, followInCode, AllowedAllInCode, Formats, formattedInCode, toldInCode, historyInCode, AlwaysInCode}
 use Rattle.model.proofs.Verdict.{answer-refused, refused-leaves}
 
 -- a refused call leaves all as it was
@@ -44,20 +44,20 @@ pub as-machine : (m : Machine) (o : Observed) → On m o
     → record { answer = o .reply .answer; budget = o .left; core = o .reply .core; world = o .exit } ≡ result m (o .call)
 unfolding KeepsContract Gives result
 as-machine m o h =
-    h .kept ∙ ap (λ (c : Core). resultOf (o .call) c (o .entry)) (h .core) ∙ ap (λ (w : World). resultOf (o .call) (m .core) w) (h .entry)
+    h .contract ∙ ap (λ (c : Core). resultOf (o .call) c (o .entry)) (h .core) ∙ ap (λ (w : World). resultOf (o .call) (m .core) w) (h .entry)
 
 as-elsewhere : (m : Machine) (o : Observed) → Beside m o → o .reply .answer ≡ resultOf (o .call) (m .core) (o .entry) .answer
 unfolding KeepsContract Gives
 as-elsewhere m o h =
-    ap (λ (r : Result). r .answer) (h .kept) ∙ ap (λ (c : Core). resultOf (o .call) c (o .entry) .answer) (h .core)
+    ap (λ (r : Result). r .answer) (h .contract) ∙ ap (λ (c : Core). resultOf (o .call) c (o .entry) .answer) (h .core)
 
 -- Each step is an event of the machine.
-unfoldable eventOf : Step → Event
-eventOf (called o) = call (o .call)
-eventOf (elsewhere o) = lent (o .call) (o .entry)
-eventOf (lost pages work) = scramble pages work
+unfoldable eventOf : EventInCode → Event
+eventOf (callInCode o) = call (o .call)
+eventOf (lentInCode o) = lent (o .call) (o .entry)
+eventOf (scrambleInCode pages work) = scramble pages work
 
-unfoldable eventsOf : List Step → List Event
+unfoldable eventsOf : List EventInCode → List Event
 eventsOf [] = []
 eventsOf (s ∷ steps) = eventOf s ∷ eventsOf steps
 
@@ -77,57 +77,57 @@ allowed-call m (restartStep source) f = refl
 allowed-call m (restartEnd budget) f = refl
 allowed-call m newState f = refl
 
-step-allowed : (s : Step) (m : Machine) → Fits m s → allowed m (eventOf s) ≡ true
+step-allowed : (s : EventInCode) (m : Machine) → AllowedInCode m s → allowed m (eventOf s) ≡ true
 unfolding eventOf FormatRefused outcome
-step-allowed (called o) m h =
+step-allowed (callInCode o) m h =
     allowed-call m (o .call) (λ s budget e. sym (ap (λ (r : Result). outcomeOf (r .answer)) (as-machine m o (h .0))) ∙ h .1 s budget e)
-step-allowed (elsewhere o) m h = ap (λ (a : Answer). isRefused (outcomeOf a)) (sym (as-elsewhere m o h)) ∙ ap isRefused (h .turned)
-step-allowed (lost pages work) m h =
+step-allowed (lentInCode o) m h = ap (λ (a : Answer). isRefused (outcomeOf a)) (sym (as-elsewhere m o h)) ∙ ap isRefused (h .turned)
+step-allowed (scrambleInCode pages work) m h =
     rw (h .stage, eq-eqb (length pages) (length (m .world .pages)) (h .pageLength), eq-eqb (length work) (length (m .world .work)) (h .workLength))
 
 -- the machine and the reference after it are those after the event
-step-next : (s : Step) (x : Run) → Fits (x .machine) s
-    → next s x ≡ record { machine = after (x .machine) (eventOf s); reference = referred (x .machine) (eventOf s) (x .reference) }
+step-next : (s : EventInCode) (x : Run) → AllowedInCode (x .machine) s
+    → afterInCode s x ≡ record { machine = after (x .machine) (eventOf s); reference = referred (x .machine) (eventOf s) (x .reference) }
 unfolding eventOf
-step-next (called o) x h =
+step-next (callInCode o) x h =
     ap (λ (r : Result). record {
       machine = record { core = r .core; world = r .world };
       reference = hear (heard (o .call) (r .answer)) (x .reference);
     }) (as-machine (x .machine) o (h .0))
-step-next (elsewhere o) x h =
-    rw (turned-away o (h .kept) (h .turned) .0 ∙ h .core, sym (as-elsewhere (x .machine) o h))
-step-next (lost pages work) x h = refl
+step-next (lentInCode o) x h =
+    rw (turned-away o (h .contract) (h .turned) .0 ∙ h .core, sym (as-elsewhere (x .machine) o h))
+step-next (scrambleInCode pages work) x h = refl
 
 -- and so for lists of them
-steps-allowed : (steps : List Step) (x : Run) → Linked steps x → allowedAll (eventsOf steps) (x .machine) ≡ true
-unfolding eventsOf allowedAll Linked
+steps-allowed : (steps : List EventInCode) (x : Run) → AllowedAllInCode steps x → allowedAll (eventsOf steps) (x .machine) ≡ true
+unfolding eventsOf allowedAll AllowedAllInCode
 steps-allowed [] x l = refl
 steps-allowed (s ∷ steps) x l =
     and-eq-true-iff (allowed (x .machine) (eventOf s)) (allowedAll (eventsOf steps) (after (x .machine) (eventOf s))) .1 (
       step-allowed s (x .machine) (l .0),
-      subst (λ (y : Run). allowedAll (eventsOf steps) (y .machine) ≡ true) (step-next s x (l .0)) (steps-allowed steps (next s x) (l .1)),
+      subst (λ (y : Run). allowedAll (eventsOf steps) (y .machine) ≡ true) (step-next s x (l .0)) (steps-allowed steps (afterInCode s x) (l .1)),
     )
 
-steps-follow : (steps : List Step) (x : Run) → Linked steps x → reached steps x ≡ follow (eventsOf steps) x
-unfolding eventsOf follow reached Linked
+steps-follow : (steps : List EventInCode) (x : Run) → AllowedAllInCode steps x → followInCode steps x ≡ follow (eventsOf steps) x
+unfolding eventsOf follow followInCode AllowedAllInCode
 steps-follow [] x l = refl
-steps-follow (s ∷ steps) x l = steps-follow steps (next s x) (l .1) ∙ ap (follow (eventsOf steps)) (step-next s x (l .0))
+steps-follow (s ∷ steps) x l = steps-follow steps (afterInCode s x) (l .1) ∙ ap (follow (eventsOf steps)) (step-next s x (l .0))
 
 -- what they put
-step-told : (s : Step) (x : Run) (puts : List Put) → Fits (x .machine) s → toldIn s puts ≡ told (x .machine) (eventOf s) puts
+step-told : (s : EventInCode) (x : Run) (puts : List Put) → AllowedInCode (x .machine) s → toldInCode s puts ≡ told (x .machine) (eventOf s) puts
 unfolding eventOf outcome
-step-told (called o) x puts h =
+step-told (callInCode o) x puts h =
     rw (h .0 .core, h .0 .entry, sym (as-machine (x .machine) o (h .0)))
-step-told (elsewhere o) x puts h = refl
-step-told (lost pages work) x puts h = refl
+step-told (lentInCode o) x puts h = refl
+step-told (scrambleInCode pages work) x puts h = refl
 
-steps-history : (steps : List Step) (x : Run) (puts : List Put) → Linked steps x
-    → historyIn steps puts ≡ history (eventsOf steps) (x .machine) puts
-unfolding eventsOf history historyIn Linked
+steps-history : (steps : List EventInCode) (x : Run) (puts : List Put) → AllowedAllInCode steps x
+    → historyInCode steps puts ≡ history (eventsOf steps) (x .machine) puts
+unfolding eventsOf history historyInCode AllowedAllInCode
 steps-history [] x puts l = refl
 steps-history (s ∷ steps) x puts l =
-    steps-history steps (next s x) (toldIn s puts) (l .1)
-    ∙ ap (λ (y : Run). history (eventsOf steps) (y .machine) (toldIn s puts)) (step-next s x (l .0))
+    steps-history steps (afterInCode s x) (toldInCode s puts) (l .1)
+    ∙ ap (λ (y : Run). history (eventsOf steps) (y .machine) (toldInCode s puts)) (step-next s x (l .0))
     ∙ ap (history (eventsOf steps) (after (x .machine) (eventOf s))) (step-told s x puts (l .0))
 
 -- The machine that a format of the code got, and what it made of it.
@@ -139,14 +139,14 @@ module _ (o : Observed) (s : Sizes) (f : Formats o s) where
       ≡ result (got o) (format s (f .budget))
   unfolding got
   formats-as-machine =
-      as-machine (got o) o (record { core = refl; entry = refl; kept = f .kept }) ∙ ap (result (got o)) (f .call)
+      as-machine (got o) o (record { core = refl; entry = refl; contract = f .contract }) ∙ ap (result (got o)) (f .call)
 
   formats-taken : outcome (got o) (format s (f .budget)) ≡ taken
   unfolding outcome
   formats-taken = sym (ap (λ (r : Result). outcomeOf (r .answer)) formats-as-machine) ∙ f .finished
 
-  formats-begins : begins o s ≡ formatted (got o) s (f .budget)
-  unfolding begins formatted
+  formats-begins : formattedInCode o s ≡ formatted (got o) s (f .budget)
+  unfolding formattedInCode formatted
   formats-begins =
       ap (λ (r : Result). record { machine = record { core = r .core; world = r .world }; reference = blank s }) formats-as-machine
 
@@ -155,15 +155,15 @@ pub each-trace : (P : List Put → Run → Type 0)
     → ((m : Machine) (s : Sizes) (budget : ℕ) → outcome m (format s budget) ≡ taken
     → (events : List Event) → allowedAll events (formatted m s budget .machine) ≡ true
     → P (history events (formatted m s budget .machine) []) (follow events (formatted m s budget)))
-    → (o : Observed) (s : Sizes) → Formats o s → (steps : List Step) → Linked steps (begins o s)
-    → P (historyIn steps []) (reached steps (begins o s))
+    → (o : Observed) (s : Sizes) → Formats o s → (steps : List EventInCode) → AllowedAllInCode steps (formattedInCode o s)
+    → P (historyInCode steps []) (followInCode steps (formattedInCode o s))
 each-trace P runs o s f steps l =
     let start = formats-begins o s f in
     let events = eventsOf steps in
-    let allows = subst (λ (x : Run). allowedAll events (x .machine) ≡ true) start (steps-allowed steps (begins o s) l) in
-    let puts = steps-history steps (begins o s) [] l ∙ ap (λ (x : Run). history events (x .machine) []) start in
-    let ends = steps-follow steps (begins o s) l ∙ ap (follow events) start in
-    subst (λ (x : Run). P (historyIn steps []) x) (sym ends)
+    let allows = subst (λ (x : Run). allowedAll events (x .machine) ≡ true) start (steps-allowed steps (formattedInCode o s) l) in
+    let puts = steps-history steps (formattedInCode o s) [] l ∙ ap (λ (x : Run). history events (x .machine) []) start in
+    let ends = steps-follow steps (formattedInCode o s) l ∙ ap (follow events) start in
+    subst (λ (x : Run). P (historyInCode steps []) x) (sym ends)
     (subst (λ (l : List Put). P l (follow events (formatted (got o) s (f .budget)))) (sym puts)
     (runs (got o) s (f .budget) (formats-taken o s f) events allows))
 

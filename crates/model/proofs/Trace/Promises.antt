@@ -14,7 +14,7 @@ use Rattle.model.specs.Reference.{outcomeOf, Reference, hear}
 use Rattle.model.specs.Machine.{Machine, result, outcome, Run}
 use Rattle.model.specs.History.{recordsOn}
 use Rattle.model.specs.Promise.{Always, PowerLoss, RestartAccepted, RestartFinishes, LogKept, StateTrue, NeverMalformed, ClosingFits, Stored, LogOf}
-use Rattle.model.specs.Trace.{Observed, seen, Step, called, On, next, reached, Linked, begins, AlwaysInCode, PowerLossInCode, EachRestartEnd, RestartAcceptedInCode, RestartFinishesInCode, LogKeptInCode, StateTrueInCode, NeverMalformedInCode, ClosingFitsInCode}
+use Rattle.model.specs.Trace.{Observed, seen, EventInCode, callInCode, On, afterInCode, followInCode, AllowedAllInCode, formattedInCode, AlwaysInCode, PowerLossInCode, EachRestartEnd, RestartAcceptedInCode, RestartFinishesInCode, LogKeptInCode, StateTrueInCode, NeverMalformedInCode, ClosingFitsInCode}
 use Rattle.model.proofs.PowerLoss.{power-loss, restart-accepted, log-kept, state-true, never-malformed}
 use Rattle.model.proofs.Finish.{restart-finishes}
 use Rattle.model.proofs.Sound.Lists.{closing-fits}
@@ -52,22 +52,22 @@ power-loss-in-code =
     ∙ h budget (sym (gave-outcome m e (restartEnd budget) is on) ∙ took))
 
 -- A list of steps in two parts.
-reached-append : (before rest : List Step) (x : Run) → reached (before ++ rest) x ≡ reached rest (reached before x)
-unfolding reached
+reached-append : (before rest : List EventInCode) (x : Run) → followInCode (before ++ rest) x ≡ followInCode rest (followInCode before x)
+unfolding followInCode
 reached-append [] rest x = refl
-reached-append (s ∷ before) rest x = reached-append before rest (next s x)
+reached-append (s ∷ before) rest x = reached-append before rest (afterInCode s x)
 
-linked-append : (before rest : List Step) (x : Run) → Linked (before ++ rest) x → Linked before x × Linked rest (reached before x)
-unfolding Linked reached
+linked-append : (before rest : List EventInCode) (x : Run) → AllowedAllInCode (before ++ rest) x → AllowedAllInCode before x × AllowedAllInCode rest (followInCode before x)
+unfolding AllowedAllInCode followInCode
 linked-append [] rest x l = (tt, l)
-linked-append (s ∷ before) rest x l = let both = linked-append before rest (next s x) (l .1) in ((l .0, both .0), both .1)
+linked-append (s ∷ before) rest x l = let both = linked-append before rest (afterInCode s x) (l .1) in ((l .0, both .0), both .1)
 
 -- For each restart end of a list.
 pub each-restart-end : EachRestartEnd
-unfolding EachRestartEnd PowerLossInCode AlwaysInCode Linked reached hear
+unfolding EachRestartEnd PowerLossInCode AlwaysInCode AllowedAllInCode followInCode hear
 each-restart-end o s f before later e budget l is took =
-    let parts = linked-append before (called e ∷ later) (begins o s) l in
-    rw (reached-append before (called e ∷ []) (begins o s), is, took)
+    let parts = linked-append before (callInCode e ∷ later) (formattedInCode o s) l in
+    rw (reached-append before (callInCode e ∷ []) (formattedInCode o s), is, took)
     (power-loss-in-code o s f before (parts .0) e budget is (parts .1 .0 .0) took)
 
 -- A restart begin of a shut store is refused for its number only.

@@ -7,7 +7,7 @@ use native.Mathlib.Omega.{arith}
 use borrow.Author.Tests.{leb-false}
 use Rattle.model.specs.declared.Core.{Core}
 use Rattle.model.specs.World.{World}
-use Rattle.model.specs.Refusal.{row, refused, Result, numberOf}
+use Rattle.model.specs.Refusal.{row, rejected, Result, numberOf}
 use Rattle.model.specs.Causes.{slotMissing, locked}
 use Rattle.model.specs.Transaction.{updateRows, readRows, readWords}
 use Rattle.model.specs.Call.{Call, update, read, rowsOf, resultOf}
@@ -35,7 +35,7 @@ module _ (k : Call) (c : Core) (w : World) (number page slot : ℕ)
       there =
           call-cases (λ (r : Result). numberOf (r .answer) ≡ 11 → slotMissing (c .sizes) page slot ≡ false) k c w
           (λ n first second v e.
-          least-applies k c w 11 first second (v ∙ ap (λ (x : ℕ). refused x first second) e) .smaller _ eight (omega arith))
+          least-applies k c w 11 first second (v ∙ ap (λ (x : ℕ). rejected x first second) e) .smaller _ eight (omega arith))
           (λ v f e. absurd (omega arith)) (λ v f e. absurd (omega arith))
 
   -- a call that is not refused is of a slot that is there and not locked
@@ -64,7 +64,7 @@ module _ (m : Machine) (r : Reference) (t : PlainTable m r) (number page slot : 
   unfolding outcome result
   guards k eight eleven only o is on =
       record {
-        locked = λ e.
+        eleven = λ e.
             let x = answered-locked k (m .core) (m .world) number page slot eight eleven only (sym (gave-number m o k is on) ∙ e) in
             lock-written true (x .0) (x .1);
         free = λ e.

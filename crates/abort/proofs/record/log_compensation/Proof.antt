@@ -8,8 +8,8 @@ use Rattle.abort.proofs.record.log_compensation.Tie as tie
 window-of-requires : tie.Need-window-of-requires
 window-of-requires c κs = asked (c .before .before .before .pre .0)
 
-page-epoch-requires : tie.Need-page-epoch-requires
-page-epoch-requires c κs =
+page-copy-requires : tie.Need-page-copy-requires
+page-copy-requires c κs =
     let pre = c .before .before .before .before .before .pre in
     let b = small (pre .0) in
     (omega (arith, b .pages, pre .1 .page-in), pre .0 .work-words)
@@ -34,11 +34,11 @@ same-length-2 c = search needs
 returns : tie.Need-returns
 returns c =
     let at-append-change = c .before .before .before .before .before in
-    let at-page-epoch = at-append-change .before .before .before .before in
-    let at-window-of = at-page-epoch .before .before in
+    let at-page-copy = at-append-change .before .before .before .before in
+    let at-window-of = at-page-copy .before .before in
     let pre = at-window-of .before .before .before .before .pre in
     λ anchor pages backups.
-    rw (← at-page-epoch .page-epoch .ensures)
+    rw (← at-page-copy .page-copy .ensures)
     (appended (at-append-change .append-change .ensures .0 _ _ _ (lent (pre .0) (at-window-of .window-of .ensures) anchor pages backups)) _ (c .advanced .ensures))
 
 pub log-compensation-spec : {M : Type 1} → statement M
@@ -46,7 +46,7 @@ log-compensation-spec =
     tie.close
     (tie.spec
     window-of-requires
-    page-epoch-requires
+    page-copy-requires
     append-change-requires
     advanced-requires
     same-length

@@ -3,7 +3,7 @@ use mathlib.Core.Path.{refl, sym, _∙_}
 use mathlib.Core.Bool.{true, false}
 use native.Mathlib.Omega.{arith}
 use borrow.Author.Tests.{not-true, not-false}
-use Rattle.model.specs.Memory.{bufferAt, epochAt, workWords}
+use Rattle.model.specs.Memory.{bufferAt, copyAt, workWords}
 use Rattle.model.specs.Refusal.{verdict}
 use Rattle.model.proofs.Bounds.{bounded}
 use Rattle.model.proofs.Store.Rows.{sizes-sound}
@@ -47,7 +47,7 @@ returns-3 c = λ w same.
     (width-wrong (c .before .slot-width .ensures .0) (c .if3 .taken)) refl refl
 
 is-locked-requires : tie.Need-is-locked-requires
-unfolding workWords epochAt bufferAt
+unfolding workWords copyAt bufferAt
 is-locked-requires c κs =
     let x = c .before .before .before .before .before .before .before .before .args in
     let there = slot-there _ (x .page) (x .slot) (sizes-sound _ (c .before .before .before .before .before .before .before .before .pre .0)) (sym (c .before .before .before .before .before .slot-missing .ensures) ∙ c .before .before .before .before .if1 .left) in

@@ -3,7 +3,7 @@ use native.Mathlib.Omega.{arith}
 use borrow.Author.Needs.{needs}
 use borrow.Author.Tests.{not-true, not-false}
 use Rattle.model.proofs.Bounds.{bounded}
-use Rattle.layout.proofs.Pages.{page-fits, copy-fits, epoch-fits}
+use Rattle.layout.proofs.Pages.{page-fits, copy-fits, copy-number-fits}
 use Rattle.checkpoint.proofs.Copies.{copy-cut, copy-whole}
 use Rattle.checkpoint.proofs.copy.copy_page.Statement.{statement}
 use Rattle.checkpoint.proofs.copy.copy_page.Tie as tie
@@ -39,8 +39,8 @@ returns c =
     copy-cut _ _ _ (at-backup-at .before .before .page-base .ensures .0) (at-backup-at .before .page-words .ensures .0) (at-backup-at .backup-at .ensures .0)
     (at-store-copy .store-copy .ensures) anchor logs (not-true _ (c .if1 .taken))
 
-epoch-at-requires : tie.Need-epoch-at-requires
-epoch-at-requires c κs =
+copy-at-requires : tie.Need-copy-at-requires
+copy-at-requires c κs =
     let pre = c .before .before .before .before .before .before .before .before .before .before .before .before .pre in
     let b = bounded _ (pre .sizes) in
     (b .pages-max, b .disks-max, omega (arith, pre .page-below, b .pages-max))
@@ -51,7 +51,7 @@ mul-work c = search needs
 slice-write-work : tie.Need-slice-write-work
 slice-write-work c =
     let pre = c .before .before .before .before .before .before .before .before .before .before .before .before .before .pre in
-    epoch-fits _ _ (omega (arith, pre .page-below, bounded _ (pre .sizes) .pages-max)) (c .epoch-at .ensures .0) (pre .work-words)
+    copy-number-fits _ _ (omega (arith, pre .page-below, bounded _ (pre .sizes) .pages-max)) (c .copy-at .ensures .0) (pre .work-words)
 
 same-length-2 : tie.Need-same-length-2
 same-length-2 c = search needs
@@ -66,7 +66,7 @@ returns-2 c =
     let at-backup-at = at-store-copy .before .before .before in
     λ anchor logs.
     copy-whole _ _ _ (at-backup-at .before .before .page-base .ensures .0) (at-backup-at .before .page-words .ensures .0) (at-backup-at .backup-at .ensures .0)
-    (at-store-copy .store-copy .ensures) anchor logs (not-false _ (at-if1 .if1 .left)) (c .epoch-at .ensures .0)
+    (at-store-copy .store-copy .ensures) anchor logs (not-false _ (at-if1 .if1 .left)) (c .copy-at .ensures .0)
 
 pub copy-page-spec : {M : Type 1} → statement M
 copy-page-spec =
@@ -79,7 +79,7 @@ copy-page-spec =
     store-copy-requires
     same-length
     returns
-    epoch-at-requires
+    copy-at-requires
     mul-work
     slice-write-work
     same-length-2

@@ -2,7 +2,7 @@
 use mathlib.Core.Path.{refl, _∙_}
 use native.Mathlib.Omega.{arith}
 use borrow.Author.Needs.{needs}
-use Rattle.model.specs.Memory.{bufferAt, epochAt, workWords}
+use Rattle.model.specs.Memory.{bufferAt, copyAt, workWords}
 use Rattle.model.specs.State.{tailOf, fillOf}
 use Rattle.frame.specs.Home.{homeOf}
 use Rattle.frame.proofs.Homes.{buffer-from-end}
@@ -10,7 +10,7 @@ use Rattle.frame.proofs.home.home_of.Statement.{statement}
 use Rattle.frame.proofs.home.home_of.Tie as tie
 
 buffer-place-requires : tie.Need-buffer-place-requires
-unfolding workWords epochAt bufferAt
+unfolding workWords copyAt bufferAt
 buffer-place-requires c κs = (search needs, search needs, omega arith)
 
 mul-t9 : tie.Need-mul-t9

@@ -3,7 +3,7 @@ use native.Mathlib.Omega.{arith}
 use borrow.Author.Needs.{needs}
 use borrow.Author.Tests.{eq-eqb, ne-eqb}
 use Rattle.model.specs.Sizes.{diskAt, logWords}
-use Rattle.model.specs.Memory.{bufferAt, epochAt, workWords}
+use Rattle.model.specs.Memory.{bufferAt, copyAt, workWords}
 use Rattle.model.proofs.Bounds.{bounded}
 use Rattle.layout.proofs.Laws.{product-max}
 use Rattle.layout.proofs.bounds.lengths_right.Statement.{statement}
@@ -54,7 +54,7 @@ add-result-2 : tie.Need-add-result-2
 add-result-2 c = omega (arith, bounded _ (c .before .before .before .before .pre) .disks-max)
 
 returns-4 : tie.Need-returns-4
-unfolding logWords diskAt workWords epochAt bufferAt
+unfolding logWords diskAt workWords copyAt bufferAt
 returns-4 c =
     rw (
       ← c .before .before .before .total-in-bounds .ensures,

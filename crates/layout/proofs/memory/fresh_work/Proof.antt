@@ -1,7 +1,7 @@
--- `layout::memory::fresh_work` meets its contract: owners are the first words, copy epochs the last 64.
+-- `layout::memory::fresh_work` meets its contract: owners are the first words, copy numbers the last 64.
 use native.Mathlib.Omega.{arith}
 use borrow.Author.Needs.{needs}
-use Rattle.model.specs.Memory.{bufferAt, epochAt, workWords}
+use Rattle.model.specs.Memory.{bufferAt, copyAt, workWords}
 use Rattle.model.proofs.Bounds.{bounded}
 use Rattle.layout.proofs.Laws.{fresh-set}
 use Rattle.layout.proofs.memory.fresh_work.Statement.{statement}
@@ -10,17 +10,17 @@ use Rattle.layout.proofs.memory.fresh_work.Tie as tie
 total-requires : tie.Need-total-requires
 total-requires c κs = bounded _ (c .before .pre .0) .pages-max
 
-epoch-at-requires : tie.Need-epoch-at-requires
-epoch-at-requires c κs =
+copy-at-requires : tie.Need-copy-at-requires
+copy-at-requires c κs =
     let b = bounded _ (c .before .before .pre .0) in
     (b .pages-max, b .disks-max, omega arith)
 
 fill-words-requires : tie.Need-fill-words-requires
-unfolding workWords epochAt bufferAt
+unfolding workWords copyAt bufferAt
 fill-words-requires c κs = omega arith
 
 fill-words-requires-2 : tie.Need-fill-words-requires-2
-unfolding workWords epochAt bufferAt
+unfolding workWords copyAt bufferAt
 fill-words-requires-2 c κs = omega arith
 
 same-length : tie.Need-same-length
@@ -30,8 +30,8 @@ returns : tie.Need-returns
 returns c =
     let at-fill-words2 = c .before .before in
     let at-fill-words = at-fill-words2 .before .before .before .before in
-    let at-epoch-at = at-fill-words .before .before in
-    fresh-set _ _ _ (at-epoch-at .before .total .ensures .0) (at-epoch-at .epoch-at .ensures .0) (at-fill-words .fill-words .ensures)
+    let at-copy-at = at-fill-words .before .before in
+    fresh-set _ _ _ (at-copy-at .before .total .ensures .0) (at-copy-at .copy-at .ensures .0) (at-fill-words .fill-words .ensures)
     (at-fill-words2 .fill-words2 .ensures)
 
 pub fresh-work-spec : {M : Type 1} → statement M
@@ -39,7 +39,7 @@ fresh-work-spec =
     tie.close
     (tie.spec
     total-requires
-    epoch-at-requires
+    copy-at-requires
     fill-words-requires
     fill-words-requires-2
     same-length

@@ -7,7 +7,7 @@ use native.Mathlib.Omega.{arith}
 use native.Mathlib.Nat.{sub-zero}
 use borrow.Author.Needs.{needs}
 use denote.Ref.{now}
-use Rattle.model.specs.declared.Fault.the-variants.{Sound}
+use Rattle.model.specs.declared.Fault.the-variants.{NoFault}
 use Rattle.model.specs.Sizes.{ringOf, diskAt, tailWord, logWords}
 use Rattle.model.specs.Decode.{readLog}
 use Rattle.model.specs.Scan.{scan, faultIn}
@@ -19,7 +19,7 @@ use Rattle.log.proofs.scan.check_disks.Tie as tie
 
 abbrev Inv-loop : tie.InvT-loop
 Inv-loop sizes logs starts disks ring none d fault₀ tail p₀ fault p =
-    (fault ≡ Sound)
+    (fault ≡ NoFault)
     × (faultIn d (scan sizes (readLog sizes logs d tail []) tail p) (faultsFrom sizes logs starts (disks - (d + 1)) (d + 1))
     ≡ faultsFrom sizes logs starts disks 0)
 
@@ -28,7 +28,7 @@ abbrev μ-loop : tie.MeasureT-loop
 
 abbrev Inv-disks : tie.InvT-disks
 Inv-disks sizes logs starts disks ring none d₀ fault₀ d fault =
-    (d ≤ disks) × (fault ≡ Sound)
+    (d ≤ disks) × (fault ≡ NoFault)
     × (faultsFrom sizes logs starts (disks - d) d ≡ faultsFrom sizes logs starts disks 0)
 
 abbrev μ-disks : tie.MeasureT-disks

@@ -44,7 +44,7 @@ returns c =
     let start = c .before .before .before in
     let a = start .args in
     let h = a .head in
-    (refl, change-words (a .words .now) (h .kind) (h .page) (h .slot) (h .number) (h .epoch) (a .width) (start .pre .1))
+    (refl, change-words (a .words .now) (h .kind) (h .page) (h .slot) (h .number) (h .copy) (a .width) (start .pre .1))
 
 pub encode-change-spec : {M : Type 1} → statement M
 encode-change-spec =
