@@ -10,10 +10,11 @@ use borrow.Author.Tests.{le-leb}
 use Rattle.model.specs.World.{World, Action, write, pages, work, each, perform, stores, made, finishes}
 use Rattle.model.specs.declared.Sizes.{Sizes}
 use Rattle.model.specs.Sizes.{total}
-use Rattle.model.specs.Memory.{copyAt, freshWork}
-use Rattle.model.specs.Format.{freshMemory}
+use Rattle.model.specs.Memory.{copyAt}
+use Rattle.model.specs.Format.{freshMemory, freshWork}
 use Rattle.model.proofs.Run.{finished-run, stores-written, perform-pages, perform-work}
 use Rattle.model.proofs.Restart.Words.{withPages}
+use Rattle.model.proofs.Store.Puts.{fresh-is}
 use Rattle.device.specs.Ran.{Ran, withWork}
 use Rattle.device.proofs.Ran.{ran-then}
 
@@ -39,8 +40,9 @@ work-written budget at words w = ran-free budget (stores-written work at words) 
 -- work memory made fresh
 pub fresh-written : (budget : ℕ) (s : Sizes) (copy : ℕ) (w : World)
     → Ran budget budget (freshMemory s copy) w (withWork w (freshWork s copy (w .work))) true
-unfolding freshMemory freshWork
+unfolding freshMemory
 fresh-written budget s copy w =
     let owners : List ℕ = replicate (total s) 0 in
-    ran-then (work-written budget 0 owners w) _ refl
-    (work-written budget (copyAt s 0) (replicate 64 copy) (withWork w (sets (w .work) 0 owners)))
+    rw (fresh-is s copy (w .work))
+    (ran-then (work-written budget 0 owners w) _ refl
+    (work-written budget (copyAt s 0) (replicate 64 copy) (withWork w (sets (w .work) 0 owners))))

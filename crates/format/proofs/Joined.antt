@@ -13,9 +13,8 @@ use Rattle.model.specs.Below.{joinBelow}
 use Rattle.model.specs.Sizes.{total}
 use Rattle.model.specs.Anchor.{epochWord, slotsAt, widthsAt, rowsAt, backupAt}
 use Rattle.model.specs.World.{World, Action, worldOf, store, anchor, backups, logs, each}
-use Rattle.model.specs.Memory.{freshWork}
 use Rattle.model.specs.State.{openCore}
-use Rattle.model.specs.Format.{formatStores, freshMemory, formatTask}
+use Rattle.model.specs.Format.{formatStores, freshMemory, freshWork, formatTask}
 use Rattle.device.specs.Ran.{Ran, Stored}
 use Rattle.device.proofs.Memory.{pages-written, fresh-written}
 use Rattle.device.proofs.Ran.{ran-then, ran-cut}

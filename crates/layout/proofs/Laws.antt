@@ -14,7 +14,9 @@ use Rattle.model.specs.declared.Sizes.{Sizes}
 use Rattle.model.specs.Word.{part}
 use Rattle.model.specs.Below.{within, allBelow}
 use Rattle.model.specs.Sizes.{slotsIn, widthIn, pageWords, usedEntry, unusedEntry, entryInBounds, sizesInBounds, total}
-use Rattle.model.specs.Memory.{copyAt, freshWork}
+use Rattle.model.specs.Memory.{copyAt}
+use Rattle.model.specs.Format.{freshWork}
+use Rattle.model.proofs.Store.Puts.{fresh-is}
 use Rattle.model.proofs.Below.{all-stop}
 use Rattle.model.proofs.Bounds.{bounded}
 use Rattle.model.proofs.Parts.{length-part, getD-part}
@@ -83,8 +85,8 @@ entry-bytes s e i h = go (ltb i (s .pages)) refl
 -- the words set in work memory
 pub fresh-set : (s : Sizes) (copy : ℕ) (work : List ℕ) {words at : ℕ} {middle after : List ℕ} → words ≡ total s → at ≡ copyAt s 0
     → middle ≡ sets work 0 (replicate words 0) → after ≡ sets middle at (replicate 64 copy) → after ≡ freshWork s copy work
-unfolding freshWork
 fresh-set s copy work {words} {at} {middle} count place owners copies =
     copies ∙ ap (λ (m : List ℕ). sets m at (replicate 64 copy)) owners
     ∙ ap (λ (n : ℕ). sets (sets work 0 (replicate n 0)) at (replicate 64 copy)) count
     ∙ ap (λ (n : ℕ). sets (sets work 0 (replicate (total s) 0)) n (replicate 64 copy)) place
+    ∙ sym (fresh-is s copy work)

@@ -7,7 +7,8 @@ ghost use mathlib.Core.Bool.{true};
 ghost use Prim.Native.Nat.{_≤_, _<_, _^_};
 ghost use lib.ListN.{length};
 ghost use Rattle.model.specs.Sizes.{sizesInBounds};
-ghost use Rattle.model.specs.Memory.{bufferAt, copyAt, workWords, copyOf, freshWork};
+ghost use Rattle.model.specs.Memory.{bufferAt, copyAt, workWords, copyOf};
+ghost use Rattle.model.specs.Format.{freshWork};
 
 // The first buffer word of a disk; of disk D, the end of all buffers.
 pub fn buffer_at(sizes: Sizes, disk: u64) -> u64

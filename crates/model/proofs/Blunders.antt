@@ -17,7 +17,7 @@ use Rattle.model.specs.Record.{change, close, encode, inBackup, commitKi
 use Rattle.model.specs.Decode.{span}
 use Rattle.model.specs.Scan.{Scan, end, bad, item, scan, fateIn, Update}
 use Rattle.model.specs.World.{World, Action, perform}
-use Rattle.model.specs.State.{places, tailOf, endOf, withLog, without}
+use Rattle.model.specs.State.{places, withCheckpoint, tailOf, endOf, withLog, without}
 use Rattle.model.specs.Refusal.{Task, verdict, conclude}
 use Rattle.model.specs.Append.{Appended, append}
 use Rattle.model.specs.Transaction.{commitRows, diskOf}
@@ -36,17 +36,7 @@ remember : (Core → ℕ → ℕ) → Step
 remember f c w = record { answer = Finished 0 0; budget = 0; core = other; world = w }
   where
     other : Core
-    other =
-        record {
-          stage = c .stage;
-          sizes = c .sizes;
-          epoch = c .epoch;
-          logs = c .logs;
-          table = c .table;
-          next = c .next;
-          checkpoint = record { ends = perDisk (c .sizes) (f c); copied = c .checkpoint .copied };
-          replay = c .replay;
-        }
+    other = withCheckpoint c (c .stage) (record { ends = perDisk (c .sizes) (f c); copied = c .checkpoint .copied })
 
 -- a log step by another rule: which transactions are closed, and which records are XORed in
 stepBy : (ℕ → Scan → Fate) → (ℕ → Fate → ℕ → Bool) → ℕ → Step

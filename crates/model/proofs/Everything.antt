@@ -10,7 +10,7 @@ use Rattle.model.specs.Decode.{readLog, span, misplaced, decodeWords, de
 use Rattle.model.specs.Scan.{scanAtMost, scan, placed, fateIn, faultIn, updatesIn, updateWords, oldest}
 use Rattle.model.specs.World.{cost, act, perform, stores, covered, run, made, finishes, each}
 use Rattle.model.specs.Memory.{ownerAt, bufferAt, copyAt, workWords, ownerOf, bufferOf, copyOf, lengthsRight}
-use Rattle.model.specs.State.{newCore, openCore, withLog, startOf, tailOf, fillOf, endOf, withFill, flushed, numberAt, diskAtPlace, firstAt, reservedAt, placeOf, inTable, isOpen, withPlace, without, hasUpdate, servedBy, reservedOn, diskSound, placeSound, servingSound, checkpointSound, replaySound, sound}
+use Rattle.model.specs.State.{withReplay, newCore, openCore, withLog, startOf, tailOf, fillOf, endOf, withFill, flushed, numberAt, diskAtPlace, firstAt, reservedAt, placeOf, inTable, isOpen, withPlace, without, hasUpdate, servedBy, reservedOn, diskSound, placeSound, servingSound, checkpointSound, replaySound, sound}
 use Rattle.model.specs.Room.{hasRoom, loadOf, idlestBelow, idlest}
 use Rattle.model.specs.Refusal.{verdict}
 use Rattle.model.specs.Causes.{stageForbids, anchorWrong, unformatted, sizesWrong, lengthsWrong, tailOn, tailWrong, wrongTail, retained, faultFrom, slotMissing, sourceMissing, notOpen, readerNotOpen, valueWrong, locked, tableFull, spent}
@@ -19,7 +19,7 @@ use Rattle.model.specs.Format.{formatRows, formatStores, freshMemory, fo
 use Rattle.model.specs.Transaction.{diskOf, beginRows, begun, beginTask, slotWords, updateRecord, updated, updateRows, updateTask, readRows, readTask, readWords, commitRows, commitTask}
 use Rattle.model.specs.Abort.{abortScan, updatesLeft, abortFault, abortRows, xorIn, compensate, undoAll, abortTask}
 use Rattle.model.specs.Checkpoint.{eightBelow, perDisk, checkpointBeginRows, checkpointBeginTask, toCopy, lowestToCopy, checkpointStepRows, copyPage, checkpointStepTask, leastFirst, newStart, checkpointEndRows, checkpointEndTask}
-use Rattle.model.specs.Restart.{imageRows, restartBeginRows, restartBeginTask, positionOf, remaining, withReplay, readDisk, fateFrom, nextRecord, stepFault, restartStepRows, backupStep, movedTo, restartStepTask, restartEndRows, restartEndTask}
+use Rattle.model.specs.Restart.{imageRows, restartBeginRows, restartBeginTask, positionOf, remaining, readDisk, fateFrom, nextRecord, stepFault, restartStepRows, backupStep, movedTo, restartStepTask, restartEndRows, restartEndTask}
 use Rattle.model.specs.Call.{resultOf}
 use Rattle.model.specs.Image.{retainedWords, imageOf, xorAt, replayed, logOf, replayedBelow, restarted}
 use Rattle.model.specs.Reference.{blank, slotIndex, hasSet, writesOf, added, removed, applied, hear, wordsIn, laidOver, plainTable, writesSlot, writtenByOther}

@@ -15,10 +15,10 @@ use Rattle.model.specs.declared.Decoded.the-variants.{Change, Close, Mal
 use Rattle.model.specs.Sizes.{total}
 use Rattle.model.specs.Anchor.{anchorWords}
 use Rattle.model.specs.World.{World, stores, finishes}
-use Rattle.model.specs.State.{tailOf, sound}
+use Rattle.model.specs.State.{withReplay, tailOf, sound}
 use Rattle.model.specs.Refusal.{verdict, accepted}
 use Rattle.model.specs.Causes.{whenReplaying, stageForbids, anchorWrong, lengthsWrong, sourceMissing}
-use Rattle.model.specs.Restart.{positionOf, remaining, withReplay, readDisk, nextRecord, movedTo, recordStep, backupStep, restartStepRows, restartStepTask, restartEndRows, restartEndTask}
+use Rattle.model.specs.Restart.{positionOf, remaining, readDisk, nextRecord, movedTo, recordStep, backupStep, restartStepRows, restartStepTask, restartEndRows, restartEndTask}
 use Rattle.model.specs.Call.{restartStep, restartEnd, resultOf}
 use Rattle.model.specs.Reference.{taken, outcomeOf}
 use Rattle.model.specs.Machine.{result, outcome, formatted}

@@ -14,7 +14,8 @@ use Rattle.model.specs.Format.{formatRows, formatTask}
 use Rattle.model.specs.Checkpoint.{checkpointBeginRows, checkpointBeginTask, checkpointStepRows, checkpointStepTask, checkpointEndRows, checkpointEndTask}
 use Rattle.model.specs.Restart.{restartBeginRows, restartBeginTask, restartStepRows, restartStepTask, restartEndRows, restartEndTask}
 
--- "Each storing call takes an allowance": here its budget, the last argument.
+-- "Each storing call takes an allowance": here its budget, the last argument. "Only these calls, and one that hands out a new state, make
+-- a state."
 pub data Call : Type 0 where
   format : Sizes → (budget : ℕ) → Call
   begin : Call
@@ -30,7 +31,9 @@ pub data Call : Type 0 where
   restartEnd : (budget : ℕ) → Call
   newState : Call
 
--- the rows of "Turned away" that a call checks
+-- The rows of "Turned away" that a call checks. "Format checks 1, 2, 4 (of the sizes handed to it), 5 and 16; restart begin 1 to 7 and
+-- 13; the rest 1, 2, 5 and, where the cause can arise, 7 to 16, working with the sizes, c, starts and ends their state holds." Row 16 is
+-- in `conclude`.
 abbrev pub rowsOf : Call → Core → World → List Row
 rowsOf (format s budget) c w = formatRows c w s
 rowsOf begin c w = beginRows c w

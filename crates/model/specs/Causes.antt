@@ -1,5 +1,6 @@
--- 01, "Turned away": one definition for the cause of each row, shared by all the calls that check it. Row 14 is `hasRoom` and
--- `idlest` (specs/Room.antt), row 15 `lowestToCopy` and `remaining` (specs/Checkpoint.antt, specs/Restart.antt), row 16 `finishes`.
+-- 01, "Turned away": one definition for the cause of each row, shared by all the calls that check it. Row 14, "no log room (begin: on
+-- no disk)", is `hasRoom` and `idlest` (specs/Room.antt); row 15, "an end call while items remain, or a step where none remain",
+-- `lowestToCopy` and `remaining` (specs/Checkpoint.antt, specs/Restart.antt); row 16, "list longer than the allowance", `finishes`.
 use Prim.Native.Nat.{ℕ, zero, suc, _+_}
 use mathlib.Core.List.{List, []}
 use mathlib.Core.Bool.{Bool, true, false, not, _&&_, _||_}
@@ -92,7 +93,7 @@ tailRow s w = record { number = 6; applies = ltb (wrongTail s w) (s .disks); fir
 unfoldable pub retained : Sizes → World → ℕ → Scan
 retained s w disk = scan s (readLog s (w .logs) disk (tailOn s w disk) []) (tailOn s w disk) (startOn (w .anchor) disk)
 
--- of n disks from `disk` on: "lowest disk, first position there"
+-- of n disks from `disk` on: "lowest disk, first position there" (fault-lowest, fault-none in proofs/Faults.antt)
 unfoldable pub faultFrom : Sizes → World → ℕ → ℕ → Fault
 faultFrom s w zero disk = NoFault
 faultFrom s w (suc n) disk = faultIn disk (retained s w disk) (faultFrom s w n (disk + 1))

@@ -4,7 +4,7 @@ use mathlib.Core.List.{List, [], _∷_, _++_}
 use mathlib.Core.Bool.{Bool, cond, _&&_}
 use lib.ListN.{getD, replicate}
 use lib.Dec.{leb, ltb}
-use Rattle.model.specs.declared.Stage.the-variants.{Open, Copying}
+use Rattle.model.specs.declared.Stage.the-variants.{Copying}
 use Rattle.model.specs.declared.Sizes.{Sizes}
 use Rattle.model.specs.declared.Table.{Table}
 use Rattle.model.specs.declared.Core.{Core}
@@ -14,7 +14,7 @@ use Rattle.model.specs.Sizes.{pageBase, pageWords}
 use Rattle.model.specs.Anchor.{epochWord, startWord, backupAt}
 use Rattle.model.specs.World.{World, Action, store, write, anchor, backups, work, each}
 use Rattle.model.specs.Memory.{copyAt}
-use Rattle.model.specs.State.{places, endOf, servedBy, firstAt, hasUpdate, noCheckpoint}
+use Rattle.model.specs.State.{places, withCheckpoint, switchedTo, endOf, servedBy, firstAt, hasUpdate}
 use Rattle.model.specs.Refusal.{Row, row, Task}
 use Rattle.model.specs.Causes.{whenOpen, whenCopying, stageForbids, anchorWrong, lengthsWrong, spent}
 use Rattle.model.specs.Append.{flush}
@@ -36,22 +36,13 @@ unfoldable pub checkpointBeginTask : Core → World → Task
 checkpointBeginTask c w =
     record {
       actions = [];
-      core =
-          record {
-            stage = Copying;
-            sizes = c .sizes;
-            epoch = c .epoch;
-            logs = c .logs;
-            table = c .table;
-            next = c .next;
-            checkpoint = record { ends = perDisk (c .sizes) (endOf (c .logs)); copied = 0 };
-            replay = c .replay;
-          };
+      core = withCheckpoint c Copying (record { ends = perDisk (c .sizes) (endOf (c .logs)); copied = 0 });
       value = 0;
     }
 
 -- The pages below `copied` are copied, the others wait.
 -- Step (copying): "the lowest page not yet copied goes whole to backup n mod 2 and takes copy number n".
+-- Row 15, "an end call while items remain, or a step where none remain": the items of a checkpoint are the pages that wait.
 unfoldable pub toCopy : Core → ℕ → Bool
 toCopy c page = leb (c .checkpoint .copied) page
 
@@ -73,22 +64,13 @@ unfoldable pub checkpointStepTask : Core → World → Task
 checkpointStepTask c w =
     record {
       actions = copyPage c w (lowestToCopy c);
-      core =
-          record {
-            stage = c .stage;
-            sizes = c .sizes;
-            epoch = c .epoch;
-            logs = c .logs;
-            table = c .table;
-            next = c .next;
-            checkpoint = record { ends = c .checkpoint .ends; copied = c .checkpoint .copied + 1 };
-            replay = c .replay;
-          };
+      core = withCheckpoint c (c .stage) (record { ends = c .checkpoint .ends; copied = c .checkpoint .copied + 1 });
       value = 0;
     }
 
 -- End (copying): "flush disks in order; store D starts in row n mod 2; c := n".
--- "A start is the remembered end, or the first record of a transaction of that disk still open, if that is smaller."
+-- "A start is the remembered end, or the first record of a transaction of that disk still open, if that is smaller." (new-start in
+-- proofs/Meaning.antt)
 unfoldable pub leastFirst : Table → ℕ → ℕ → ℕ → ℕ
 leastFirst t disk remembered zero = remembered
 leastFirst t disk remembered (suc n) =
@@ -110,15 +92,7 @@ checkpointEndTask c w =
           ++ listBelow (λ d. store anchor (startWord (c .epoch + 1) d) (newStart c d)) (c .sizes .disks)
           ++ store anchor epochWord (c .epoch + 1) ∷ [];
       core =
-          record {
-            stage = Open;
-            sizes = c .sizes;
-            epoch = c .epoch + 1;
-            logs = record { starts = perDisk (c .sizes) (newStart c); tails = perDisk (c .sizes) (endOf (c .logs)); fills = replicate 8 0 };
-            table = c .table;
-            next = c .next;
-            checkpoint = noCheckpoint;
-            replay = c .replay;
-          };
+          switchedTo c
+          (record { starts = perDisk (c .sizes) (newStart c); tails = perDisk (c .sizes) (endOf (c .logs)); fills = replicate 8 0 });
       value = 0;
     }

@@ -7,7 +7,7 @@ use Rattle.model.specs.declared.Core.{Core}
 use Rattle.model.specs.Below.{listBelow}
 use Rattle.model.specs.Sizes.{total, tailWord}
 use Rattle.model.specs.Anchor.{epochWord, slotsAt, widthsAt, rowsAt, backupAt}
-use Rattle.model.specs.World.{World, Action, store, write, anchor, backups, logs, pages, work, each}
+use Rattle.model.specs.World.{World, Action, store, write, worldOf, anchor, backups, logs, pages, work, perform, each}
 use Rattle.model.specs.Memory.{copyAt}
 use Rattle.model.specs.State.{openCore}
 use Rattle.model.specs.Refusal.{Row, row, Task}
@@ -33,6 +33,10 @@ formatStores s =
 -- memory made fresh: no slot has an owner, every page has this copy number
 unfoldable pub freshMemory : Sizes → ℕ → List Action
 freshMemory s copy = each (write work) 0 (replicate (total s) 0) ++ each (write work) (copyAt s 0) (replicate 64 copy)
+
+-- the work memory after it
+unfoldable pub freshWork : Sizes → ℕ → List ℕ → List ℕ
+freshWork s copy memory = perform (freshMemory s copy) (worldOf [] [] [] [] memory) .work
 
 -- "Pages are zero, copy numbers 1, stage open."
 unfoldable pub formatTask : Sizes → Task

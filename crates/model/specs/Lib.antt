@@ -1,4 +1,16 @@
--- Document 01 as definitions, in its order.
+-- Document 01 as definitions, in its order. Our names for its words, where they differ:
+--   book, results, sheet, entry           reference, committed, write set, write
+--   taken, refused, cut (a call)          taken, refused, interrupted
+--   allowance                             budget
+--   c, the checkpoint number              epoch
+--   copy number (of a page, of a record)  copy
+--   closed, loose (a transaction)         Closed, Unclosed (its fate)
+--   held, holder                          locked, owner
+--   owed                                  reserved
+--   retained log                          retained; the part of the log from a disk's start to its tail
+--   state (with the lent work memory)     Core, by value; World .work, lent
+-- Page, slot, anchor, backup, log disk, ring, tail, start, end, stage, update, compensation, commit, abort, checkpoint, restart,
+-- source and step are 01's.
 -- Counting and words.
 pub mod Below
 pub mod Word

@@ -39,7 +39,8 @@ outcomeOf (Finished count value) = taken
 outcomeOf (Refused number first second) = refused
 outcomeOf (Interrupted count) = interrupted
 
--- "It is fed each call's arguments, whether the call was taken, refused or cut, and the number a begin answers."
+-- "It is fed each call's arguments, whether the call was taken, refused or cut, and the number a begin answers; nothing from devices,
+-- state or pages."
 pub record Heard : Type 0 where
   pub call : Call
   pub outcome : Outcome

@@ -4,9 +4,7 @@ use mathlib.Core.List.{List, [], _∷_, _++_}
 use mathlib.Core.Bool.{Bool, false, cond, not, _&&_}
 use lib.ListN.{getD, set, replicate}
 use lib.Dec.{ltb, eqb}
-use Rattle.model.specs.declared.Stage.the-variants.{Replaying}
 use Rattle.model.specs.declared.Sizes.{Sizes}
-use Rattle.model.specs.declared.Replay.{Replay}
 use Rattle.model.specs.declared.Core.{Core}
 use Rattle.model.specs.declared.Decoded.{Decoded}
 use Rattle.model.specs.declared.Decoded.the-variants.{Change, Close, Malformed}
@@ -22,7 +20,7 @@ use Rattle.model.specs.Record.{inBackup}
 use Rattle.model.specs.Decode.{readLog, decodeAt, span}
 use Rattle.model.specs.Scan.{scan, fateIn}
 use Rattle.model.specs.World.{World, store, write, anchor, backups, pages, each}
-use Rattle.model.specs.State.{openCore, noTable, noCheckpoint, tailOf}
+use Rattle.model.specs.State.{openCore, replayingCore, withReplay, tailOf}
 use Rattle.model.specs.Refusal.{Row, row, Task}
 use Rattle.model.specs.Causes.{whenShut, whenReplaying, stageForbids, anchorWrong, unformatted, sizesWrong, lengthsWrong, tailRow, tailOn, faultFrom, faultRow, sourceMissing, spent}
 use Rattle.model.specs.Abort.{xorIn}
@@ -43,20 +41,9 @@ restartBeginRows c w = row 1 (stageForbids whenShut c) ∷ imageRows w ++ row 13
 unfoldable pub restartBeginTask : World → Task
 restartBeginTask w =
     let s : Sizes = sizesOn (w .anchor) in
-    let starts : List ℕ = perDisk s (startOn (w .anchor)) in
     record {
       actions = each (write pages) 0 (replicate (total s) 0);
-      core =
-          record {
-            stage = Replaying;
-            sizes = s;
-            epoch = epochOn (w .anchor);
-            logs = record { starts = starts; tails = perDisk s (tailOn s w); fills = replicate 8 0 };
-            table = noTable;
-            next = 0;
-            checkpoint = noCheckpoint;
-            replay = record { positions = starts; page = 0 };
-          };
+      core = replayingCore s (epochOn (w .anchor)) (perDisk s (startOn (w .anchor))) (perDisk s (tailOn s w));
       value = 0;
     }
 
@@ -64,15 +51,12 @@ restartBeginTask w =
 unfoldable pub positionOf : Core → ℕ → ℕ
 positionOf c disk = getD (c .replay .positions) disk 0
 
--- what remains of a source: words of a log, pages of the backup
+-- What remains of a source: words of a log, pages of the backup. Row 15, "an end call while items remain, or a step where none
+-- remain", asks this.
 unfoldable pub remaining : Core → ℕ → ℕ
 remaining c source =
     cond (ltb source (c .sizes .disks)) (tailOf (c .logs) source - positionOf c source)
     (cond (eqb source (c .sizes .disks)) (c .sizes .pages - c .replay .page) 0)
-
-unfoldable pub withReplay : Core → Replay → Core
-withReplay c r =
-    record { stage = c .stage; sizes = c .sizes; epoch = c .epoch; logs = c .logs; table = c .table; next = c .next; checkpoint = c .checkpoint; replay = r }
 
 -- "A closed one's record not in backup c, or a loose one's record in it, is XORed in; others change nothing."
 abbrev pub replays : ℕ → Fate → ℕ → Bool

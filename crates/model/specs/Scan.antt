@@ -33,7 +33,8 @@ scanAtMost s read stop zero p = end
 scanAtMost s read stop (suc n) p =
     cond (ltb p stop) (scanned read p (decodeAt s read stop p) (scanAtMost s read stop n)) end
 
--- the log from p up to `stop`: each record has a word or more, so there are at most stop - p
+-- the log from p up to `stop`: each record has a word or more, so there are at most stop - p (scan-end and scan-step in proofs/Scan.antt
+-- say it without the count)
 unfoldable pub scan : Sizes → (ℕ → ℕ) → ℕ → ℕ → Scan
 scan s read stop p = scanAtMost s read stop (stop - p) p
 

@@ -23,7 +23,7 @@ places = 16
 abbrev pub limit : ℕ
 limit = 2 ^ 62
 
--- A new state; also what an interrupted call hands back.
+-- A new state; also what an interrupted call hands back: "buffers are lost. A new state is a cut with no store."
 abbrev pub noSizes : Sizes
 noSizes = record { pages = 0; disks = 0; ring = 0; slots = replicate 64 0; widths = replicate 64 0 }
 
@@ -48,6 +48,40 @@ newCore =
 unfoldable pub openCore : Sizes → ℕ → List ℕ → Core
 openCore sizes epoch tails =
     record { stage = Open; sizes = sizes; epoch = epoch; logs = emptyLogs tails; table = noTable; next = 1; checkpoint = noCheckpoint; replay = noReplay }
+
+-- The state that a restart begin leaves: its steps go on from the starts and from page 0.
+abbrev pub replayingCore : Sizes → ℕ → List ℕ → List ℕ → Core
+replayingCore sizes epoch starts tails =
+    record {
+      stage = Replaying;
+      sizes = sizes;
+      epoch = epoch;
+      logs = record { starts = starts; tails = tails; fills = replicate 8 0 };
+      table = noTable;
+      next = 0;
+      checkpoint = noCheckpoint;
+      replay = record { positions = starts; page = 0 };
+    }
+
+-- States with some parts changed. Only in this file is a state written out field by field.
+-- after a begin: another table, and the next number
+abbrev pub begunWith : Core → Table → Core
+begunWith c table =
+    record { stage = c .stage; sizes = c .sizes; epoch = c .epoch; logs = c .logs; table = table; next = c .next + 1; checkpoint = c .checkpoint; replay = c .replay }
+
+-- a checkpoint under way
+abbrev pub withCheckpoint : Core → Stage → Checkpoint → Core
+withCheckpoint c stage checkpoint =
+    record { stage = stage; sizes = c .sizes; epoch = c .epoch; logs = c .logs; table = c .table; next = c .next; checkpoint = checkpoint; replay = c .replay }
+
+-- the checkpoint under way ended: it is the current one, with these logs
+abbrev pub switchedTo : Core → Logs → Core
+switchedTo c logs =
+    record { stage = Open; sizes = c .sizes; epoch = c .epoch + 1; logs = logs; table = c .table; next = c .next; checkpoint = noCheckpoint; replay = c .replay }
+
+unfoldable pub withReplay : Core → Replay → Core
+withReplay c r =
+    record { stage = c .stage; sizes = c .sizes; epoch = c .epoch; logs = c .logs; table = c .table; next = c .next; checkpoint = c .checkpoint; replay = r }
 
 -- the state with other logs and another table
 unfoldable pub withLog : Core → Logs → Table → Core

@@ -11,7 +11,7 @@ use Rattle.model.specs.Sizes.{widthIn, slotBase}
 use Rattle.model.specs.Record.{Record, change, close, encode, wordsOf, updateKind, commitKind}
 use Rattle.model.specs.World.{World, write, pages, work, each, perform}
 use Rattle.model.specs.Memory.{ownerAt, copyOf}
-use Rattle.model.specs.State.{withLog, endOf, flushed, placeOf, diskAtPlace, firstAt, reservedAt, withPlace, without, hasUpdate}
+use Rattle.model.specs.State.{begunWith, withLog, endOf, flushed, placeOf, diskAtPlace, firstAt, reservedAt, withPlace, without, hasUpdate}
 use Rattle.model.specs.Room.{noDisk, hasRoom, idlest}
 use Rattle.model.specs.Refusal.{Row, row, Task, Verdict, accepted, rejected, verdict}
 use Rattle.model.specs.Causes.{whenServing, stageForbids, anchorWrong, lengthsWrong, slotMissing, notOpen, readerNotOpen, valueWrong, locked, tableFull, spent}
@@ -29,17 +29,7 @@ beginRows c w =
 
 -- its first position is set by its first update; it takes the lowest free place
 unfoldable pub begun : Core → Core
-begun c =
-    record {
-      stage = c .stage;
-      sizes = c .sizes;
-      epoch = c .epoch;
-      logs = c .logs;
-      table = withPlace (c .table) (placeOf (c .table) 0) (c .next) (idlest c 2) 0 2;
-      next = c .next + 1;
-      checkpoint = c .checkpoint;
-      replay = c .replay;
-    }
+begun c = begunWith c (withPlace (c .table) (placeOf (c .table) 0) (c .next) (idlest c 2) 0 2)
 
 unfoldable pub beginTask : Core → World → Task
 beginTask c w = record { actions = []; core = begun c; value = c .next }

@@ -19,7 +19,7 @@ use Rattle.model.specs.Sizes.{ringOf, total, tailWord, sizesInBounds}
 use Rattle.model.specs.Anchor.{anchorWords, epochOn, sizesOn, startOn}
 use Rattle.model.specs.World.{World, pages, write, each}
 use Rattle.model.specs.Memory.{lengthsRight}
-use Rattle.model.specs.State.{limit}
+use Rattle.model.specs.State.{limit, replayingCore}
 use Rattle.model.specs.Refusal.{row, rejected, verdict}
 use Rattle.model.specs.Causes.{whenShut, stageForbids, anchorWrong, unformatted, sizesWrong, lengthsWrong, tailOn, tailWrong, wrongTail, faultFrom, spent}
 use Rattle.model.specs.Checkpoint.{perDisk}
@@ -38,7 +38,7 @@ use Rattle.frame.proofs.Passing.{sound-at}
 use Rattle.log.specs.Reading.{faultsFrom}
 use Rattle.log.proofs.Scanning.{faults-from}
 use Rattle.replay.specs.Parts.{anchorRefusal, tailOut}
-use Rattle.restart.specs.Rest.{finished, beginRest, BeginsOn, replayingCore}
+use Rattle.restart.specs.Rest.{finished, beginRest, BeginsOn}
 use Rattle.restart.proofs.Storeless.{nothing-spent}
 
 -- what the anchor's rows leave when none applies
@@ -134,7 +134,7 @@ module _ (c : Core) (w : World) (s : Sizes) (same : s ≡ sizesOn (w .anchor)) (
 
         task-is : restartBeginTask w
             ≡ record { actions = each (write pages) 0 (replicate (total s) 0); core = replayingCore s (epochOn (w .anchor)) starts tails; value = 0 }
-        unfolding restartBeginTask replayingCore tailOn
+        unfolding restartBeginTask tailOn
         task-is = rw (from, to, same)
 
         pub begin-taken : fault ≡ NoFault → epochOn (w .anchor) < limit → {after : List ℕ} → after ≡ sets (w .pages) 0 (replicate (total s) 0)

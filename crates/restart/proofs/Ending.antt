@@ -9,11 +9,10 @@ use Rattle.model.specs.declared.Core.{Core}
 use Rattle.model.specs.declared.Reply.{Reply}
 use Rattle.model.specs.Below.{allBelow}
 use Rattle.model.specs.World.{World, pages, work}
-use Rattle.model.specs.Memory.{freshWork}
 use Rattle.model.specs.State.{openCore, tailOf}
 use Rattle.model.specs.Refusal.{Row, row, verdict}
 use Rattle.model.specs.Causes.{whenReplaying}
-use Rattle.model.specs.Format.{freshMemory}
+use Rattle.model.specs.Format.{freshMemory, freshWork}
 use Rattle.model.specs.Restart.{remaining, restartEndRows, restartEndTask}
 use Rattle.model.specs.Call.{Gives, restartEnd}
 use Rattle.model.proofs.Booleans.{true-false}

@@ -19,11 +19,11 @@ use Rattle.model.specs.Anchor.{backupAt}
 use Rattle.model.specs.Decode.{span}
 use Rattle.model.specs.Image.{xorAt}
 use Rattle.model.specs.World.{World, Action, perform}
-use Rattle.model.specs.State.{tailOf}
+use Rattle.model.specs.State.{withReplay, tailOf}
 use Rattle.model.specs.Refusal.{rejected, verdict}
 use Rattle.model.specs.Causes.{whenReplaying, sourceMissing}
 use Rattle.model.specs.Abort.{xorIn}
-use Rattle.model.specs.Restart.{positionOf, remaining, withReplay, replays, readDisk, fateFrom, nextRecord, fateFault, recordFault, stepFault, restartStepRows, backupStep, movedTo, recordStep, restartStepTask}
+use Rattle.model.specs.Restart.{positionOf, remaining, replays, readDisk, fateFrom, nextRecord, fateFault, recordFault, stepFault, restartStepRows, backupStep, movedTo, recordStep, restartStepTask}
 use Rattle.model.specs.Call.{Gives, resultOf, restartStep}
 use Rattle.model.proofs.Storeless.{storeless-finishes}
 use Rattle.model.proofs.Restart.Words.{withPages, perform-xor}

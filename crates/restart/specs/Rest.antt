@@ -4,8 +4,7 @@ use mathlib.Core.List.{List, [], _∷_}
 use mathlib.Core.Bool.{true}
 use Prim.Native.Nat.{ℕ, _<_}
 use lib.Dec.{eqb}
-use lib.ListN.{length, replicate}
-use Rattle.model.specs.declared.Stage.the-variants.{Replaying}
+use lib.ListN.{length}
 use Rattle.model.specs.declared.Sizes.{Sizes}
 use Rattle.model.specs.declared.Core.{Core}
 use Rattle.model.specs.declared.Answer.the-variants.{Finished}
@@ -13,7 +12,7 @@ use Rattle.model.specs.declared.Reply.{Reply}
 use Rattle.model.specs.Sizes.{total, logWords}
 use Rattle.model.specs.Anchor.{epochOn, sizesOn}
 use Rattle.model.specs.World.{World}
-use Rattle.model.specs.State.{noTable, noCheckpoint, sound}
+use Rattle.model.specs.State.{sound}
 use Rattle.model.specs.Refusal.{Row, row, verdict, conclude}
 use Rattle.model.specs.Causes.{whenReplaying, tailRow, faultFrom, faultRow, sourceMissing, spent}
 use Rattle.model.specs.Restart.{restartBeginTask, remaining, stepFault, restartStepTask}
@@ -53,17 +52,3 @@ unfoldable pub StepsOn : Core → World → ℕ → Reply → World → Type 0
 StepsOn c w source r v =
     record { answer = r .answer; budget = 0; core = r .core; world = v }
     ≡ conclude (verdict (stepRest c w source)) 0 (restartStepTask c w source) c w
-
--- the state that begin leaves
-unfoldable pub replayingCore : Sizes → ℕ → List ℕ → List ℕ → Core
-replayingCore sizes epoch starts tails =
-    record {
-      stage = Replaying;
-      sizes = sizes;
-      epoch = epoch;
-      logs = record { starts = starts; tails = tails; fills = replicate 8 0 };
-      table = noTable;
-      next = 0;
-      checkpoint = noCheckpoint;
-      replay = record { positions = starts; page = 0 };
-    }

@@ -30,8 +30,9 @@ ghost use lib.ListN.{length};
 ghost use Rattle.model.specs.Sizes.{total, logWords, sizesInBounds};
 ghost use Rattle.model.specs.Anchor.{anchorWords, sizesOn};
 ghost use Rattle.model.specs.World.{worldOf};
+ghost use Rattle.model.specs.State.{replayingCore};
 ghost use Rattle.model.specs.Call.{Gives, restartBegin};
-ghost use Rattle.restart.specs.Rest.{BeginsOn, replayingCore};
+ghost use Rattle.restart.specs.Rest.{BeginsOn};
 
 // The state that begin leaves: every log at its start, the backup at its first page.
 fn replaying_core(sizes: Sizes, epoch: u64, starts: [u64; 8], tails: [u64; 8]) -> Core

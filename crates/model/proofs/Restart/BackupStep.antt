@@ -14,7 +14,8 @@ use Rattle.model.specs.Sizes.{pageBase, pageWords, total}
 use Rattle.model.specs.Anchor.{backupAt}
 use Rattle.model.specs.World.{World, perform}
 use Rattle.model.specs.Causes.{tailOn}
-use Rattle.model.specs.Restart.{positionOf, withReplay, readDisk, backupStep}
+use Rattle.model.specs.State.{withReplay}
+use Rattle.model.specs.Restart.{positionOf, readDisk, backupStep}
 use Rattle.model.specs.Image.{retainedWords, imageOf, xorAt, restarted}
 use Rattle.model.proofs.Ledger.Entry.{mask, spanning, share}
 use Rattle.model.proofs.Xor.{xor, ⊕-zero-l, ⊕-zero-r}

@@ -16,10 +16,10 @@ use Rattle.model.specs.Sizes.{slotBase, total}
 use Rattle.model.specs.Decode.{span, decodeAt}
 use Rattle.model.specs.Scan.{Scan, end, scan, fateIn}
 use Rattle.model.specs.World.{World, perform}
-use Rattle.model.specs.State.{startOf, tailOf}
+use Rattle.model.specs.State.{withReplay, startOf, tailOf}
 use Rattle.model.specs.Causes.{tailOn}
 use Rattle.model.specs.Abort.{xorIn}
-use Rattle.model.specs.Restart.{replays, positionOf, withReplay, readDisk, fateFrom, nextRecord, movedTo, recordStep}
+use Rattle.model.specs.Restart.{replays, positionOf, readDisk, fateFrom, nextRecord, movedTo, recordStep}
 use Rattle.model.specs.Image.{retainedWords, imageOf, xorAt, restarted}
 use Rattle.model.proofs.Ledger.Entry.{mask, share}
 use Rattle.model.proofs.Xor.{xor, ⊕-zero-l, ⊕-zero-r}

@@ -17,11 +17,11 @@ use Rattle.model.specs.Below.{sumBelow}
 use Rattle.model.specs.Sizes.{sizesInBounds}
 use Rattle.model.specs.Anchor.{sizesOn, startOn}
 use Rattle.model.specs.World.{World}
-use Rattle.model.specs.State.{places, limit, noTable, openCore, startOf, tailOf, endOf, numberAt, servedBy, reservedOn, servingSound, sound}
+use Rattle.model.specs.State.{withReplay, places, limit, noTable, openCore, startOf, tailOf, endOf, numberAt, servedBy, reservedOn, servingSound, sound}
 use Rattle.model.specs.Refusal.{accepted, verdict}
 use Rattle.model.specs.Causes.{whenReplaying, sizesWrong, tailOn, tailWrong, wrongTail, sourceMissing, spent}
 use Rattle.model.specs.Format.{formatRows, formatTask}
-use Rattle.model.specs.Restart.{imageRows, restartBeginRows, restartBeginTask, remaining, withReplay, readDisk, nextRecord, restartStepRows, backupStep, movedTo, recordStep, restartStepTask, restartEndRows, restartEndTask}
+use Rattle.model.specs.Restart.{imageRows, restartBeginRows, restartBeginTask, remaining, readDisk, nextRecord, restartStepRows, backupStep, movedTo, recordStep, restartStepTask, restartEndRows, restartEndTask}
 use Rattle.model.proofs.Below.{first-before}
 use Rattle.model.proofs.Decode.{found-change, found-close}
 use Rattle.model.proofs.Bounds.{bounded}

@@ -16,11 +16,11 @@ use Rattle.model.specs.Below.{allBelow, listBelow}
 use Rattle.model.specs.Sizes.{total, sizesInBounds}
 use Rattle.model.specs.Anchor.{anchorWords, epochWord, epochOn, sizesOn, startWord, startOn, backupAt}
 use Rattle.model.specs.World.{World, Action, store, write, anchor, backups, work, cost, act, perform, stores, run, finishes, each}
-use Rattle.model.specs.Memory.{copyAt, freshWork}
+use Rattle.model.specs.Memory.{copyAt}
 use Rattle.model.specs.State.{limit, tailOf, replaySound, soundIn, sound}
 use Rattle.model.specs.Refusal.{accepted, verdict}
 use Rattle.model.specs.Causes.{whenReplaying, anchorWrong, lengthsWrong, tailOn}
-use Rattle.model.specs.Format.{freshMemory}
+use Rattle.model.specs.Format.{freshMemory, freshWork}
 use Rattle.model.specs.Restart.{restartEndRows, restartEndTask}
 use Rattle.model.specs.History.{Put}
 use Rattle.model.specs.Reference.{Reference, wordsIn}
@@ -37,7 +37,7 @@ use Rattle.model.proofs.Restart.Aside.{Aside, aside-append, aside-backu
 use Rattle.model.proofs.Store.Rows.{stage-row}
 use Rattle.model.proofs.Store.View.{Kept, Served}
 use Rattle.model.proofs.Store.Steady.{kept-aside}
-use Rattle.model.proofs.Store.Puts.{setEach, length-set-each, set-each-other, set-each-in, perform-each-start, run-before, lengths-made, fresh-epoch, fresh-owner}
+use Rattle.model.proofs.Store.Puts.{setEach, length-set-each, set-each-other, set-each-in, perform-each-start, run-before, lengths-made, fresh-is, fresh-copy, fresh-owner}
 use Rattle.model.proofs.Store.Anchor.{sizes-same}
 use Rattle.model.proofs.Store.Fresh.{Freshly, fresh-serving}
 use Rattle.model.proofs.Booleans.{true-false, all-four}
@@ -138,8 +138,9 @@ module _ (c : Core) (w : World) (r : Reference) (m : AtEnd c w r) (found : EndFo
       }
 
   end-world : perform (restartEndTask c w .actions) w ≡ ended
-  unfolding restartEndTask freshMemory freshWork
-  end-world = end-puts s w n (s .disks) (tailOf (c .logs)) (w .pages) (replicate (total s) 0) (replicate 64 n)
+  unfolding restartEndTask freshMemory
+  end-world =
+      rw (fresh-is s n (w .work)) (end-puts s w n (s .disks) (tailOf (c .logs)) (w .pages) (replicate (total s) 0) (replicate 64 n))
 
   b : Bounded s
   b = bounded s (found .bounds)
@@ -186,7 +187,7 @@ module _ (c : Core) (w : World) (r : Reference) (m : AtEnd c w r) (found : EndFo
             getD-sets-inside (w .backups) (backupAt s n) (w .pages) i (omega (arith, backup-within s n, found .lengths .pages, found .lengths .backups))
             (omega (arith, found .lengths .pages));
         pages = λ i h. ap (λ (l : List ℕ). getD l i 0) (m .pages);
-        copies = λ p h. fresh-epoch s n (w .work) (found .lengths .work) p (omega (arith, b .pages-max));
+        copies = λ p h. fresh-copy s n (w .work) (found .lengths .work) p (omega (arith, b .pages-max));
         owners = fresh-owner s n (w .work) (found .lengths .work);
         reference = m .reference;
         shaped = m .shaped;

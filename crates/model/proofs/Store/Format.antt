@@ -14,10 +14,10 @@ use Rattle.model.specs.Word.{part}
 use Rattle.model.specs.Sizes.{total, tailWord, sizesInBounds}
 use Rattle.model.specs.Anchor.{epochWord, slotsAt, widthsAt, rowsAt, epochOn, sizesOn, startWord, startOn, backupAt}
 use Rattle.model.specs.World.{World, store, write, anchor, backups, logs, pages, work, act, perform, each}
-use Rattle.model.specs.Memory.{copyAt, lengthsRight, freshWork}
+use Rattle.model.specs.Memory.{copyAt, lengthsRight}
 use Rattle.model.specs.Refusal.{accepted, verdict}
 use Rattle.model.specs.Causes.{anchorWrong, sizesWrong, lengthsWrong, tailOn}
-use Rattle.model.specs.Format.{formatRows, formatStores, freshMemory, formatTask}
+use Rattle.model.specs.Format.{formatRows, formatStores, freshMemory, freshWork, formatTask}
 use Rattle.model.specs.Reference.{blank}
 use Rattle.model.proofs.Run.{perform-append, perform-anchor, perform-backups, perform-pages, perform-work}
 use Rattle.model.proofs.Bounds.{Bounded, bounded}
@@ -27,7 +27,7 @@ use Rattle.model.proofs.Slots.{blank-shaped, blank-words}
 use Rattle.model.proofs.Restart.Image.{backup-within}
 use Rattle.model.proofs.Link.Words.{lengths-perform}
 use Rattle.model.proofs.Store.View.{Served}
-use Rattle.model.proofs.Store.Puts.{setEach, set-each-in, perform-each-log, lengths-made, same-word, fresh-epoch, fresh-owner}
+use Rattle.model.proofs.Store.Puts.{setEach, set-each-in, perform-each-log, lengths-made, same-word, fresh-is, fresh-copy, fresh-owner}
 use Rattle.model.proofs.Store.Anchor.{laidAnchor, Laid, laid-anchor}
 use Rattle.model.proofs.Store.Fresh.{Freshly, fresh-serving}
 use Rattle.model.proofs.Parts.{length-part, getD-part}
@@ -71,8 +71,8 @@ module _ (s : Sizes) (w : World) (b : Bounded s) (long : length (w .anchor) ≡ 
       }
 
   format-world : perform (formatTask s .actions) w ≡ formatted
-  unfolding formatTask formatStores freshMemory freshWork
-  format-world = laid-world s w front (s .slots) (s .widths) (replicate 16 0) zeros zeros (replicate 64 1)
+  unfolding formatTask formatStores freshMemory
+  format-world = rw (fresh-is s 1 (w .work)) (laid-world s w front (s .slots) (s .widths) (replicate 16 0) zeros zeros (replicate 64 1))
 
   words : Laid (formatted .anchor) front (s .slots) (s .widths) (replicate 16 0)
   words = laid-anchor (w .anchor) front (s .slots) (s .widths) (replicate 16 0) long refl (b .slots-length) (b .widths-length) refl
@@ -138,7 +138,7 @@ module _ (s : Sizes) (w : World) (b : Bounded s) (long : length (w .anchor) ≡ 
             same-word (w .backups) (backupAt s 1) (total s) 0 i (omega (arith, backup-within s 1, right .backups)) h
             ∙ sym (zero-page i h);
         pages = λ i h. zero-page i h ∙ sym (ap (λ (l : List ℕ). getD l i 0) (blank-words s) ∙ getD-replicate (total s) i 0 0 h);
-        copies = λ p h. fresh-epoch s 1 (w .work) (right .work) p (omega (arith, b .pages-max));
+        copies = λ p h. fresh-copy s 1 (w .work) (right .work) p (omega (arith, b .pages-max));
         owners = fresh-owner s 1 (w .work) (right .work);
         reference = refl;
         shaped = blank-shaped s;

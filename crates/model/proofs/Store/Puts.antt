@@ -12,10 +12,11 @@ use borrow.Author.Tests.{eq-eqb}
 use Rattle.model.specs.declared.Sizes.{Sizes}
 use Rattle.model.specs.Below.{joinBelow, listBelow}
 use Rattle.model.specs.Sizes.{total}
-use Rattle.model.specs.World.{World, Device, Action, store, anchor, logs, cost, act, perform, stores, covered, run}
-use Rattle.model.specs.Memory.{bufferAt, copyAt, workWords, copyOf, freshWork, lengthsRight}
+use Rattle.model.specs.World.{World, worldOf, Device, Action, store, write, anchor, logs, work, cost, act, perform, each, stores, covered, run}
+use Rattle.model.specs.Memory.{bufferAt, copyAt, workWords, copyOf, lengthsRight}
+use Rattle.model.specs.Format.{freshMemory, freshWork}
 use Rattle.model.proofs.Below.{below-suc}
-use Rattle.model.proofs.Run.{perform-append, covered-append, covered-cut, covered-all}
+use Rattle.model.proofs.Run.{perform-append, perform-work, covered-append, covered-cut, covered-all}
 use Rattle.model.proofs.Lengths.{Lengths}
 use Rattle.model.proofs.Parts.{getD-sets-before, getD-sets-inside}
 
@@ -83,23 +84,36 @@ same-word l i n x k fits h =
     let long : length (replicate n x) ≡ n = length-replicate n x in
     getD-sets-inside l i (replicate n x) k (omega (arith, long)) (omega (arith, long)) ∙ getD-replicate n k x 0 h
 
--- the copy number of every page, read from the fresh memory
-pub fresh-epoch : (s : Sizes) (copy : ℕ) (l : List ℕ) → length l ≡ workWords s → (p : ℕ) → p < 64
+-- the fresh memory: the owners first, then the copy numbers
+pub fresh-is : (s : Sizes) (copy : ℕ) (l : List ℕ)
+    → freshWork s copy l ≡ sets (sets l 0 (replicate (total s) 0)) (copyAt s 0) (replicate 64 copy)
+unfolding freshWork freshMemory
+fresh-is s copy l =
+    let owners : List Action = each (write work) 0 (replicate (total s) 0) in
+    let copies : List Action = each (write work) (copyAt s 0) (replicate 64 copy) in
+    let w : World = worldOf [] [] [] [] l in
+    ap (λ (v : World). v .work)
+    (perform-append owners copies w ∙ ap (perform copies) (perform-work 0 (replicate (total s) 0) w)
+    ∙ perform-work (copyAt s 0) (replicate 64 copy) (worldOf [] [] [] [] (sets l 0 (replicate (total s) 0))))
+
+-- the copy number of every page, read from there
+pub fresh-copy : (s : Sizes) (copy : ℕ) (l : List ℕ) → length l ≡ workWords s → (p : ℕ) → p < 64
     → copyOf s (freshWork s copy l) p ≡ copy
-unfolding freshWork copyOf copyAt workWords
-fresh-epoch s copy l long p h =
+unfolding copyOf copyAt workWords
+fresh-copy s copy l long p h =
     let owners : List ℕ = replicate (total s) 0 in
     let here : copyAt s p ≡ copyAt s 0 + p = omega arith in
-    ap (λ (i : ℕ). getD (sets (sets l 0 owners) (copyAt s 0) (replicate 64 copy)) i 0) here
+    rw (fresh-is s copy l) (ap (λ (i : ℕ). getD (sets (sets l 0 owners) (copyAt s 0) (replicate 64 copy)) i 0) here)
     ∙ same-word (sets l 0 owners) (copyAt s 0) 64 copy p (omega (arith, length-sets l 0 owners)) h
 
 -- no slot has an owner there
 pub fresh-owner : (s : Sizes) (copy : ℕ) (l : List ℕ) → length l ≡ workWords s → (i : ℕ) → i < total s → getD (freshWork s copy l) i 0 ≡ 0
-unfolding freshWork copyAt bufferAt workWords
+unfolding copyAt bufferAt workWords
 fresh-owner s copy l long i h =
     let owners : List ℕ = replicate (total s) 0 in
     let many : length owners ≡ total s = length-replicate (total s) 0 in
-    getD-sets-before (sets l 0 owners) (copyAt s 0) (replicate 64 copy) i (omega arith)
+    ap (λ (m : List ℕ). getD m i 0) (fresh-is s copy l)
+    ∙ getD-sets-before (sets l 0 owners) (copyAt s 0) (replicate 64 copy) i (omega arith)
     ∙ first-word l owners i (omega arith) (omega arith)
     ∙ getD-replicate (total s) i 0 0 h
 

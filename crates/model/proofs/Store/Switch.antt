@@ -7,13 +7,12 @@ use Prim.Native.Nat.{ℕ, _+_, _≤_, _<_}
 use native.Mathlib.Omega.{arith}
 use lib.ListN.{length, getD, replicate, length-append, length-replicate, getD-replicate}
 use borrow.Author.Tests.{le-ltb}
-use Rattle.model.specs.declared.Stage.the-variants.{Open}
 use Rattle.model.specs.declared.Core.{Core}
 use Rattle.model.specs.Word.{part}
 use Rattle.model.specs.Sizes.{total, ringOf, ringWord}
 use Rattle.model.specs.World.{World}
 use Rattle.model.specs.Memory.{copyOf, bufferOf}
-use Rattle.model.specs.State.{limit, startOf, tailOf, fillOf, endOf, hasUpdate, placeOf, isOpen, noCheckpoint}
+use Rattle.model.specs.State.{limit, startOf, tailOf, fillOf, endOf, hasUpdate, placeOf, isOpen, switchedTo}
 use Rattle.model.specs.Causes.{whenOpen, tailOn}
 use Rattle.model.specs.Checkpoint.{perDisk, newStart}
 use Rattle.model.specs.Transaction.{diskOf}
@@ -44,16 +43,8 @@ use Rattle.model.proofs.PerDisk.{getD-per-disk, length-per-disk}
 -- the state that a checkpoint's end leaves
 abbrev pub switchedCore : Core → Core
 switchedCore c =
-    record {
-      stage = Open;
-      sizes = c .sizes;
-      epoch = c .epoch + 1;
-      logs = record { starts = perDisk (c .sizes) (newStart c); tails = perDisk (c .sizes) (endOf (c .logs)); fills = replicate 8 0 };
-      table = c .table;
-      next = c .next;
-      checkpoint = noCheckpoint;
-      replay = c .replay;
-    }
+    switchedTo c
+    (record { starts = perDisk (c .sizes) (newStart c); tails = perDisk (c .sizes) (endOf (c .logs)); fills = replicate 8 0 })
 
 module _ {home : ℕ → ℕ} {puts : List Put} {c : Core} {w : World} {r : Reference} {F : List Entry} (g : Serving 0 home puts c w r F [])
     (copying : whenOpen (c .stage) ≡ false) (copied : c .sizes .pages ≤ c .checkpoint .copied) where

@@ -1,6 +1,5 @@
 -- `restart::begin::replaying_core` meets its contract: field by field. Assumes nothing.
 use borrow.Author.Needs.{needs}
-use Rattle.restart.specs.Rest.{replayingCore}
 use Rattle.restart.proofs.begin.replaying_core.Statement.{statement}
 use Rattle.restart.proofs.begin.replaying_core.Tie as tie
 
@@ -11,7 +10,6 @@ no-checkpoint-requires : tie.Need-no-checkpoint-requires
 no-checkpoint-requires c κs = search needs
 
 returns : tie.Need-returns
-unfolding replayingCore
 returns c = rw (c .before .no-table .ensures, c .no-checkpoint .ensures)
 
 pub replaying-core-spec : {M : Type 1} → statement M

@@ -1,7 +1,8 @@
 -- `restart::step::move_on` meets its contract: one position is set. Assumes nothing.
 use mathlib.Core.Path.{refl}
 use borrow.Author.Needs.{needs}
-use Rattle.model.specs.Restart.{withReplay, movedTo}
+use Rattle.model.specs.State.{withReplay}
+use Rattle.model.specs.Restart.{movedTo}
 use Rattle.restart.proofs.step.move_on.Statement.{statement}
 use Rattle.restart.proofs.step.move_on.Tie as tie
 
