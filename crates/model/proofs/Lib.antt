@@ -8,6 +8,7 @@ pub mod Lengths
 pub mod Counts
 pub mod Storeless
 pub mod Verdict
+pub mod Returned
 pub mod Meaning
 pub mod PerDisk
 pub mod Reading
