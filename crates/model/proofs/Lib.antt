@@ -46,6 +46,7 @@ pub mod Sound
 pub mod PowerLoss
 pub mod CommitPoint
 pub mod Finish
+pub mod Answers
 -- Computed tables.
 pub mod Everything
 pub mod Play

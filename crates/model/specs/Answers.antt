@@ -6,6 +6,7 @@ use mathlib.Core.List.{List·Memᴰ}
 use mathlib.Core.Bool.{Bool, true, false, cond, not, _||_}
 use lib.Dec.{eqb}
 use Rattle.model.specs.declared.Stage.{Stage}
+use Rattle.model.specs.declared.Sizes.{Sizes}
 use Rattle.model.specs.declared.Core.{Core}
 use Rattle.model.specs.declared.Answer.{Answer}
 use Rattle.model.specs.declared.Fault.{Fault}
@@ -69,7 +70,8 @@ ClosingTaken =
 pub record AnswersOwn (m : Machine) (k : Call) (a : Answer) : Type 0 where
   pub stage : eqb (numberOf a) 1 ≡ not (stagesOf k (m .core .stage))
   pub slices : isFormat k ≡ false → within 2 7 (numberOf a) ≡ false
-  pub formats : isFormat k ≡ true → (within 0 1 (numberOf a) || within 4 5 (numberOf a) || eqb (numberOf a) 16) ≡ true
+  pub formats : (s : Sizes) (budget : ℕ) → k ≡ format s budget
+      → (within 0 1 (numberOf a) || within 4 5 (numberOf a) || eqb (numberOf a) 16) ≡ true
 
 unfoldable pub OwnSlices : Type 0
 OwnSlices = Always λ m r. (k : Call) → AnswersOwn m k (result m k .answer)

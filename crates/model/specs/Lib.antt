@@ -33,3 +33,4 @@ pub mod Promise
 pub mod Answers
 -- The promises for traces of the code's own calls.
 pub mod Trace
+pub mod AnswersInCode
