@@ -30,7 +30,7 @@ use Rattle.model.specs.Reference.{Reference, taken, outcomeOf}
 use Rattle.model.specs.Machine.{Machine, Event, result, outcome, isRefused, follow, allowedAll, formatted}
 use Rattle.model.specs.History.{Put}
 use Rattle.model.specs.Promise.{Always}
-use Rattle.model.specs.Answers.{stagesOf, isFormat, ClosingTaken, AnswersOwn, OwnSlices}
+use Rattle.model.specs.Answers.{stagesOf, isFormat, ClosingTaken, OwnSlices}
 use Rattle.model.proofs.Booleans.{true-false}
 use Rattle.model.proofs.Verdict.{ascendingFrom, numbers, rejected-above}
 use Rattle.model.proofs.Restart.Progress.{Progress}

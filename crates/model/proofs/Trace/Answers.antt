@@ -1,12 +1,9 @@
 -- The statements of specs/AnswersInCode.antt, each from the machine's.
-use mathlib.Core.Path.{_≡_, refl, sym, ap, subst, _∙_}
-use Prim.Native.Nat.{ℕ}
-use Rattle.model.specs.declared.Core.{Core}
-use Rattle.model.specs.declared.Answer.{Answer}
+use mathlib.Core.Path.{sym, ap, subst, _∙_}
 use Rattle.model.specs.Refusal.{Result}
-use Rattle.model.specs.Call.{Call, commit, abort, resultOf, Gives}
-use Rattle.model.specs.Machine.{Machine, result, isRefused}
-use Rattle.model.specs.Trace.{Observed, KeepsContract}
+use Rattle.model.specs.Call.{commit, abort, Gives}
+use Rattle.model.specs.Machine.{isRefused}
+use Rattle.model.specs.Trace.{KeepsContract}
 use Rattle.model.specs.Answers.{ClosingTaken, AnswersOwn, OwnSlices, Made, by, MadeSound, StatesMade, Returns, Returned}
 use Rattle.model.specs.AnswersInCode.{ClosingTakenInCode, OwnSlicesInCode, MadeInCode, StatesMadeInCode, ReturnedInCode}
 use Rattle.model.proofs.Answers.{closing-taken, own-slices}
