@@ -8,6 +8,7 @@ pub mod Lengths
 pub mod Counts
 pub mod Storeless
 pub mod Verdict
+pub mod Returned
 pub mod Meaning
 pub mod PerDisk
 pub mod Reading
@@ -45,6 +46,7 @@ pub mod Sound
 pub mod PowerLoss
 pub mod CommitPoint
 pub mod Finish
+pub mod Answers
 -- Computed tables.
 pub mod Everything
 pub mod Play

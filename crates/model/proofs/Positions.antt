@@ -11,7 +11,7 @@ use Rattle.model.specs.Refusal.{numberOf, storesOf}
 use Rattle.model.specs.Call.{format, begin, update, commit, abort, checkpointBegin, checkpointStep, checkpointEnd, restartBegin, resultOf}
 use Rattle.model.specs.Machine.{Machine}
 use Rattle.model.proofs.Everything.{everything}
-use Rattle.model.proofs.Play.{Step, does, play, answers, unformatted, drained, restartBy, gives}
+use Rattle.model.proofs.Play.{Step, does, play, numbers, answers, unformatted, drained, restartBy, gives}
 
 -- more stores than any call here makes
 abbrev pub plenty : ℕ
@@ -41,9 +41,9 @@ copy = does (checkpointStep plenty)
 abbrev pub finish : ℕ → Step
 finish budget = does (checkpointEnd budget)
 
--- updates of one transaction on a fresh store
+-- updates of one transaction
 unfoldable pub updates : ℕ → List Step
-updates n = does begin ∷ replicate n (does (update 1 0 0 (12 ∷ []) plenty))
+updates n = replicate n (does (update 1 0 0 (12 ∷ []) plenty))
 
 -- a formatted store whose ring is full of closing records, and whose tail is t
 tailAt : ℕ → World
@@ -78,17 +78,17 @@ positions =
     -- P7 page copied, then update to 12 and commit, then close: gives 12. P8 the same, close cut before its last store: gives 12.
     ∷ gives 0 (play (mark ∷ copy ∷ twelve ++ does (commit 2 plenty) ∷ finish plenty ∷ []) setUp)
     ∷ gives 0 (play (mark ∷ copy ∷ twelve ++ does (commit 2 plenty) ∷ finish 1 ∷ []) setUp)
-    -- P9 freshly formatted, one transaction: 15 updates fit. P10 the 16th answers 14.
-    ∷ answers (updates 14) (update 1 0 0 (12 ∷ []) plenty) fresh
-    ∷ answers (updates 15) (update 1 0 0 (12 ∷ []) plenty) fresh
+    ∷ []
+    -- P9 freshly formatted, one transaction: 15 updates fit, each answers 0. P10 the 16th answers 14.
+    ++ numbers (updates 16) (play (does begin ∷ []) fresh)
     -- P11 slot length 32 accepted, 33 answers 4
-    ∷ answers [] (format (small 32) plenty) (unformatted (small 32))
+    ++ answers [] (format (small 32) plenty) (unformatted (small 32))
     ∷ answers [] (format (small 33) plenty) (unformatted (small 33))
     -- P12 tail = start + 128 passes check 6, 129 answers 6
     ∷ numberOf (resultOf restartBegin newCore (tailAt 128) .answer)
     ∷ numberOf (resultOf restartBegin newCore (tailAt 129) .answer)
     ∷ []
 
-pub positions-from-play : positions ≡ 152 ∷ 14 ∷ 65536 ∷ 2 ∷ 12 ∷ 2 ∷ 2 ∷ 12 ∷ 12 ∷ 0 ∷ 14 ∷ 0 ∷ 4 ∷ 0 ∷ 6 ∷ []
-unfolding everything positions small fresh setUp twelve updates tailAt does play answers unformatted drained restartBy gives
+pub positions-from-play : positions ≡ 152 ∷ 14 ∷ 65536 ∷ 2 ∷ 12 ∷ 2 ∷ 2 ∷ 12 ∷ 12 ∷ [] ++ replicate 15 0 ++ 14 ∷ 0 ∷ 4 ∷ 0 ∷ 6 ∷ []
+unfolding everything positions small fresh setUp twelve updates tailAt does play numbers answers unformatted drained restartBy gives
 positions-from-play = refl

@@ -10,3 +10,4 @@ pub mod Restart
 -- All of them, and lists of them.
 pub mod Calls
 pub mod Lists
+pub mod Made

@@ -4,4 +4,5 @@ pub mod Events
 pub mod Promises
 pub mod Table
 pub mod Commit
+pub mod Answers
 pub mod Converse

@@ -109,7 +109,7 @@ rows-ascend (restartStep source) c w = rw (fault-number (stepFault c w source))
 rows-ascend (restartEnd budget) c w = refl
 rows-ascend newState c w = refl
 
-ascending-cons : (n x : ℕ) (xs : List ℕ) → ascendingFrom n (x ∷ xs) ≡ true → (n < x) × (ascendingFrom x xs ≡ true)
+pub ascending-cons : (n x : ℕ) (xs : List ℕ) → ascendingFrom n (x ∷ xs) ≡ true → (n < x) × (ascendingFrom x xs ≡ true)
 unfolding ascendingFrom
 ascending-cons n x xs h =
     let both = and-eq-true-iff (ltb n x) (ascendingFrom x xs) .0 h in
@@ -152,6 +152,13 @@ pub record Least (rows : List Row) (number first second : ℕ) : Type 0 where
 listed : (rows : List Row) (number first second : ℕ) (by : By rows number first second) → List·Memᴰ (by .row) rows
 listed rows number first second by =
     subst (λ (l : List Row). List·Memᴰ (by .row) l) (sym (by .parts)) (Memᴰ·append-right (by .before) (List·Memᴰ·head refl))
+
+-- rows that stand above n refuse with a number above n
+pub rejected-above : (n : ℕ) (rows : List Row) → ascendingFrom n (numbers rows) ≡ true → (number first second : ℕ)
+    → verdict rows ≡ rejected number first second → n < number
+rejected-above n rows h number first second e =
+    let by = refused-by rows number first second e in
+    omega (arith, by .gives .0, above n rows h (by .row) (listed rows number first second by))
 
 pub least-applies : (k : Call) (c : Core) (w : World) (number first second : ℕ)
     → verdict (rowsOf k c w) ≡ rejected number first second → Least (rowsOf k c w) number first second

@@ -41,5 +41,8 @@ pub mod Reference
 pub mod Machine
 pub mod History
 pub mod Promise
+-- What is never refused; what an answer tells.
+pub mod Answers
 -- The promises for traces of the code's own calls.
 pub mod Trace
+pub mod AnswersInCode

@@ -127,7 +127,8 @@ NeverMalformed = Always λ m r. (k : Call) → numberOf (result m k .answer) ≡
 
 -- What the state says is true. The sizes, the checkpoint number, the starts and the tails are the device words; an open transaction's
 -- first position and its reserved words are those of its update records in the log; a page's copy number is the number of the last
--- checkpoint that copied it: the one under way if that has copied it already, else the last one that ended.
+-- checkpoint that copied it: the one under way if that has copied it already, else the last one that ended. Every open transaction's
+-- number is below the next one, which a begin answers: so it is none of theirs.
 pub record Truth (m : Machine) : Type 0 where
   pub sizes : sizesOn (m .world .anchor) ≡ m .core .sizes
   pub epoch : epochOn (m .world .anchor) ≡ m .core .epoch
@@ -141,6 +142,7 @@ pub record Truth (m : Machine) : Type 0 where
       → oldest (updatesIn t (logScan (m .core) (m .world) (diskOf (m .core) t))) ≡ firstAt (m .core .table) (placeOf (m .core .table) t)
   pub pages : (page : ℕ) → page < m .core .sizes .pages
       → copyOf (m .core .sizes) (m .world .work) page ≡ cond (ltb page (m .core .checkpoint .copied)) (m .core .epoch + 1) (m .core .epoch)
+  pub numbers : (t : ℕ) → isOpen (m .core .table) t ≡ true → t < m .core .next
 
 unfoldable pub StateTrue : Type 0
 StateTrue = Always λ m r. whenServing (m .core .stage) ≡ true → Truth m

@@ -74,7 +74,7 @@ verdict-append (x ∷ l) k e =
     let f = row-passed x l e in
     rw (f .0) (verdict-append l k (f .1))
 
-begin-verdict : (c : Core) (w : World) → c .stage ≡ Shut → Restartable w
+pub begin-verdict : (c : Core) (w : World) → c .stage ≡ Shut → Restartable w
     → verdict (restartBeginRows c w) ≡ cond (spent (epochOn (w .anchor))) (rejected 13 0 0) accepted
 unfolding verdict restartBeginRows stageForbids sound
 begin-verdict c w e h =

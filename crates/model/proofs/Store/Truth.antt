@@ -24,7 +24,7 @@ use Rattle.model.proofs.Ledger.Lists.{all-left, pick-whole, on-append, 
 use Rattle.model.proofs.Ledger.Positions.{size-ge, laid-from, boundary-start}
 use Rattle.model.proofs.Link.Words.{retained, placed-entries}
 use Rattle.model.proofs.Link.Abort.{scan-from}
-use Rattle.model.proofs.Store.View.{wordsFor, Serving, Served}
+use Rattle.model.proofs.Store.View.{wordsFor, Serving, Served, open-used}
 use Rattle.model.proofs.Places.{open-place}
 use Rattle.model.proofs.Store.AbortRows.{update-words}
 use Rattle.model.proofs.Booleans.{true-false}
@@ -201,4 +201,5 @@ truth m r g =
       reserved = reserved-true s;
       first = first-true s;
       pages = s .copies .pages;
+      numbers = λ t o. open-used (s .safe) t o .1;
     }

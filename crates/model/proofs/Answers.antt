@@ -1,0 +1,217 @@
+-- What is never refused: on the machine's own slices no cause of rows 2 to 7 arises, and what is open can be closed.
+use mathlib.Core.Path.{_≡_, refl, sym, ap, _∙_}
+use mathlib.Core.List.{List, [], _∷_}
+use mathlib.Core.Bool.{Bool, true, false, cond, not, and-false, _||_}
+use Prim.Native.Nat.{ℕ}
+use native.Mathlib.Omega.{arith}
+use lib.Dec.{leb, eqb}
+use lib.ListN.{length}
+use borrow.Author.Tests.{lt-leb, eq-eqb, eqb-true}
+use Rattle.model.specs.declared.Stage.{Stage}
+use Rattle.model.specs.declared.Stage.the-variants.{Shut, Replaying, Open, Copying}
+use Rattle.model.specs.declared.Sizes.{Sizes}
+use Rattle.model.specs.declared.Core.{Core}
+use Rattle.model.specs.declared.Fault.{Fault}
+use Rattle.model.specs.declared.Fault.the-variants.{NoFault}
+use Rattle.model.specs.Below.{within}
+use Rattle.model.specs.Anchor.{anchorWords, epochOn}
+use Rattle.model.specs.World.{World}
+use Rattle.model.specs.Memory.{lengthsRight}
+use Rattle.model.specs.State.{sound, isOpen}
+use Rattle.model.specs.Refusal.{Row, row, Result, verdict, accepted, rejected, numberOf}
+use Rattle.model.specs.Causes.{whenShut, whenReplaying, whenOpen, whenCopying, whenServing, stageForbids, anchorWrong, sizesWrong, lengthsWrong, faultRow, notOpen, spent}
+use Rattle.model.specs.Format.{formatRows}
+use Rattle.model.specs.Transaction.{beginRows, updateRows, readRows, commitRows}
+use Rattle.model.specs.Abort.{abortFault, abortRows}
+use Rattle.model.specs.Checkpoint.{checkpointBeginRows, checkpointStepRows, checkpointEndRows}
+use Rattle.model.specs.Restart.{restartBeginRows, restartStepRows, restartEndRows}
+use Rattle.model.specs.Call.{Call, format, begin, update, read, commit, abort, checkpointBegin, checkpointStep, checkpointEnd, restartBegin, restartStep, restartEnd, newState, rowsOf, resultOf}
+use Rattle.model.specs.Reference.{Reference, taken, outcomeOf}
+use Rattle.model.specs.Machine.{Machine, Event, result, outcome, isRefused, follow, allowedAll, formatted}
+use Rattle.model.specs.History.{Put}
+use Rattle.model.specs.Promise.{Always}
+use Rattle.model.specs.Answers.{stagesOf, isFormat, ClosingTaken, OwnSlices}
+use Rattle.model.proofs.Booleans.{true-false}
+use Rattle.model.proofs.Verdict.{ascendingFrom, numbers, rejected-above}
+use Rattle.model.proofs.Restart.Progress.{Progress}
+use Rattle.model.proofs.Store.Cases.{call-cases}
+use Rattle.model.proofs.Store.View.{Restartable}
+use Rattle.model.proofs.Store.Checks.{step-never-bad, begin-verdict, shut-stage}
+use Rattle.model.proofs.Store.AbortRows.{abort-never-bad}
+use Rattle.model.proofs.Store.Holding.{Holding, shut, replaying, serving}
+use Rattle.model.proofs.Store.Step.{holding-kept, served, replayed}
+use Rattle.model.proofs.Sound.Lists.{sound-after}
+use Rattle.model.proofs.Sound.Made.{stage-answers}
+use Rattle.model.proofs.PowerLoss.{format-holds, follow-holds}
+
+-- What holds of a machine that a list of events reached, as far as refusals go.
+record Right (c : Core) (w : World) : Type 0 where
+  sound : sound c ≡ true
+  restarts : Restartable w
+  lengths : whenShut (c .stage) ≡ false → lengthsRight (c .sizes) w ≡ true
+  replays : whenReplaying (c .stage) ≡ true → Progress c w
+  aborts : whenServing (c .stage) ≡ true → (number : ℕ) → abortFault c w number ≡ NoFault
+
+-- the slices have the lengths that the state's sizes give
+right-lengths : {puts : List Put} {m : Machine} {r : Reference} → Holding puts m r → whenShut (m .core .stage) ≡ false
+    → lengthsRight (m .core .sizes) (m .world) ≡ true
+right-lengths (shut s k n) e = true-false (ap whenShut s) e
+right-lengths (replaying p k n) e = rw (p .sizes) (k .sound .lengths)
+right-lengths (serving g) e = g .serving .safe .devices .lengths
+
+reached : (m : Machine) (s : Sizes) (budget : ℕ) → outcome m (format s budget) ≡ taken → (es : List Event)
+    → allowedAll es (formatted m s budget .machine) ≡ true
+    → Right (follow es (formatted m s budget) .machine .core) (follow es (formatted m s budget) .machine .world)
+reached m s budget formats es a =
+    let h = follow-holds es [] (formatted m s budget) (format-holds m s budget formats) a in
+    record {
+      sound = sound-after m s budget formats es .1;
+      restarts = holding-kept h .sound;
+      lengths = right-lengths h;
+      replays = λ e. replayed h e .0;
+      aborts = λ e. abort-never-bad (served h e);
+    }
+
+-- a stage in which a call is taken that is none for a shut store
+not-shut : (allowed : Stage → Bool) → allowed Shut ≡ false → (s : Stage) → allowed s ≡ true → whenShut s ≡ false
+not-shut allowed none Shut e = true-false e none
+not-shut allowed none Replaying e = refl
+not-shut allowed none Open e = refl
+not-shut allowed none Copying e = refl
+
+module _ (c : Core) (w : World) (right : Right c w) where
+  anchor-right : anchorWrong w ≡ false
+  unfolding anchorWrong
+  anchor-right = rw (eq-eqb (length (w .anchor)) anchorWords (right .restarts .anchor))
+
+  -- rows 1, 2 and 5, which every call but format, restart begin and a new state has first
+  first-three : (allowed : Stage → Bool) → allowed Shut ≡ false → allowed (c .stage) ≡ true → (rest : List Row)
+      → verdict (row 1 (stageForbids allowed c) ∷ row 2 (anchorWrong w) ∷ row 5 (lengthsWrong (c .sizes) w) ∷ rest) ≡ verdict rest
+  unfolding verdict stageForbids lengthsWrong
+  first-three allowed none stage rest =
+      rw (stage, right .sound, anchor-right, right .lengths (not-shut allowed none (c .stage) stage))
+
+-- In its stage a call's verdict is that of rows above 7.
+record Late (k : Call) (c : Core) (w : World) : Type 0 where
+  rest : List Row
+  late : ascendingFrom 7 (numbers rest) ≡ true
+  same : verdict (rowsOf k c w) ≡ verdict rest
+
+module _ (c : Core) (w : World) (right : Right c w) where
+  -- row 7, which an abort and a restart step have next
+  fourth : (f : Fault) (rest : List Row) → f ≡ NoFault → verdict (faultRow f ∷ rest) ≡ verdict rest
+  unfolding verdict
+  fourth f rest none = rw none
+
+  -- restart begin has all of them first, then row 13
+  thirteen : c .stage ≡ Shut → verdict (restartBeginRows c w) ≡ verdict (row 13 (spent (epochOn (w .anchor))) ∷ [])
+  unfolding verdict
+  thirteen stage = begin-verdict c w stage (right .restarts)
+
+  late-rows : (k : Call) → isFormat k ≡ false → stagesOf k (c .stage) ≡ true → Late k c w
+  unfolding ascendingFrom beginRows updateRows readRows commitRows abortRows checkpointBeginRows checkpointStepRows checkpointEndRows restartStepRows restartEndRows
+  late-rows (format s budget) other stage = true-false refl other
+  late-rows begin other stage = record { rest = _; late = refl; same = first-three c w right whenServing refl stage _ }
+  late-rows (update number page slot value budget) other stage =
+      record { rest = _; late = refl; same = first-three c w right whenServing refl stage _ }
+  late-rows (read reader page slot) other stage = record { rest = _; late = refl; same = first-three c w right whenServing refl stage _ }
+  late-rows (commit number budget) other stage = record { rest = _; late = refl; same = first-three c w right whenServing refl stage _ }
+  late-rows (abort number budget) other stage =
+      record {
+        rest = _;
+        late = refl;
+        same = first-three c w right whenServing refl stage _ ∙ fourth _ (row 9 _ ∷ []) (right .aborts stage number);
+      }
+  late-rows checkpointBegin other stage = record { rest = _; late = refl; same = first-three c w right whenOpen refl stage _ }
+  late-rows (checkpointStep budget) other stage = record { rest = _; late = refl; same = first-three c w right whenCopying refl stage _ }
+  late-rows (checkpointEnd budget) other stage = record { rest = _; late = refl; same = first-three c w right whenCopying refl stage _ }
+  late-rows restartBegin other stage =
+      record {
+        rest = row 13 (spent (epochOn (w .anchor))) ∷ [];
+        late = refl;
+        same = thirteen (shut-stage (c .stage) stage);
+      }
+  late-rows (restartStep source) other stage =
+      record {
+        rest = _;
+        late = refl;
+        same = first-three c w right whenReplaying refl stage _
+            ∙ fourth _ (row 8 _ ∷ row 15 _ ∷ []) (step-never-bad c w (right .replays stage) source);
+      }
+  late-rows (restartEnd budget) other stage = record { rest = _; late = refl; same = first-three c w right whenReplaying refl stage _ }
+  late-rows newState other stage = record { rest = []; late = refl; same = refl }
+
+  own-late : (k : Call) → isFormat k ≡ false → within 2 7 (numberOf (resultOf k c w .answer)) ≡ false
+  unfolding within
+  own-late k other = go (stagesOf k (c .stage)) refl
+    where
+      go : (b : Bool) → stagesOf k (c .stage) ≡ b → within 2 7 (numberOf (resultOf k c w .answer)) ≡ false
+      go false e = rw (eqb-true (numberOf (resultOf k c w .answer)) 1 (stage-answers k c w (right .sound) ∙ ap not e))
+      go true e =
+          let l = late-rows k other e in
+          call-cases (λ (r : Result). within 2 7 (numberOf (r .answer)) ≡ false) k c w
+          (λ number first second v.
+          let more = rejected-above 7 (l .rest) (l .late) number first second (sym (l .same) ∙ v) in
+          rw (lt-leb number 7 more) (and-false (leb 2 number)))
+          (λ v f. refl) (λ v f. refl)
+
+-- a format's rows are 1, 4 and 5: the anchor has its length
+unfoldable formatNumber : ℕ → Bool
+formatNumber n = within 0 1 n || within 4 5 n || eqb n 16
+
+format-number : (a b d : Bool) (n first second : ℕ)
+    → cond a (rejected 1 0 0) (cond b (rejected 4 0 0) (cond d (rejected 5 0 0) accepted)) ≡ rejected n first second
+    → formatNumber n ≡ true
+unfolding formatNumber within
+format-number true b d n first second e = rw (let one : n ≡ 1 = cc in one)
+format-number false true d n first second e = rw (let four : n ≡ 4 = cc in four)
+format-number false false true n first second e = rw (let five : n ≡ 5 = cc in five)
+format-number false false false n first second e = let z : _≡_ {A = ℕ} 0 1 = cc in absurd (omega arith)
+
+own-format : (c : Core) (w : World) → Right c w → (s : Sizes) (budget : ℕ) → formatNumber (numberOf (resultOf (format s budget) c w .answer)) ≡ true
+unfolding formatNumber within verdict formatRows
+own-format c w right s budget =
+    call-cases (λ (r : Result). formatNumber (numberOf (r .answer)) ≡ true) (format s budget) c w
+    (λ number first second v.
+    format-number (stageForbids whenShut c) (sizesWrong s) (lengthsWrong s w) number first second (rw (anchor-right c w right) at v))
+    (λ v f. refl) (λ v f. refl)
+
+-- an accepted call is not refused
+goes : (k : Call) (c : Core) (w : World) → verdict (rowsOf k c w) ≡ accepted → isRefused (outcomeOf (resultOf k c w .answer)) ≡ false
+goes k c w ok =
+    call-cases (λ (r : Result). isRefused (outcomeOf (r .answer)) ≡ false) k c w
+    (λ number first second v. let z : _≡_ {A = ℕ} 0 1 = cc in absurd (omega arith))
+    (λ v f. refl) (λ v f. refl)
+
+module _ (c : Core) (w : World) (right : Right c w) (stage : whenServing (c .stage) ≡ true) (t : ℕ) (opened : isOpen (c .table) t ≡ true) where
+  last-row : verdict (row 9 (notOpen c t) ∷ []) ≡ accepted
+  unfolding verdict notOpen
+  last-row = rw opened
+
+  commit-goes : verdict (commitRows c w t) ≡ accepted
+  unfolding commitRows
+  commit-goes = first-three c w right whenServing refl stage _ ∙ last-row
+
+  abort-goes : verdict (abortRows c w t) ≡ accepted
+  unfolding abortRows
+  abort-goes = first-three c w right whenServing refl stage _ ∙ fourth c w right _ (row 9 _ ∷ []) (right .aborts stage t) ∙ last-row
+
+-- Commit and abort are never refused to an open transaction: see specs/Answers.antt.
+pub closing-taken : ClosingTaken
+unfolding ClosingTaken Always outcome result
+closing-taken m s budget formats es a stage t opened n =
+    let right = reached m s budget formats es a in (
+      goes (commit t n) _ _ (commit-goes _ _ right stage t opened),
+      goes (abort t n) _ _ (abort-goes _ _ right stage t opened),
+    )
+
+-- What the machine's own slices are answered.
+pub own-slices : OwnSlices
+unfolding OwnSlices Always result formatNumber
+own-slices m s budget formats es a k =
+    let right = reached m s budget formats es a in
+    record {
+      stage = stage-answers k _ _ (right .sound);
+      slices = own-late _ _ right k;
+      formats = λ sizes b is. rw is (own-format _ _ right sizes b);
+    }

@@ -1,0 +1,186 @@
+-- What an answer tells: its number, the stores made, and the column "Returned" of 01's table.
+use mathlib.Core.Path.{_≡_, refl, sym}
+use mathlib.Core.List.{List, [], _∷_, _++_}
+use mathlib.Core.Bool.{Bool, true, false, not, _&&_}
+use Prim.Native.Nat.{ℕ}
+use native.Mathlib.Omega.{arith}
+use lib.Dec.{eqb}
+use borrow.Author.Tests.{eqb-true, ne-eqb, not-true}
+use Rattle.model.specs.declared.Core.{Core}
+use Rattle.model.specs.declared.Answer.the-variants.{Refused}
+use Rattle.model.specs.declared.Fault.{Fault}
+use Rattle.model.specs.declared.Fault.the-variants.{NoFault, BadRecord}
+use Rattle.model.specs.Below.{within}
+use Rattle.model.specs.Anchor.{sizesOn}
+use Rattle.model.specs.World.{World}
+use Rattle.model.specs.Refusal.{Row, row, Result}
+use Rattle.model.specs.Causes.{wrongTail, tailRow, faultRow}
+use Rattle.model.specs.Format.{formatRows}
+use Rattle.model.specs.Transaction.{beginRows, updateRows, readRows, commitRows}
+use Rattle.model.specs.Abort.{abortRows}
+use Rattle.model.specs.Checkpoint.{checkpointBeginRows, checkpointStepRows, checkpointEndRows}
+use Rattle.model.specs.Restart.{imageRows, restartBeginRows, restartStepRows, restartEndRows}
+use Rattle.model.specs.Call.{Call, format, begin, update, read, commit, abort, checkpointBegin, checkpointStep, checkpointEnd, restartBegin, restartStep, restartEnd, newState, rowsOf, taskOf, budgetOf}
+use Rattle.model.specs.Reference.{taken, refused, interrupted}
+use Rattle.model.specs.Answers.{outcomeNumbered, faultOf, Returns, Returned, RowNumbers}
+use Rattle.model.proofs.Booleans.{true-false, both, all-four, in-range}
+use Rattle.model.proofs.Members.{Every, every-nil, every-cons, every-append}
+use Rattle.model.proofs.Run.{finished-made, interrupted-made}
+use Rattle.model.proofs.Verdict.{least-applies}
+use Rattle.model.proofs.Store.Cases.{call-cases}
+
+-- What a row of a call's returns: its number is 1 to 15, and its values are those of the column.
+record RowReturns (k : Call) (c : Core) (w : World) (r : Row) : Type 0 where
+  number : within 1 15 (r .number) ≡ true
+  zeros : within 6 7 (r .number) ≡ false → (r .first ≡ 0) × (r .second ≡ 0)
+  tail : r .number ≡ 6 → (r .first ≡ wrongTail (sizesOn (w .anchor)) w) × (r .second ≡ 0)
+  fault : r .number ≡ 7 → r .applies ≡ true → faultOf k c w ≡ BadRecord (r .first) (r .second)
+
+-- a row that returns zeros
+unfoldable plain : Row → Bool
+plain r = within 1 15 (r .number) && not (within 6 7 (r .number)) && eqb (r .first) 0 && eqb (r .second) 0
+
+unfoldable allPlain : List Row → Bool
+allPlain [] = true
+allPlain (r ∷ rows) = plain r && allPlain rows
+
+module _ (k : Call) (c : Core) (w : World) where
+  plain-returns : (r : Row) → plain r ≡ true → RowReturns k c w r
+  unfolding plain within
+  plain-returns r e =
+      let t = all-four (within 1 15 (r .number)) (not (within 6 7 (r .number))) (eqb (r .first) 0) (eqb (r .second) 0) e in
+      let other : within 6 7 (r .number) ≡ false = not-true (within 6 7 (r .number)) (t .1) in
+      record {
+        number = t .0;
+        zeros = λ o. (eqb-true (r .first) 0 (t .2), eqb-true (r .second) 0 (t .3));
+        tail = λ six. true-false (rw six) other;
+        fault = λ seven applies. true-false (rw seven) other;
+      }
+
+  plain-rows : (rows : List Row) → allPlain rows ≡ true → Every (RowReturns k c w) rows
+  unfolding allPlain
+  plain-rows [] e = every-nil (RowReturns k c w)
+  plain-rows (r ∷ rows) e =
+      let t = both (plain r) (allPlain rows) e in
+      every-cons (RowReturns k c w) r rows (plain-returns r (t .0)) (plain-rows rows (t .1))
+
+  tail-returns : RowReturns k c w (tailRow (sizesOn (w .anchor)) w)
+  unfolding within
+  tail-returns =
+      record {
+        number = refl;
+        zeros = λ other. true-false refl other;
+        tail = λ six. (refl, refl);
+        fault = λ seven applies. absurd (omega arith);
+      }
+
+  fault-returns : (f : Fault) → faultOf k c w ≡ f → RowReturns k c w (faultRow f)
+  unfolding within
+  fault-returns NoFault e =
+      record {
+        number = refl;
+        zeros = λ other. (refl, refl);
+        tail = λ six. absurd (omega arith);
+        fault = λ seven applies. true-false applies refl;
+      }
+  fault-returns (BadRecord disk p) e =
+      record {
+        number = refl;
+        zeros = λ other. true-false refl other;
+        tail = λ six. absurd (omega arith);
+        fault = λ seven applies. e;
+      }
+
+  -- the call's rows, where one of them is row 7
+  with-fault : (before after : List Row) (f : Fault) → faultOf k c w ≡ f → Every (RowReturns k c w) before → allPlain after ≡ true
+      → Every (RowReturns k c w) (before ++ faultRow f ∷ after)
+  with-fault before after f e b a =
+      every-append (RowReturns k c w) before (faultRow f ∷ after) b
+      (every-cons (RowReturns k c w) (faultRow f) after (fault-returns f e) (plain-rows after a))
+
+rows-return : (k : Call) (c : Core) (w : World) → Every (RowReturns k c w) (rowsOf k c w)
+unfolding within plain allPlain formatRows beginRows updateRows readRows commitRows abortRows checkpointBeginRows checkpointStepRows checkpointEndRows imageRows restartBeginRows restartStepRows restartEndRows
+rows-return (format s budget) c w = plain-rows (format s budget) c w _ refl
+rows-return begin c w = plain-rows begin c w _ refl
+rows-return (update number page slot value budget) c w = plain-rows (update number page slot value budget) c w _ refl
+rows-return (read reader page slot) c w = plain-rows (read reader page slot) c w _ refl
+rows-return (commit number budget) c w = plain-rows (commit number budget) c w _ refl
+rows-return (abort number budget) c w =
+    let k : Call = abort number budget in
+    with-fault k c w (row 1 _ ∷ row 2 _ ∷ row 5 _ ∷ []) (row 9 _ ∷ []) (faultOf k c w) refl (plain-rows k c w _ refl) refl
+rows-return checkpointBegin c w = plain-rows checkpointBegin c w _ refl
+rows-return (checkpointStep budget) c w = plain-rows (checkpointStep budget) c w _ refl
+rows-return (checkpointEnd budget) c w = plain-rows (checkpointEnd budget) c w _ refl
+rows-return restartBegin c w =
+    let k : Call = restartBegin in
+    let P : Row → Type 0 = RowReturns k c w in
+    with-fault k c w (row 1 _ ∷ row 2 _ ∷ row 3 _ ∷ row 4 _ ∷ row 5 _ ∷ tailRow (sizesOn (w .anchor)) w ∷ []) (row 13 _ ∷ []) (faultOf k c w) refl
+    (every-append P (row 1 _ ∷ row 2 _ ∷ row 3 _ ∷ row 4 _ ∷ row 5 _ ∷ []) (tailRow (sizesOn (w .anchor)) w ∷ []) (plain-rows k c w _ refl)
+    (every-cons P (tailRow (sizesOn (w .anchor)) w) [] (tail-returns k c w) (every-nil P)))
+    refl
+rows-return (restartStep source) c w =
+    let k : Call = restartStep source in
+    with-fault k c w (row 1 _ ∷ row 2 _ ∷ row 5 _ ∷ []) (row 8 _ ∷ row 15 _ ∷ []) (faultOf k c w) refl (plain-rows k c w _ refl) refl
+rows-return (restartEnd budget) c w = plain-rows (restartEnd budget) c w _ refl
+rows-return newState c w = every-nil (RowReturns newState c w)
+
+pub row-numbers : RowNumbers
+unfolding RowNumbers
+row-numbers k c w r m = rows-return k c w r m .number
+
+-- two outcomes are not the same
+taken-refused : {X : Type 0} → taken ≡ refused → X
+taken-refused e = let z : _≡_ {A = ℕ} 0 1 = cc in absurd (omega arith)
+
+cut-refused : {X : Type 0} → interrupted ≡ refused → X
+cut-refused e = let z : _≡_ {A = ℕ} 0 1 = cc in absurd (omega arith)
+
+taken-cut : {X : Type 0} → taken ≡ interrupted → X
+taken-cut e = let z : _≡_ {A = ℕ} 0 1 = cc in absurd (omega arith)
+
+-- a refusal by a row that applies
+by-row : (k : Call) (c : Core) (w : World) (r : Row) → RowReturns k c w r → r .applies ≡ true
+    → Returns k c w (Refused (r .number) (r .first) (r .second))
+unfolding outcomeNumbered
+by-row k c w r q applies =
+    let n = in-range 1 15 (r .number) (q .number) in
+    record {
+      number = omega arith;
+      outcome = rw (ne-eqb (r .number) 0 (λ e. omega arith), ne-eqb (r .number) 16 (λ e. omega arith));
+      finished = λ o. taken-refused (sym o);
+      none = λ o. refl;
+      zeros = λ o. q .zeros;
+      tail = q .tail;
+      fault = λ seven. q .fault seven applies;
+      cut = λ o. cut-refused (sym o);
+    }
+
+pub returned : Returned
+unfolding Returned outcomeNumbered
+returned k c w =
+    call-cases (λ (r : Result). Returns k c w (r .answer)) k c w
+    (λ number first second v.
+    let l = least-applies k c w number first second v in
+    rw (l .gives .0, l .gives .1, l .gives .2) at (by-row k c w (l .row) (rows-return k c w (l .row) (l .listed)) (l .applies)))
+    (λ v f.
+    record {
+      number = omega arith;
+      outcome = refl;
+      finished = λ o. (finished-made (budgetOf k) (taskOf k c w .actions) f, refl, refl);
+      none = λ o. taken-refused o;
+      zeros = λ o. taken-refused o;
+      tail = λ six. absurd (omega arith);
+      fault = λ seven. absurd (omega arith);
+      cut = λ o. taken-cut o;
+    })
+    (λ v f.
+    record {
+      number = omega arith;
+      outcome = refl;
+      finished = λ o. taken-cut (sym o);
+      none = λ o. cut-refused o;
+      zeros = λ o. cut-refused o;
+      tail = λ six. absurd (omega arith);
+      fault = λ seven. absurd (omega arith);
+      cut = λ o. (interrupted-made (budgetOf k) (taskOf k c w .actions) f, refl, refl);
+    })

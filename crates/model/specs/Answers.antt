@@ -1,0 +1,140 @@
+-- What is never refused, which states there are, and what an answer tells: 01's "Turned away" as statements over lists of calls, and
+-- over every call, state and lent slices.
+use mathlib.Core.Path.{_≡_}
+use Prim.Native.Nat.{ℕ, _≤_}
+use mathlib.Core.List.{List·Memᴰ}
+use mathlib.Core.Bool.{Bool, true, false, cond, not, _||_}
+use lib.Dec.{eqb}
+use Rattle.model.specs.declared.Stage.{Stage}
+use Rattle.model.specs.declared.Sizes.{Sizes}
+use Rattle.model.specs.declared.Core.{Core}
+use Rattle.model.specs.declared.Answer.{Answer}
+use Rattle.model.specs.declared.Fault.{Fault}
+use Rattle.model.specs.declared.Fault.the-variants.{NoFault, BadRecord}
+use Rattle.model.specs.Below.{within}
+use Rattle.model.specs.Anchor.{sizesOn}
+use Rattle.model.specs.World.{World, stores}
+use Rattle.model.specs.State.{newCore, sound, isOpen}
+use Rattle.model.specs.Refusal.{Row, numberOf, storesOf, firstOf, secondOf}
+use Rattle.model.specs.Causes.{whenShut, whenReplaying, whenOpen, whenCopying, whenServing, stageForbids, wrongTail, faultFrom}
+use Rattle.model.specs.Abort.{abortFault}
+use Rattle.model.specs.Restart.{stepFault}
+use Rattle.model.specs.Call.{Call, format, begin, update, read, commit, abort, checkpointBegin, checkpointStep, checkpointEnd, restartBegin, restartStep, restartEnd, newState, rowsOf, taskOf, budgetOf, resultOf}
+use Rattle.model.specs.Reference.{Outcome, taken, refused, interrupted, outcomeOf}
+use Rattle.model.specs.Machine.{Machine, result, outcome, isRefused}
+use Rattle.model.specs.Promise.{Always}
+
+-- The stages that a call is for: "Format (shut)", "Begin (open, copying, as the next four)", "Checkpoint begin (open)", "Checkpoint
+-- step (copying)", "Checkpoint end (copying)", "Restart begin (shut)", "Restart step (replaying)", "Restart end (replaying)". A new
+-- state is handed out in every stage.
+abbrev pub stagesOf : Call → Stage → Bool
+stagesOf (format s budget) stage = whenShut stage
+stagesOf begin stage = whenServing stage
+stagesOf (update number page slot value budget) stage = whenServing stage
+stagesOf (read reader page slot) stage = whenServing stage
+stagesOf (commit number budget) stage = whenServing stage
+stagesOf (abort number budget) stage = whenServing stage
+stagesOf checkpointBegin stage = whenOpen stage
+stagesOf (checkpointStep budget) stage = whenCopying stage
+stagesOf (checkpointEnd budget) stage = whenCopying stage
+stagesOf restartBegin stage = whenShut stage
+stagesOf (restartStep source) stage = whenReplaying stage
+stagesOf (restartEnd budget) stage = whenReplaying stage
+stagesOf newState stage = true
+
+abbrev pub isFormat : Call → Bool
+isFormat (format s budget) = true
+isFormat begin = false
+isFormat (update number page slot value budget) = false
+isFormat (read reader page slot) = false
+isFormat (commit number budget) = false
+isFormat (abort number budget) = false
+isFormat checkpointBegin = false
+isFormat (checkpointStep budget) = false
+isFormat (checkpointEnd budget) = false
+isFormat restartBegin = false
+isFormat (restartStep source) = false
+isFormat (restartEnd budget) = false
+isFormat newState = false
+
+-- "Commit and abort always fit." While the store is open or copying, a commit and an abort of an open transaction, on the machine's own
+-- slices and with whatever budget, are not refused: each is taken, or cut.
+unfoldable pub ClosingTaken : Type 0
+ClosingTaken =
+    Always λ m r. whenServing (m .core .stage) ≡ true → (t : ℕ) → isOpen (m .core .table) t ≡ true → (budget : ℕ)
+    → (isRefused (outcome m (commit t budget)) ≡ false) × (isRefused (outcome m (abort t budget)) ≡ false)
+
+-- What a call on the machine's own slices answers. It answers 1, "stage does not allow the call", exactly where the stage is none of
+-- the call's. The causes of 2 to 7 lie in lent slices and devices: none arises here, but that a format may be handed sizes that are out
+-- of bounds (4) or do not go with the slices (5); besides, it answers 0, 1 or 16.
+pub record AnswersOwn (m : Machine) (k : Call) (a : Answer) : Type 0 where
+  pub stage : eqb (numberOf a) 1 ≡ not (stagesOf k (m .core .stage))
+  pub slices : isFormat k ≡ false → within 2 7 (numberOf a) ≡ false
+  pub formats : (s : Sizes) (budget : ℕ) → k ≡ format s budget
+      → (within 0 1 (numberOf a) || within 4 5 (numberOf a) || eqb (numberOf a) 16) ≡ true
+
+unfoldable pub OwnSlices : Type 0
+OwnSlices = Always λ m r. (k : Call) → AnswersOwn m k (result m k .answer)
+
+-- "Only these calls, and one that hands out a new state, make a state.": the states that are made so, whatever the calls were lent.
+pub data Made : Core → Type 0 where
+  new : Made newCore
+  by : (k : Call) (w : World) {c : Core} → Made c → Made (resultOf k c w .core)
+
+-- Every state that is made passes the test of row 1 (specs/State.antt), so for these row 1 is 01's: "stage does not allow the call". On
+-- whatever slices, a call answers 1 exactly where the stage is none of the call's.
+pub record StageAlone (c : Core) : Type 0 where
+  pub sound : sound c ≡ true
+  pub row : (allowed : Stage → Bool) → stageForbids allowed c ≡ not (allowed (c .stage))
+  pub answers : (k : Call) (w : World) → eqb (numberOf (resultOf k c w .answer)) 1 ≡ not (stagesOf k (c .stage))
+
+unfoldable pub MadeSound : Type 0
+MadeSound = (c : Core) → Made c → StageAlone c
+
+-- The states of `Always` are made so, also where its first format was handed a state that no call made.
+unfoldable pub StatesMade : Type 0
+StatesMade = Always λ m r. Made (m .core)
+
+-- 01's numbers: 0 where the call was taken, 16 where it was cut, 1 to 15 where it was refused.
+unfoldable pub outcomeNumbered : ℕ → Outcome
+outcomeNumbered n = cond (eqb n 0) taken (cond (eqb n 16) interrupted refused)
+
+-- what the calls that check row 7 find: "restart begin; log step and abort, in what they read"
+abbrev pub faultOf : Call → Core → World → Fault
+faultOf restartBegin c w = faultFrom (sizesOn (w .anchor)) w (sizesOn (w .anchor) .disks) 0
+faultOf (restartStep source) c w = stepFault c w source
+faultOf (abort number budget) c w = abortFault c w number
+faultOf (format s budget) c w = NoFault
+faultOf begin c w = NoFault
+faultOf (update number page slot value budget) c w = NoFault
+faultOf (read reader page slot) c w = NoFault
+faultOf (commit number budget) c w = NoFault
+faultOf checkpointBegin c w = NoFault
+faultOf (checkpointStep budget) c w = NoFault
+faultOf (checkpointEnd budget) c w = NoFault
+faultOf (restartEnd budget) c w = NoFault
+faultOf newState c w = NoFault
+
+-- What an answer tells: its number whether the call was taken, refused or cut; then the stores made, and the column "Returned".
+pub record Returns (k : Call) (c : Core) (w : World) (a : Answer) : Type 0 where
+  pub number : numberOf a ≤ 16
+  pub outcome : outcomeOf a ≡ outcomeNumbered (numberOf a)
+  -- taken: all stores of its list are made, and its value is returned
+  pub finished : outcomeOf a ≡ taken
+      → (storesOf a ≡ stores (taskOf k c w .actions)) × (firstOf a ≡ taskOf k c w .value) × (secondOf a ≡ 0)
+  -- refused: no store is made; "zeros", for every number but 6 and 7
+  pub none : outcomeOf a ≡ refused → storesOf a ≡ 0
+  pub zeros : outcomeOf a ≡ refused → within 6 7 (numberOf a) ≡ false → (firstOf a ≡ 0) × (secondOf a ≡ 0)
+  -- 6: "lowest such disk"
+  pub tail : numberOf a ≡ 6 → (firstOf a ≡ wrongTail (sizesOn (w .anchor)) w) × (secondOf a ≡ 0)
+  -- 7: "lowest disk, first position there"
+  pub fault : numberOf a ≡ 7 → faultOf k c w ≡ BadRecord (firstOf a) (secondOf a)
+  -- 16: "stores made", as many as the budget
+  pub cut : outcomeOf a ≡ interrupted → (storesOf a ≡ budgetOf k) × (firstOf a ≡ storesOf a) × (secondOf a ≡ 0)
+
+unfoldable pub Returned : Type 0
+Returned = (k : Call) (c : Core) (w : World) → Returns k c w (resultOf k c w .answer)
+
+-- 0 and 16 are no row's.
+unfoldable pub RowNumbers : Type 0
+RowNumbers = (k : Call) (c : Core) (w : World) (r : Row) → List·Memᴰ r (rowsOf k c w) → within 1 15 (r .number) ≡ true

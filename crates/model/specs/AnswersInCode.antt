@@ -1,0 +1,41 @@
+-- The statements of specs/Answers.antt about the code's own calls.
+use mathlib.Core.Path.{_≡_}
+use Prim.Native.Nat.{ℕ}
+use mathlib.Core.Bool.{true, false, not}
+use lib.Dec.{eqb}
+use Rattle.model.specs.State.{isOpen}
+use Rattle.model.specs.Refusal.{numberOf}
+use Rattle.model.specs.Causes.{whenServing}
+use Rattle.model.specs.Call.{commit, abort}
+use Rattle.model.specs.Machine.{isRefused}
+use Rattle.model.specs.Answers.{stagesOf, AnswersOwn, Made, Returns}
+use Rattle.model.specs.Trace.{Observed, KeepsContract, seen, On, AlwaysInCode}
+
+-- "Commit and abort always fit." While the store is open or copying, a commit and an abort of the code, of an open transaction and on
+-- the slices as they were left, are not refused, whatever their budget.
+unfoldable pub ClosingTakenInCode : Type 0
+ClosingTakenInCode =
+    AlwaysInCode λ m r. whenServing (m .core .stage) ≡ true → (t : ℕ) → isOpen (m .core .table) t ≡ true
+    → (o : Observed) (budget : ℕ) → On m o
+    → (o .call ≡ commit t budget → isRefused (seen o) ≡ false) × (o .call ≡ abort t budget → isRefused (seen o) ≡ false)
+
+-- What a call of the code on the slices as they were left answers: 1 exactly where the stage is none of the call's; none of 2 to 7, but
+-- that a format may answer 4 or 5.
+unfoldable pub OwnSlicesInCode : Type 0
+OwnSlicesInCode = AlwaysInCode λ m r. (o : Observed) → On m o → AnswersOwn m (o .call) (o .reply .answer)
+
+-- "Only these calls, and one that hands out a new state, make a state.": what a call of the code hands back for such a state is one
+-- again. It answers 1, on whatever slices, exactly where the stage is none of the call's.
+pub record HandsOn (o : Observed) : Type 0 where
+  pub made : Made (o .reply .core)
+  pub stage : eqb (numberOf (o .reply .answer)) 1 ≡ not (stagesOf (o .call) (o .core .stage))
+
+unfoldable pub MadeInCode : Type 0
+MadeInCode = (o : Observed) → KeepsContract o → Made (o .core) → HandsOn o
+
+unfoldable pub StatesMadeInCode : Type 0
+StatesMadeInCode = AlwaysInCode λ m r. Made (m .core)
+
+-- What an answer of the code tells, on whatever state and slices.
+unfoldable pub ReturnedInCode : Type 0
+ReturnedInCode = (o : Observed) → KeepsContract o → Returns (o .call) (o .core) (o .entry) (o .reply .answer)
