@@ -20,6 +20,7 @@ pub mod Differential
 pub mod Reader
 pub mod Decode
 pub mod Scan
+pub mod RingThenBuffer
 pub mod Ring
 pub mod RoundTrip
 pub mod Flush
