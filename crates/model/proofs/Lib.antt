@@ -21,6 +21,7 @@ pub mod Differential
 pub mod Reader
 pub mod Decode
 pub mod Scan
+pub mod RingThenBuffer
 pub mod Ring
 pub mod RoundTrip
 pub mod Flush
@@ -54,5 +55,6 @@ pub mod Positions
 pub mod Blunders
 pub mod Idle
 pub mod Example
+pub mod AbortReads
 -- The promises for traces of the code's own calls.
 pub mod Trace

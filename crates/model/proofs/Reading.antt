@@ -98,7 +98,7 @@ Rises m end = Unit {0}
 Rises m (bad p) = m ≤ p
 Rises m (item p r rest) = (m ≤ p) × Rises (suc p) rest
 
-rises-sooner : (m k : ℕ) (sc : Scan) → m ≤ k → Rises k sc → Rises m sc
+pub rises-sooner : (m k : ℕ) (sc : Scan) → m ≤ k → Rises k sc → Rises m sc
 rises-sooner m k end l h = tt
 rises-sooner m k (bad p) l h = omega arith
 rises-sooner m k (item p r rest) l h = (omega (arith, h .0), h .1)
@@ -137,6 +137,14 @@ module _ (s : Sizes) (read : ℕ → ℕ) (stop : ℕ) where
       every-cons Stands (record { position = q; content = r }) (items rest)
       (record { next = h .2 .0; decodes = rw (h .0) (h .2 .2) }) (reads-items (h .2 .0) rest (h .2 .3))
 
+  reads-before : (p : ℕ) (sc : Scan) → Reads s read stop p sc → Every (λ i. i .position < stop) (items sc)
+  unfolding items
+  reads-before p end h = every-nil _
+  reads-before p (bad q) h = every-nil _
+  reads-before p (item q r rest) h =
+      every-cons (λ (i : Item). i .position < stop) (record { position = q; content = r }) (items rest) (omega (arith, h .0, h .1))
+      (reads-before (h .2 .0) rest (h .2 .3))
+
   reads-bad : (p q : ℕ) (sc : Scan) → Reads s read stop p sc → ending sc ≡ bad q → (q < stop) × (decodeAt s read stop q ≡ Malformed)
   unfolding ending
   reads-bad p q end h e = let z : _≡_ {A = ℕ} 0 1 = cc in absurd (omega arith)
@@ -145,6 +153,9 @@ module _ (s : Sizes) (read : ℕ → ℕ) (stop : ℕ) where
 
   pub scan-rises : (start : ℕ) → Rises start (scan s read stop start)
   scan-rises start = reads-rises start (scan s read stop start) (scan-reads s read stop start)
+
+  pub scan-before : (start : ℕ) → Every (λ i. i .position < stop) (items (scan s read stop start))
+  scan-before start = reads-before start (scan s read stop start) (scan-reads s read stop start)
 
   pub scan-items : (start : ℕ) → Every Stands (items (scan s read stop start))
   scan-items start = reads-items start (scan s read stop start) (scan-reads s read stop start)

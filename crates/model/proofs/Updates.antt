@@ -12,13 +12,14 @@ use Rattle.model.specs.Causes.{faultRow}
 use Rattle.model.specs.declared.Fault.the-variants.{NoFault, BadRecord}
 use Rattle.model.specs.declared.Core.{Core}
 use Rattle.model.specs.Record.{Record, change, close, updateKind}
-use Rattle.model.specs.Scan.{Scan, end, bad, item, scan, Update, updatesIn, updateWords}
+use Rattle.model.specs.Scan.{Scan, end, bad, item, ringThenBuffer, Update, updatesIn, updateWords}
 use Rattle.model.specs.World.{World}
-use Rattle.model.specs.State.{endOf, placeOf, isOpen, firstAt, hasUpdate, reservedAt}
+use Rattle.model.specs.State.{placeOf, isOpen, firstAt, hasUpdate, reservedAt}
 use Rattle.model.specs.Transaction.{diskOf}
 use Rattle.model.specs.Abort.{abortScan, updatesLeft, abortFault}
 use Rattle.model.proofs.Members.{Every, every-nil, every-cons, every-append}
-use Rattle.model.proofs.Reading.{Item, items, Rises, scan-rises}
+use Rattle.model.proofs.Reading.{Item, items, Rises}
+use Rattle.model.proofs.RingThenBuffer.{parts-rise}
 use Rattle.model.proofs.Booleans.{cond-all}
 use Rattle.model.proofs.Faults.{no-fault, fault-rest}
 
@@ -156,21 +157,19 @@ unfolding updateWords
 update-words-append [] vs = sym (zero-add (updateWords vs))
 update-words-append (u ∷ us) vs = omega (arith, update-words-append us vs)
 
--- What an abort reads is a log from its transaction's first record on, or nothing.
+-- What an abort reads is a log from its transaction's first record on, up to the tail and then on, or nothing.
 pub abort-reads : (P : Scan → Type 0) (c : Core) (w : World) (number : ℕ) → P end
-    → ((read : ℕ → ℕ) → P (scan (c .sizes) read (endOf (c .logs) (diskOf c number)) (firstAt (c .table) (placeOf (c .table) number))))
+    → ((read : ℕ → ℕ) (tail stop first : ℕ) → P (ringThenBuffer (c .sizes) read tail stop first))
     → P (abortScan c w number)
 unfolding abortScan
-abort-reads P c w number none some = cond-all P (isOpen (c .table) number && hasUpdate (c .table) (placeOf (c .table) number)) (λ e. some _) (λ e. none)
+abort-reads P c w number none some = cond-all P (isOpen (c .table) number && hasUpdate (c .table) (placeOf (c .table) number)) (λ e. some _ _ _ _) (λ e. none)
 
 -- so an abort takes back the newest update first
 pub abort-falls : (c : Core) (w : World) (number : ℕ) → Falls (updatesLeft c w number)
 unfolding updatesLeft updatesIn
 abort-falls c w number =
-    let first : ℕ = firstAt (c .table) (placeOf (c .table) number) in
-    let stop : ℕ = endOf (c .logs) (diskOf c number) in
     abort-reads (λ (sc : Scan). Falls (updatesIn number sc)) c w number tt
-    (λ read. updates-fall number first (scan (c .sizes) read stop first) (scan-rises (c .sizes) read stop first))
+    (λ read tail stop first. updates-fall number first (ringThenBuffer (c .sizes) read tail stop first) (parts-rise (c .sizes) read tail stop first))
 
 -- row 7: the words of the updates are no more than are reserved for them
 pub abort-words : (c : Core) (w : World) (t : ℕ) → faultRow (abortFault c w t) .applies ≡ false

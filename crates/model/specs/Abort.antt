@@ -13,7 +13,7 @@ use Rattle.model.specs.Word.{xored}
 use Rattle.model.specs.Sizes.{slotBase}
 use Rattle.model.specs.Record.{change, close, encode, compensationKind, abortKind}
 use Rattle.model.specs.Decode.{readLog}
-use Rattle.model.specs.Scan.{Scan, end, scan, faultIn, Update, updatesIn, updateWords}
+use Rattle.model.specs.Scan.{Scan, end, ringThenBuffer, faultIn, Update, updatesIn, updateWords}
 use Rattle.model.specs.World.{World, Action, write, pages, each, perform}
 use Rattle.model.specs.Memory.{bufferOf, copyOf}
 use Rattle.model.specs.State.{withLog, tailOf, fillOf, endOf, placeOf, isOpen, firstAt, reservedAt, hasUpdate, without}
@@ -26,7 +26,8 @@ use Rattle.model.specs.Transaction.{diskOf}
 unfoldable pub abortScan : Core → World → ℕ → Scan
 abortScan c w number =
     cond (isOpen (c .table) number && hasUpdate (c .table) place)
-    (scan (c .sizes) (readLog (c .sizes) (w .logs) disk tail (bufferOf (c .sizes) (w .work) disk (fillOf (c .logs) disk)))
+    (ringThenBuffer (c .sizes) (readLog (c .sizes) (w .logs) disk tail (bufferOf (c .sizes) (w .work) disk (fillOf (c .logs) disk)))
+    tail
     (endOf (c .logs) disk)
     (firstAt (c .table) place))
     end

@@ -1,5 +1,5 @@
 -- The records of a log in order, the search ahead for a closing record, and a transaction's updates.
-use Prim.Native.Nat.{ℕ, zero, suc, _+_, _-_}
+use Prim.Native.Nat.{ℕ, zero, suc, _+_, _-_, max}
 use mathlib.Core.List.{List, [], _∷_, _++_}
 use mathlib.Core.Bool.{cond, _&&_}
 use lib.ListN.{length}
@@ -37,6 +37,17 @@ scanAtMost s read stop (suc n) p =
 -- say it without the count)
 unfoldable pub scan : Sizes → (ℕ → ℕ) → ℕ → ℕ → Scan
 scan s read stop p = scanAtMost s read stop (stop - p) p
+
+-- a scan, and behind its end another; a malformed record ends both
+unfoldable pub andThen : Scan → Scan → Scan
+andThen end other = other
+andThen (bad p) other = bad p
+andThen (item p r rest) other = item p r (andThen rest other)
+
+-- "to the tail, then the buffer": the log from p up to the tail, then from the tail, or from p if that is further, up to `stop`.
+-- A record that begins before the tail and ends past it is malformed: "end past the tail".
+unfoldable pub ringThenBuffer : Sizes → (ℕ → ℕ) → (tail stop p : ℕ) → Scan
+ringThenBuffer s read tail stop p = andThen (scan s read tail p) (scan s read stop (max tail p))
 
 -- the scan of given records that lie one after the other from p on
 unfoldable pub placed : ℕ → List Record → Scan

@@ -1,5 +1,5 @@
 -- Entries that lie one after the other: their positions ascend, and a boundary among them cuts the list, and its words, in two.
-use mathlib.Core.Path.{_≡_, refl}
+use mathlib.Core.Path.{_≡_, refl, ap}
 use mathlib.Core.List.{List, [], _∷_, _++_, append-assoc}
 use mathlib.Core.Bool.{Bool, true, false, _||_}
 use Prim.Native.Nat.{ℕ, _+_, _≤_, _<_}
@@ -98,6 +98,17 @@ boundary-from q p (r ∷ l) h = go (eqb q p) refl h (boundary-from q (p + sizeOf
     go : (b : Bool) → eqb q p ≡ b → b || boundary q (p + sizeOf r) l ≡ true → (boundary q (p + sizeOf r) l ≡ true → p + sizeOf r ≤ q) → p ≤ q
     go true e x ih = omega (arith, eqb-true q p e)
     go false e x ih = omega (arith, ih x)
+
+-- before the end of the first entries it is a boundary among these
+pub boundary-left : (q p : ℕ) (l m : List Entry) → q < p + length (wordsOf l) → boundary q p (l ++ m) ≡ true → boundary q p l ≡ true
+unfolding boundary
+boundary-left q p [] m low h = absurd (omega (arith, boundary-from q p m h, ap length words-none))
+boundary-left q p (r ∷ l) m low h = go (eqb q p) h (boundary-left q (p + sizeOf r) l m (omega (arith, length-words r l)))
+  where
+    go : (b : Bool) → b || boundary q (p + sizeOf r) (l ++ m) ≡ true
+        → (boundary q (p + sizeOf r) (l ++ m) ≡ true → boundary q (p + sizeOf r) l ≡ true) → b || boundary q (p + sizeOf r) l ≡ true
+    go true x ih = refl
+    go false x ih = ih x
 
 -- The entries from q on, of those from p on: they are laid from q on, and their words are the last ones.
 pub record Suffix (p q : ℕ) (l kept : List Entry) : Type 0 where

@@ -4,6 +4,7 @@ use mathlib.Core.List.{List, [], _∷_, _++_, append-nil}
 use mathlib.Core.Bool.{Bool, true, false, cond, _&&_, and-false}
 use Prim.Native.Nat.{ℕ, _+_, _<_}
 use native.Mathlib.Omega.{arith}
+use native.Mathlib.Decide.{decLt}
 use lib.Dec.{leb, eqb}
 use lib.ListN.{length, length-append}
 use borrow.Author.Tests.{eqb-true, eq-eqb}
@@ -13,7 +14,7 @@ use Rattle.model.specs.declared.Core.{Core}
 use Rattle.model.specs.Word.{_⊕_}
 use Rattle.model.specs.Sizes.{slotBase}
 use Rattle.model.specs.Decode.{readLog}
-use Rattle.model.specs.Scan.{scan, Update, updatesIn}
+use Rattle.model.specs.Scan.{end, scan, ringThenBuffer, Update, updatesIn}
 use Rattle.model.specs.World.{World}
 use Rattle.model.specs.Memory.{bufferOf}
 use Rattle.model.specs.State.{startOf, tailOf, fillOf, endOf, isOpen, hasUpdate, firstAt, placeOf}
@@ -21,13 +22,35 @@ use Rattle.model.specs.Transaction.{diskOf}
 use Rattle.model.specs.Abort.{abortScan}
 use Rattle.model.proofs.Xor.{⊕-comm, ⊕-zero-l, ⊕-zero-r}
 use Rattle.model.proofs.Reader.{Holds, holds-append, read-holds}
+use Rattle.model.proofs.Scan.{scan-end}
+use Rattle.model.proofs.Reading.{ending}
+use Rattle.model.proofs.RingThenBuffer.{read-as-one}
+use Rattle.model.proofs.Growth.{tail-end}
 use Rattle.model.proofs.Ledger.Entry.{Entry, isClose, recordOf, mask, sum, All, pick, share, adds}
 use Rattle.model.proofs.Ledger.Order.{wordsOf, on, Laid, boundary, entriesScan}
 use Rattle.model.proofs.Ledger.Sums.{mask-zero, sum-append, all-append, all-right}
 use Rattle.model.proofs.Ledger.Picks.{all-pick}
 use Rattle.model.proofs.Ledger.Lists.{all-left, words-append}
-use Rattle.model.proofs.Ledger.Positions.{Suffix, boundary-suffix}
+use Rattle.model.proofs.Ledger.Positions.{Suffix, laid-append, boundary-suffix, boundary-left}
 use Rattle.model.proofs.Link.Words.{Fit, Link, fit-on, scan-entries, log-end}
+
+-- Entries that a reader holds from a start on: read from a boundary on, they are the entries from there on.
+entries-from : (s : Sizes) (read : ℕ → ℕ) (start stop first : ℕ) (all : List Entry) → All (Fit s) all → Laid start all
+    → Holds read start (wordsOf all) → stop ≡ start + length (wordsOf all) → boundary first start all ≡ true
+    → scan s read stop first ≡ entriesScan (pick (λ r. leb first (r .position)) all)
+entries-from s read start stop first all fit laid held ends edge =
+    let kept : List Entry = pick (λ r. leb first (r .position)) all in
+    let x : Suffix start first all kept = boundary-suffix start first all laid edge in
+    let cut : start + length (x .front) ≡ first = omega (arith, x .cut) in
+    let long = length-append (x .front) (wordsOf kept) in
+    let same : length (wordsOf all) ≡ length (x .front ++ wordsOf kept) = ap length (x .words) in
+    scan-entries s read stop first kept (all-pick (Fit s) _ all fit) (x .laid)
+    (rw cut at (holds-append read start (x .front) (wordsOf kept) (rw (x .words) at held) .1)) (omega arith)
+
+ending-entries : (l : List Entry) → ending (entriesScan l) ≡ end
+unfolding ending entriesScan
+ending-entries [] = refl
+ending-entries (r ∷ l) = ending-entries l
 
 -- The log of a disk, its buffer included, holds the flushed entries and then the buffered ones.
 module _ {s : Sizes} {l : Logs} {w : World} {F B : List Entry} (k : Link s l w F B) (d : ℕ) (below : d < s .disks) where
@@ -39,24 +62,33 @@ module _ {s : Sizes} {l : Logs} {w : World} {F B : List Entry} (k : Link s l w F
       rw (k .buffer d below, words-append)
       (read-holds s (w .logs) d (tailOf l d) (wordsOf (on d B)) (startOf l d) (wordsOf (on d F)) (k .tail d below) (k .held d below))
 
-  -- read from a boundary on, it is the entries from there on
-  pub scan-from : (first : ℕ) → All (Fit s) (F ++ B) → Laid (startOf l d) (on d F ++ on d B)
-      → boundary first (startOf l d) (on d F ++ on d B) ≡ true
-      → scan s reader (endOf l d) first ≡ entriesScan (pick (λ r. leb first (r .position)) (on d F ++ on d B))
-  scan-from first fit laid edge =
-      let all : List Entry = on d F ++ on d B in
-      let kept : List Entry = pick (λ r. leb first (r .position)) all in
-      let x : Suffix (startOf l d) first all kept = boundary-suffix (startOf l d) first all laid edge in
-      let cut : startOf l d + length (x .front) ≡ first = omega (arith, x .cut) in
-      let long = length-append (x .front) (wordsOf kept) in
-      let same : length (wordsOf all) ≡ length (x .front ++ wordsOf kept) = ap length (x .words) in
-      let flushed-fit = fit-on s d F (all-left (Fit s) F B fit) in
-      let buffered-fit = fit-on s d B (all-right (Fit s) F B fit) in
-      scan-entries s reader (endOf l d) first kept
-      (all-pick (Fit s) _ all (all-append (Fit s) (on d F) (on d B) flushed-fit buffered-fit))
-      (x .laid)
-      (rw cut at (holds-append reader (startOf l d) (x .front) (wordsOf kept) (rw (x .words) at log-holds) .1))
-      (omega (arith, log-end k d below))
+  module _ (first : ℕ) (fit : All (Fit s) (F ++ B)) (laid : Laid (startOf l d) (on d F ++ on d B))
+      (edge : boundary first (startOf l d) (on d F ++ on d B) ≡ true) where
+    flushed-fit : All (Fit s) (on d F)
+    flushed-fit = fit-on s d F (all-left (Fit s) F B fit)
+
+    pub scan-from : scan s reader (endOf l d) first ≡ entriesScan (pick (λ r. leb first (r .position)) (on d F ++ on d B))
+    scan-from =
+        entries-from s reader (startOf l d) (endOf l d) first (on d F ++ on d B)
+        (all-append (Fit s) (on d F) (on d B) flushed-fit (fit-on s d B (all-right (Fit s) F B fit))) laid log-holds (log-end k d below) edge
+
+    -- no flushed entry ends past the tail
+    ring-sound : ending (scan s reader (tailOf l d) first) ≡ end
+    unfolding ending
+    ring-sound = go (decLt first (tailOf l d))
+      where
+        go : Dec (first < tailOf l d) → ending (scan s reader (tailOf l d) first) ≡ end
+        go (yes low) =
+            rw (entries-from s reader (startOf l d) (tailOf l d) first (on d F) flushed-fit (laid-append (startOf l d) (on d F) (on d B) laid .0)
+            (holds-append reader (startOf l d) (wordsOf (on d F)) (wordsOf (on d B)) (rw words-append at log-holds) .0) (k .tail d below)
+            (boundary-left first (startOf l d) (on d F) (on d B) (omega (arith, k .tail d below)) edge))
+            (ending-entries _)
+        go (no high) = rw (scan-end s reader (tailOf l d) first (omega arith)) refl
+
+    -- so up to the tail and then on it is read as one
+    pub parts-from : ringThenBuffer s reader (tailOf l d) (endOf l d) first
+        ≡ entriesScan (pick (λ r. leb first (r .position)) (on d F ++ on d B))
+    parts-from = read-as-one s reader (tailOf l d) (endOf l d) (tail-end l d) first ring-sound ∙ scan-from
 
 -- so is what an abort reads, from its transaction's first record on
 pub abort-scan : (c : Core) (w : World) {F B : List Entry} (number d first : ℕ) → Link (c .sizes) (c .logs) w F B
@@ -67,7 +99,7 @@ pub abort-scan : (c : Core) (w : World) {F B : List Entry} (number d first : ℕ
     → abortScan c w number ≡ entriesScan (pick (λ r. leb first (r .position)) (on d F ++ on d B))
 unfolding abortScan
 abort-scan c w number d first k is-open has there from below fit laid edge =
-    rw (is-open, has, there, from) (scan-from k d below first fit laid edge)
+    rw (is-open, has, there, from) (parts-from k d below first fit laid edge)
 
 -- What a list of updates adds to word w.
 unfoldable pub sumUpdates : Sizes → ℕ → List Update → ℕ

@@ -1,5 +1,5 @@
 -- Abort writes no more words than its transaction has reserved, so it hands back a state that passes the first test.
-use mathlib.Core.Path.{_≡_, refl, ap}
+use mathlib.Core.Path.{_≡_, refl}
 use mathlib.Core.List.{List, [], _∷_, List·Memᴰ·head, List·Memᴰ·tail}
 use Prim.Native.Nat.{ℕ, _+_, _≤_, _<_}
 use native.Mathlib.Omega.{arith}
@@ -9,19 +9,20 @@ use Rattle.model.specs.declared.Logs.{Logs}
 use Rattle.model.specs.declared.Core.{Core}
 use Rattle.model.specs.declared.Decoded.{Decoded}
 use Rattle.model.specs.declared.Decoded.the-variants.{Change, Close, Malformed}
-use Rattle.model.specs.Record.{change, close, encode, updateKind, compensationKind, abortKind}
-use Rattle.model.specs.Decode.{span, decodeAt}
-use Rattle.model.specs.Scan.{Scan, scan, Update, updatesIn, updateWords}
+use Rattle.model.specs.Record.{Record, change, close, encode, compensationKind, abortKind}
+use Rattle.model.specs.Decode.{decodeAt}
+use Rattle.model.specs.Scan.{Scan, scan, ringThenBuffer, Update, updatesIn, updateWords}
 use Rattle.model.specs.World.{World, perform}
 use Rattle.model.specs.Memory.{copyOf}
-use Rattle.model.specs.State.{endOf, placeOf, firstAt, withLog, sound}
+use Rattle.model.specs.State.{withLog, sound}
 use Rattle.model.specs.Refusal.{accepted, verdict}
 use Rattle.model.specs.Append.{Appended}
 use Rattle.model.specs.Transaction.{diskOf}
 use Rattle.model.specs.Abort.{updatesLeft, abortRows, compensate, undoAll, abortTask}
 use Rattle.model.proofs.Members.{Every, every-nil}
-use Rattle.model.proofs.Reading.{Decodes, scan-items}
-use Rattle.model.proofs.Updates.{itemOf, updates-from, abort-reads}
+use Rattle.model.proofs.Reading.{items, Decodes, scan-items}
+use Rattle.model.proofs.RingThenBuffer.{parts-items}
+use Rattle.model.proofs.Updates.{updates-from, abort-reads}
 use Rattle.model.proofs.Decode.{found-change}
 use Rattle.model.proofs.Bounds.{Bounded, bounded}
 use Rattle.model.proofs.Restart.Gain.{length-span}
@@ -31,34 +32,31 @@ use Rattle.model.proofs.Sound.Transaction.{close-passes}
 use Rattle.model.proofs.Growth.{Small, SizedLogs, Longer, longer-none, longer-then, append-longer}
 use Rattle.model.proofs.Store.Accepted.{small-buffers, open-below, Aborting, abort-accepted, disks-max}
 
--- An update found in a log has its page's width, at most 32 words.
-abbrev Short : Update → Type 0
-Short u = length (u .diff) ≤ 32
+-- A record found in a log has its page's width, at most 32 words.
+abbrev Narrow : Record → Type 0
+Narrow (change kind page slot number copy diff) = length diff ≤ 32
+Narrow (close kind number) = Unit {0}
 
-short-updates : (s : Sizes) (read : ℕ → ℕ) (stop : ℕ) → Bounded s → (number p : ℕ) → Every Short (updatesIn number (scan s read stop p))
-short-updates s read stop b number p u m =
-    let from = updates-from number (scan s read stop p) u m in
-    let stands = scan-items s read stop p (itemOf number u (from .copy)) (from .listed) in
-    go (from .copy) (stands .next) (decodeAt s read stop (u .position)) refl (stands .decodes)
+narrow-items : (s : Sizes) (read : ℕ → ℕ) → Bounded s → (stop p : ℕ) → Every (λ i. Narrow (i .content)) (items (scan s read stop p))
+narrow-items s read b stop p i m =
+    let stands = scan-items s read stop p i m in
+    go (i .content) (stands .next) (decodeAt s read stop (i .position)) refl (stands .decodes)
   where
-    go : (e next : ℕ) (d : Decoded) → decodeAt s read stop (u .position) ≡ d
-        → Decodes read (u .position) d (change updateKind (u .page) (u .slot) number e (u .diff)) next → Short u
-    go e next (Change kind page slot n copy width to) x h =
-        let same = h .0 in
-        let diff : u .diff ≡ span read (u .position + 3) width = cc in
+    go : (r : Record) (next : ℕ) (d : Decoded) → decodeAt s read stop (i .position) ≡ d → Decodes read (i .position) d r next → Narrow r
+    go r next (Change kind page slot n copy width to) x h =
         let f = found-change s read stop x in
-        omega (arith, ap length diff, length-span read (u .position + 3) width, b .used page (f .page-in) .width-max)
-    go e next (Close kind n to) x h =
-        let same = h .0 in
-        let z : _≡_ {A = ℕ} 0 1 = cc in
-        absurd (omega arith)
-    go e next Malformed x h = absurd h
+        rw (h .0) (omega (arith, length-span read (i .position + 3) width, b .used page (f .page-in) .width-max))
+    go r next (Close kind n to) x h = rw (h .0) tt
+    go r next Malformed x h = absurd h
 
 pub updates-short : (c : Core) (w : World) (number : ℕ) → Bounded (c .sizes) → Every (λ u. length (u .diff) ≤ 32) (updatesLeft c w number)
 unfolding updatesLeft updatesIn
 updates-short c w number b =
-    abort-reads (λ (sc : Scan). Every Short (updatesIn number sc)) c w number (every-nil Short)
-    (λ read. short-updates (c .sizes) read (endOf (c .logs) (diskOf c number)) b number (firstAt (c .table) (placeOf (c .table) number)))
+    abort-reads (λ (sc : Scan). Every (λ u. length (u .diff) ≤ 32) (updatesIn number sc)) c w number (every-nil _)
+    (λ read tail stop first u m.
+    let sc : Scan = ringThenBuffer (c .sizes) read tail stop first in
+    let from = updates-from number sc u m in
+    parts-items (c .sizes) read tail stop first (λ i. Narrow (i .content)) (narrow-items (c .sizes) read b) _ (from .listed))
 
 -- Taking updates back adds the words of their records to the log.
 one-grown : (s : Sizes) (l : Logs) (w : World) (number d : ℕ) (u : Update) → SizedLogs l → Small s l → d < 8
