@@ -22,7 +22,7 @@ use Rattle.model.specs.Append.{storeLog, storeAll, flush, buffered, appe
 use Rattle.model.specs.Transaction.{diskOf, commitRows, commitTask}
 use Rattle.model.specs.Reference.{Reference}
 use Rattle.model.specs.Machine.{Machine}
-use Rattle.model.specs.History.{Put}
+use Rattle.model.specs.History.{Told}
 use Rattle.model.specs.Promise.{coversCommit, CommitPoint, CommitPoints}
 use Rattle.model.proofs.Members.{Every, every-nil, every-cons, every-append}
 use Rattle.model.proofs.Run.{perform-append, stores-append, run-append, run-cut, finished-run, perform-work, each-append}
@@ -192,7 +192,7 @@ pub commit-point : CommitPoints
 unfolding CommitPoints
 commit-point = always _ given
   where
-    given : (puts : List Put) (m : Machine) (r : Reference) → Holding puts m r → (t : ℕ)
+    given : (puts : Told) (m : Machine) (r : Reference) → Holding puts m r → (t : ℕ)
         → verdict (commitRows (m .core) (m .world) t) ≡ accepted → CommitPoint (m .core) (m .world) t
     given puts m r h t v =
         let a = commit-accepted (m .core) (m .world) t v in

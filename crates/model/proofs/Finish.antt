@@ -1,6 +1,5 @@
 -- A restart that was begun can be finished.
 use mathlib.Core.Path.{_≡_, refl, ap}
-use mathlib.Core.List.{[]}
 use mathlib.Core.Bool.{true, false, cond}
 use Prim.Native.Nat.{ℕ, _+_, _-_, _≤_, _<_}
 use native.Mathlib.Omega.{arith}
@@ -22,6 +21,7 @@ use Rattle.model.specs.Restart.{positionOf, remaining, readDisk, nextRec
 use Rattle.model.specs.Call.{restartStep, restartEnd, resultOf}
 use Rattle.model.specs.Reference.{taken, outcomeOf}
 use Rattle.model.specs.Machine.{result, outcome, formatted}
+use Rattle.model.specs.History.{nothingTold}
 use Rattle.model.specs.Promise.{Always, RestartFinishes}
 use Rattle.model.proofs.Below.{each-all}
 use Rattle.model.proofs.Counts.{restart-end-stores}
@@ -173,8 +173,8 @@ module _ (c : Core) (w : World) (m : Progress c w) (ok : sound c ≡ true) (k : 
 pub restart-finishes : RestartFinishes
 unfolding RestartFinishes Always result outcome
 restart-finishes m s budget formats events a stage =
-    let h = follow-holds events [] (formatted m s budget) (format-holds m s budget formats) a in
-    let p = replayed h (ap whenReplaying stage) .0 in
+    let h = follow-holds events nothingTold (formatted m s budget) (format-holds m s budget formats) a in
+    let p = replayed h (ap whenReplaying stage) .progress in
     let ok = sound-after m s budget formats events .1 in
     let k = holding-kept h .sound in
     record {

@@ -1,31 +1,33 @@
 -- The power-loss theorem.
-use mathlib.Core.Path.{_≡_, refl, ap, _∙_}
+use mathlib.Core.Path.{_≡_, refl, sym, ap, _∙_}
 use mathlib.Core.List.{List, [], _∷_}
 use mathlib.Core.Bool.{true, _&&_, and-eq-true-iff}
-use Prim.Native.Nat.{ℕ}
+use Prim.Native.Nat.{ℕ, _<_}
 use lib.ListN.{length}
 use lib.Dec.{eqb}
 use borrow.Author.Tests.{eqb-true}
 use Rattle.model.specs.declared.Sizes.{Sizes}
 use Rattle.model.specs.declared.Answer.{Answer}
 use Rattle.model.specs.declared.Answer.the-variants.{Finished, Refused, Interrupted}
-use Rattle.model.specs.Causes.{whenShut, whenReplaying}
+use Rattle.model.specs.Anchor.{sizesOn}
+use Rattle.model.specs.Causes.{whenShut, whenReplaying, whenServing}
 use Rattle.model.specs.Restart.{restartEndRows}
 use Rattle.model.specs.Call.{Call, format, restartEnd, resultOf}
 use Rattle.model.specs.Reference.{Reference, taken, refused, outcomeOf, hear, heard, wordsIn}
 use Rattle.model.specs.Machine.{Machine, Event, call, lent, scramble, result, outcome, isRefused, allowed, after, referred, Run, follow, allowedAll, formatted}
-use Rattle.model.specs.Promise.{Always, PowerLoss, RestartAccepted, Table, LogKept, StateTrue, NeverMalformed}
-use Rattle.model.specs.History.{Put, told, history}
+use Rattle.model.specs.Promise.{Always, PowerLoss, RestartAccepted, Table, LogOf, LogKept, StateTrue, NeverMalformed}
+use Rattle.model.specs.History.{Told, nothingTold, told, history}
 use Rattle.model.proofs.Booleans.{true-false}
 use Rattle.model.proofs.Restart.Taken.{taken-call}
 use Rattle.model.proofs.Restart.End.{end-gives}
 use Rattle.model.proofs.Store.Format.{format-serves}
-use Rattle.model.proofs.Store.Holding.{Holding, shut, serving}
+use Rattle.model.proofs.Store.Holding.{Holding, shut, replaying, serving}
 use Rattle.model.proofs.Store.Step.{step-call, holding-kept, served, stopped, replayed, row-one}
 use Rattle.model.proofs.Store.Steady.{kept-devices}
 use Rattle.model.proofs.Store.Checks.{shut-stage, restart-begin-answers, never-seven}
 use Rattle.model.proofs.Store.PlainTable.{plain}
-use Rattle.model.proofs.Store.Truth.{log-of, truth}
+use Rattle.model.proofs.Store.Crash.{stored}
+use Rattle.model.proofs.Store.Truth.{buffered, truth}
 use Rattle.model.proofs.Store.AbortRows.{abort-never-bad}
 
 -- what the reference hears of a refused call changes nothing
@@ -36,8 +38,8 @@ heard-refused k (Refused n x y) r e = refl
 heard-refused k (Interrupted n) r e = true-false e refl
 
 -- every allowed event keeps what holds
-pub step-event : (e : Event) (puts : List Put) (m : Machine) (r : Reference) → Holding puts m r → allowed m e ≡ true
-    → Holding (told m e puts) (after m e) (referred m e r)
+pub step-event : (e : Event) (puts : Told) (m : Machine) (r : Reference) → Holding puts m r → allowed m e ≡ true
+    → Holding (told (record { machine = m; reference = r }) e puts) (after m e) (referred m e r)
 step-event (call k) puts m r h a = step-call k puts m r h a
 step-event (lent k w) puts m r h a = rw (heard-refused k (resultOf k (m .core) w .answer) r a) h
 step-event (scramble pages work) puts m r h a =
@@ -53,41 +55,41 @@ step-event (scramble pages work) puts m r h a =
     (k .1)
 
 -- and so does every list of them
-pub follow-holds : (events : List Event) (puts : List Put) (x : Run) → Holding puts (x .machine) (x .reference)
+pub follow-holds : (events : List Event) (puts : Told) (x : Run) → Holding puts (x .machine) (x .reference)
     → allowedAll events (x .machine) ≡ true
-    → Holding (history events (x .machine) puts) (follow events x .machine) (follow events x .reference)
+    → Holding (history events x puts) (follow events x .machine) (follow events x .reference)
 unfolding follow allowedAll history
 follow-holds [] puts x h a = h
 follow-holds (e ∷ es) puts x h a =
     let both = and-eq-true-iff (allowed (x .machine) e) (allowedAll es (after (x .machine) e)) .0 a in
-    follow-holds es (told (x .machine) e puts) (record { machine = after (x .machine) e; reference = referred (x .machine) e (x .reference) })
+    follow-holds es (told x e puts) (record { machine = after (x .machine) e; reference = referred (x .machine) e (x .reference) })
     (step-event e puts (x .machine) (x .reference) h (both .0)) (both .1)
 
 -- it holds after a format
 pub format-holds : (m : Machine) (s : Sizes) (budget : ℕ) → outcome m (format s budget) ≡ taken
-    → Holding [] (formatted m s budget .machine) (formatted m s budget .reference)
+    → Holding nothingTold (formatted m s budget .machine) (formatted m s budget .reference)
 unfolding formatted result outcome
 format-holds m s budget e =
     let t = taken-call (format s budget) (m .core) (m .world) e in
     rw (t .core, t .world) (serving (format-serves (m .core) (m .world) s (t .accepted)))
 
 -- so it holds of every machine and reference that a list of allowed events reaches
-pub always : (P : Machine → Reference → Type 0) → ((puts : List Put) (m : Machine) (r : Reference) → Holding puts m r → P m r) → Always P
+pub always : (P : Machine → Reference → Type 0) → ((puts : Told) (m : Machine) (r : Reference) → Holding puts m r → P m r) → Always P
 unfolding Always
 always P f m s budget formats events a =
-    f (history events (formatted m s budget .machine) []) _ _ (follow-holds events [] (formatted m s budget) (format-holds m s budget formats) a)
+    f (history events (formatted m s budget) nothingTold) _ _ (follow-holds events nothingTold (formatted m s budget) (format-holds m s budget formats) a)
 
 -- The power-loss theorem: see specs/Promise.antt.
 pub power-loss : PowerLoss
 unfolding PowerLoss result outcome restartEndRows
 power-loss = always _ given
   where
-    given : (puts : List Put) (m : Machine) (r : Reference) → Holding puts m r → (budget : ℕ) → outcome m (restartEnd budget) ≡ taken
+    given : (puts : Told) (m : Machine) (r : Reference) → Holding puts m r → (budget : ℕ) → outcome m (restartEnd budget) ≡ taken
         → result m (restartEnd budget) .world .pages ≡ wordsIn (r .committed)
     given puts m r h budget o =
         let t = taken-call (restartEnd budget) (m .core) (m .world) o in
         let k = replayed h (row-one whenReplaying (m .core) _ (t .accepted)) in
-        end-gives (m .core) (m .world) budget (k .0) o .0 ∙ k .1 .image
+        end-gives (m .core) (m .world) budget (k .progress) o .0 ∙ k .kept .image
 
 -- A restart begin of a shut store is refused for its number only.
 pub restart-accepted : RestartAccepted
@@ -99,12 +101,33 @@ pub table : Table
 unfolding Table
 table = always _ (λ puts m r h e. plain m r (served h e))
 
--- Each disk's words are the records that the calls put there, and the reader finds these and no others.
+-- Each disk's words are the records that the calls put there, and the readers find these and no others.
+log-holds : {puts : Told} {m : Machine} {r : Reference} → Holding puts m r → (d : ℕ) → d < sizesOn (m .world .anchor) .disks → LogOf m puts d
+unfolding stored
+log-holds {m = m} (shut s k n) d below =
+    record {
+      stored = k .logs d below;
+      serving = λ e. true-false (sym (ap whenServing s) ∙ e) refl;
+      replaying = λ e. true-false (sym (ap whenShut e) ∙ ap whenShut s) refl;
+    }
+log-holds {m = m} (replaying p k l n) d below =
+    record {
+      stored = l d below .stored;
+      serving = λ e. true-false (sym (ap whenServing (p .stage)) ∙ e) refl;
+      replaying = λ e. l d below .replayed;
+    }
+log-holds {puts} {m} {r} (serving g) d below =
+    let inside = rw (g .serving .safe .devices .sizes) at below in
+    record {
+      stored = stored (g .serving .safe) d inside puts (g .serving .told d inside);
+      serving = λ e. buffered m r g d inside;
+      replaying = λ e. true-false (sym (ap whenServing e) ∙ g .serving .stage) refl;
+    }
+
 pub log-kept : LogKept
 unfolding LogKept
 log-kept m s budget formats events a =
-    let h = follow-holds events [] (formatted m s budget) (format-holds m s budget formats) a in
-    (holding-kept h .logs, λ serves disk below. log-of _ _ (served h serves) disk below)
+    log-holds (follow-holds events nothingTold (formatted m s budget) (format-holds m s budget formats) a)
 
 -- What the state says is true.
 pub state-true : StateTrue
@@ -116,5 +139,5 @@ pub never-malformed : NeverMalformed
 unfolding NeverMalformed result
 never-malformed =
     always _ (λ puts m r h k.
-    never-seven k (m .core) (m .world) (λ e. holding-kept h .sound) (λ e. replayed h (ap whenReplaying e) .0)
+    never-seven k (m .core) (m .world) (λ e. holding-kept h .sound) (λ e. replayed h (ap whenReplaying e) .progress)
     (λ e. abort-never-bad (served h e)))

@@ -12,4 +12,5 @@ pub mod Progress
 pub mod LogStep
 pub mod BackupStep
 pub mod Steps
+pub mod Records
 pub mod End

@@ -1,17 +1,17 @@
 -- Records that were encoded and stored are what a scan finds, and all that it finds.
 use Prim.Native.Nat.{ℕ, suc, _+_, _*_, _/_, _%_, _≤_, _<_}
-use mathlib.Core.Path.{_≡_, refl, ap, _∙_}
-use mathlib.Core.List.{List, [], _∷_, _++_, append-assoc}
+use mathlib.Core.Path.{_≡_, refl, sym, ap, _∙_}
+use mathlib.Core.List.{List, [], _∷_, _++_, append-assoc, append-nil}
 use native.Mathlib.Omega.{arith}
+use native.Mathlib.Nat.{add-zero}
 use lib.ListN.{length, getD, length-append}
 use borrow.Author.Tests.{lt-ltb, le-ltb, lt-leb, eq-eqb, ne-eqb}
 use Rattle.model.specs.declared.Sizes.{Sizes}
-use Rattle.model.specs.declared.Decoded.{Decoded}
 use Rattle.model.specs.declared.Decoded.the-variants.{Change, Close}
 use Rattle.model.specs.Sizes.{slotsIn, widthIn, ringOf, diskAt, ringWord}
 use Rattle.model.specs.Record.{Record, change, close, header, encode, encodeAll}
-use Rattle.model.specs.Decode.{readLog, span, kindField, pageField, slotField, widthField, misplaced, decodeWords, decodeAt}
-use Rattle.model.specs.Scan.{item, scan, placed}
+use Rattle.model.specs.Decode.{readLog, span, kindField, pageField, slotField, widthField, misplaced, decodeWords, decodeAt, decoded}
+use Rattle.model.specs.Scan.{Update, end, item, scan, placed, updatesIn}
 use Rattle.model.specs.World.{World, perform, each}
 use Rattle.model.specs.Append.{storeLog}
 use Rattle.model.proofs.Decode.{words-change, words-close}
@@ -41,12 +41,6 @@ WellFormed s (close kind number) = CloseFits kind number
 abbrev pub AllWellFormed : Sizes → List Record → Type 0
 AllWellFormed s [] = Unit {0}
 AllWellFormed s (r ∷ rs) = WellFormed s r × AllWellFormed s rs
-
--- what a decoder says of a record that stands at p
-abbrev pub decoded : ℕ → Record → Decoded
-decoded p (change kind page slot number copy diff) =
-    Change kind page slot number copy (length diff) (p + (3 + length diff))
-decoded p (close kind number) = Close kind number (p + 2)
 
 -- The fields of a packed first word are those that were packed.
 pub record FieldsOf (w kind page slot width : ℕ) : Type 0 where
@@ -146,6 +140,32 @@ pub encode-append : (rs more : List Record) → encodeAll (rs ++ more) ≡ encod
 unfolding encodeAll
 encode-append [] more = refl
 encode-append (r ∷ rs) more = rw (encode-append rs more, append-assoc)
+
+-- the updates of a transaction among them: the later ones, then the earlier ones
+pub updates-append : (t p : ℕ) (rs more : List Record)
+    → updatesIn t (placed p (rs ++ more)) ≡ updatesIn t (placed (p + length (encodeAll rs)) more) ++ updatesIn t (placed p rs)
+unfolding updatesIn placed encodeAll
+updates-append t p [] more =
+    ap (λ (q : ℕ). updatesIn t (placed q more)) (sym (add-zero p)) ∙ sym (append-nil (updatesIn t (placed (p + 0) more)))
+updates-append t p (r ∷ rs) more = go r (updates-append t (p + length (encode r)) rs more)
+  where
+    later : ℕ → List Update
+    later q = updatesIn t (placed q more)
+
+    earlier : Record → List Update
+    earlier q = updatesIn t (placed (p + length (encode q)) rs)
+
+    far : (q : Record) → p + length (encode q) + length (encodeAll rs) ≡ p + length (encode q ++ encodeAll rs)
+    far q = omega (arith, length-append (encode q) (encodeAll rs))
+
+    go : (q : Record) → updatesIn t (placed (p + length (encode q)) (rs ++ more)) ≡ later (p + length (encode q) + length (encodeAll rs)) ++ earlier q
+        → updatesIn t (placed p (q ∷ rs ++ more)) ≡ later (p + length (encode q ++ encodeAll rs)) ++ updatesIn t (placed p (q ∷ rs))
+    go (change kind page slot number copy diff) ih =
+        let q : Record = change kind page slot number copy diff in
+        let own : List Update = updatesIn t (item p q end) in
+        ap (λ (l : List Update). l ++ own) (ih ∙ ap (λ (n : ℕ). later n ++ earlier q) (far q))
+        ∙ append-assoc (later (p + length (encode q ++ encodeAll rs))) (earlier q) own
+    go (close kind number) ih = ih ∙ ap (λ (n : ℕ). later n ++ earlier (close kind number)) (far (close kind number))
 
 pub well-formed-append : (s : Sizes) (rs more : List Record) → AllWellFormed s rs → AllWellFormed s more → AllWellFormed s (rs ++ more)
 well-formed-append s [] more h l = l

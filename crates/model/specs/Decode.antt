@@ -2,13 +2,13 @@
 use Prim.Native.Nat.{ℕ, zero, suc, _+_, _-_, _/_, _%_}
 use mathlib.Core.List.{List, [], _∷_}
 use mathlib.Core.Bool.{Bool, cond, not, _||_}
-use lib.ListN.{getD}
+use lib.ListN.{length, getD}
 use lib.Dec.{leb, ltb, eqb}
 use Rattle.model.specs.declared.Sizes.{Sizes}
 use Rattle.model.specs.declared.Decoded.{Decoded}
 use Rattle.model.specs.declared.Decoded.the-variants.{Change, Close, Malformed}
 use Rattle.model.specs.Sizes.{slotsIn, widthIn, ringWord}
-use Rattle.model.specs.Record.{wordsOf}
+use Rattle.model.specs.Record.{Record, change, close, wordsOf}
 
 -- A log is read through a function from position to word: below the tail the ring's word, from the tail on the buffer's.
 unfoldable pub readLog : Sizes → List ℕ → ℕ → ℕ → List ℕ → ℕ → ℕ
@@ -55,3 +55,9 @@ decodeWords s end p w number copy =
 
 unfoldable pub decodeAt : Sizes → (ℕ → ℕ) → ℕ → ℕ → Decoded
 decodeAt s read end p = decodeWords s end p (read p) (read (p + 1)) (read (p + 2))
+
+-- what it says of a record that stands whole at p
+abbrev pub decoded : ℕ → Record → Decoded
+decoded p (change kind page slot number copy diff) =
+    Change kind page slot number copy (length diff) (p + (3 + length diff))
+decoded p (close kind number) = Close kind number (p + 2)

@@ -2,22 +2,35 @@
 -- the pages and copies that it finds; an abort's compensations are of the updates that it finds, which `LogKept` says are those put.
 use Prim.Native.Nat.{ℕ}
 use mathlib.Core.List.{List, [], _∷_, _++_, map}
-use mathlib.Core.Bool.{Bool, true, false, cond}
+use mathlib.Core.Bool.{cond}
 use lib.Dec.{eqb}
 use Rattle.model.specs.declared.Core.{Core}
 use Rattle.model.specs.Record.{Record, change, close, compensationKind, commitKind, abortKind}
 use Rattle.model.specs.Scan.{Update}
 use Rattle.model.specs.World.{World}
 use Rattle.model.specs.Memory.{copyOf}
+use Rattle.model.specs.Causes.{tailOn}
 use Rattle.model.specs.Transaction.{diskOf, updateRecord}
 use Rattle.model.specs.Abort.{updatesLeft}
 use Rattle.model.specs.Call.{Call, format, begin, update, read, commit, abort, checkpointBegin, checkpointStep, checkpointEnd, restartBegin, restartStep, restartEnd, newState}
 use Rattle.model.specs.Reference.{Outcome, taken, refused, interrupted}
-use Rattle.model.specs.Machine.{Machine, Event, call, lent, scramble, outcome, after}
+use Rattle.model.specs.Machine.{Event, call, lent, scramble, outcome, after, referred, Run}
 
 pub record Put : Type 0 where
   pub disk : ℕ
   pub content : Record
+
+-- Where the log of each disk began, and what was put since.
+pub record Told : Type 0 where
+  pub base : ℕ → ℕ
+  pub puts : List Put
+
+-- "each tail 0"
+unfoldable pub nothingTold : Told
+nothingTold = record { base = λ disk. 0; puts = [] }
+
+abbrev pub also : Told → List Put → Told
+also t more = record { base = t .base; puts = t .puts ++ more }
 
 -- a compensation "with the same difference and the page's present copy number"
 unfoldable pub compensation : Core → World → ℕ → Update → Record
@@ -25,56 +38,57 @@ compensation c w number u =
     change compensationKind (u .page) (u .slot) number (copyOf (c .sizes) (w .work) (u .page)) (u .diff)
 
 -- the records of an accepted call; of a cut one, those that it would have put
-abbrev pub putBy : Call → Core → World → List Put
-putBy (update number page slot value budget) c w =
-    record { disk = diskOf c number; content = updateRecord c w number page slot value } ∷ []
-putBy (commit number budget) c w = record { disk = diskOf c number; content = close commitKind number } ∷ []
-putBy (abort number budget) c w =
-    map (λ u. record { disk = diskOf c number; content = compensation c w number u }) (updatesLeft c w number)
-    ++ record { disk = diskOf c number; content = close abortKind number } ∷ []
-putBy (format s budget) c w = []
-putBy begin c w = []
-putBy (read reader page slot) c w = []
-putBy checkpointBegin c w = []
-putBy (checkpointStep budget) c w = []
-putBy (checkpointEnd budget) c w = []
-putBy restartBegin c w = []
-putBy (restartStep source) c w = []
-putBy (restartEnd budget) c w = []
-putBy newState c w = []
+abbrev pub putBy : Call → Run → Told → List Put
+putBy (update number page slot value budget) x t =
+    record { disk = diskOf (x .machine .core) number; content = updateRecord (x .machine .core) (x .machine .world) number page slot value } ∷ []
+putBy (commit number budget) x t = record { disk = diskOf (x .machine .core) number; content = close commitKind number } ∷ []
+putBy (abort number budget) x t =
+    map (λ u. record { disk = diskOf (x .machine .core) number; content = compensation (x .machine .core) (x .machine .world) number u }) (updatesLeft (x .machine .core) (x .machine .world) number)
+    ++ record { disk = diskOf (x .machine .core) number; content = close abortKind number } ∷ []
+putBy (format s budget) x t = []
+putBy begin x t = []
+putBy (read reader page slot) x t = []
+putBy checkpointBegin x t = []
+putBy (checkpointStep budget) x t = []
+putBy (checkpointEnd budget) x t = []
+putBy restartBegin x t = []
+putBy (restartStep source) x t = []
+putBy (restartEnd budget) x t = []
+putBy newState x t = []
 
--- Restart end: "all pages to backup (c + 1) mod 2; each tail into row (c + 1) mod 2; c := c + 1". It leaves no log behind it, and what
--- was put before it is told no more.
-abbrev pub forgets : Call → Bool
-forgets (restartEnd budget) = true
-forgets (format s budget) = true
-forgets newState = false
-forgets begin = false
-forgets (update number page slot value budget) = false
-forgets (read reader page slot) = false
-forgets (commit number budget) = false
-forgets (abort number budget) = false
-forgets checkpointBegin = false
-forgets (checkpointStep budget) = false
-forgets (checkpointEnd budget) = false
-forgets restartBegin = false
-forgets (restartStep source) = false
+-- Where a call leaves the logs empty: a format, and a restart end, "all pages to backup (c + 1) mod 2; each tail into row (c + 1) mod 2;
+-- c := c + 1". What was put before it is told no more, and each log begins at its tail.
+abbrev pub emptied : Call → Run → Told → Told
+emptied (restartEnd budget) x t = record { base = tailOn (x .machine .core .sizes) (x .machine .world); puts = [] }
+emptied (format s budget) x t = nothingTold
+emptied newState x t = t
+emptied begin x t = t
+emptied (update number page slot value budget) x t = t
+emptied (read reader page slot) x t = t
+emptied (commit number budget) x t = t
+emptied (abort number budget) x t = t
+emptied checkpointBegin x t = t
+emptied (checkpointStep budget) x t = t
+emptied (checkpointEnd budget) x t = t
+emptied restartBegin x t = t
+emptied (restartStep source) x t = t
 
 -- a cut call's records are told too: some of them may have been stored, the rest are lost with the buffers
-abbrev pub toldBy : Outcome → Call → Core → World → List Put → List Put
-toldBy taken k c w puts = cond (forgets k) [] (puts ++ putBy k c w)
-toldBy refused k c w puts = puts
-toldBy interrupted k c w puts = puts ++ putBy k c w
+abbrev pub toldBy : Outcome → Call → Run → Told → Told
+toldBy taken k x t = also (emptied k x t) (putBy k x t)
+toldBy refused k x t = t
+toldBy interrupted k x t = also t (putBy k x t)
 
-abbrev pub told : Machine → Event → List Put → List Put
-told m (call k) puts = toldBy (outcome m k) k (m .core) (m .world) puts
-told m (lent k w) puts = puts
-told m (scramble pages work) puts = puts
+abbrev pub told : Run → Event → Told → Told
+told x (call k) t = toldBy (outcome (x .machine) k) k x t
+told x (lent k w) t = t
+told x (scramble pages work) t = t
 
--- what a list of events put, from a machine on
-unfoldable pub history : List Event → Machine → List Put → List Put
-history [] m puts = puts
-history (e ∷ es) m puts = history es (after m e) (told m e puts)
+-- what a list of events put, from a run on
+unfoldable pub history : List Event → Run → Told → Told
+history [] x t = t
+history (e ∷ es) x t =
+    history es (record { machine = after (x .machine) e; reference = referred (x .machine) e (x .reference) }) (told x e t)
 
 -- the records put on one disk
 unfoldable pub recordsOn : ℕ → List Put → List Record

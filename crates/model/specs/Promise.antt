@@ -3,29 +3,29 @@ use mathlib.Core.Path.{_≡_}
 use Prim.Native.Nat.{ℕ, _+_, _-_, _≤_, _<_}
 use mathlib.Core.List.{List, [], _∷_, _++_, List·Memᴰ}
 use mathlib.Core.Bool.{Bool, true, false, cond, _&&_, _||_}
-use lib.ListN.{getD}
+use lib.ListN.{length, getD}
 use lib.Dec.{ltb, eqb}
 use Rattle.model.specs.declared.Stage.the-variants.{Shut, Replaying}
 use Rattle.model.specs.declared.Sizes.{Sizes}
 use Rattle.model.specs.declared.Core.{Core}
 use Rattle.model.specs.Sizes.{slotsIn, total, ringOf, tailWord}
 use Rattle.model.specs.Anchor.{epochOn, sizesOn, startOn}
-use Rattle.model.specs.Record.{Record, close, commitKind, encode, encodeAll}
-use Rattle.model.specs.Decode.{readLog}
-use Rattle.model.specs.Scan.{Scan, scan, placed, updatesIn, updateWords, oldest}
+use Rattle.model.specs.Record.{Record, change, close, commitKind, encode, encodeAll}
+use Rattle.model.specs.Decode.{readLog, span, decoded}
+use Rattle.model.specs.Scan.{Scan, scan, placed, fateIn, updatesIn, updateWords, oldest}
 use Rattle.model.specs.World.{World, Action, store, write, anchor, backups, logs, each}
 use Rattle.model.specs.Memory.{bufferOf, copyOf}
 use Rattle.model.specs.State.{limit, startOf, tailOf, fillOf, endOf, isOpen, placeOf, firstAt, reservedAt, hasUpdate}
 use Rattle.model.specs.Refusal.{numberOf, verdict, accepted}
-use Rattle.model.specs.Causes.{whenServing, tailOn, locked}
+use Rattle.model.specs.Causes.{whenServing, tailOn, retained, locked}
 use Rattle.model.specs.Append.{storeLog}
 use Rattle.model.specs.Transaction.{diskOf, readWords, commitRows, commitTask}
-use Rattle.model.specs.Restart.{remaining}
+use Rattle.model.specs.Restart.{positionOf, remaining, readDisk, fateFrom, nextRecord}
 use Rattle.model.specs.Call.{Call, format, read, restartBegin, restartStep, restartEnd}
 use Rattle.model.specs.Image.{Image, retainedWords, imageOf, logOf, restarted}
 use Rattle.model.specs.Reference.{Reference, taken, slotIndex, wordsIn, plainTable, hasSet, writtenByOther}
 use Rattle.model.specs.Machine.{Machine, Event, call, outcome, result, after, follow, allowedAll, formatted, afterSteps}
-use Rattle.model.specs.History.{Put, history, recordsOn}
+use Rattle.model.specs.History.{Told, nothingTold, history, recordsOn}
 
 -- P holds of every machine and reference that is reached so: format any machine, and let the format finish. Then let any events
 -- happen: calls taken, refused or cut at any store, also inside a restart, whichever sources its steps name in whichever order;
@@ -83,16 +83,20 @@ unfoldable pub Table : Type 0
 Table = Always λ m r. whenServing (m .core .stage) ≡ true → PlainTable m r
 
 -- The log. Each disk holds the records that the calls put there (specs/History.antt: an update's difference is before XOR after,
--- 000's definition 1), and the reader gives back those records at their positions, and no others. In every stage, so also after lost
--- power: the words of a disk from its start to its tail are the encoding of a stretch of what was put; what was put after that stretch is
--- lost with the buffer.
-pub record Stored (i : Image) (disk : ℕ) (put : List Record) : Type 0 where
+-- 000's definition 1), "and the log's reader finds the records that its writer put there, and no others". In every stage, so also
+-- after lost power: of the records put on a disk since its log began, the words from the start to the tail are those of a stretch, the
+-- start lies behind the words of those before it, and restart begin and the pages' definition read that stretch, each record at its
+-- position.
+pub record Stored (t : Told) (w : World) (disk : ℕ) : Type 0 where
   pub old : List Record
   pub kept : List Record
-  pub lost : List Record
-  pub parts : put ≡ old ++ (kept ++ lost)
-  pub words : getD (i .logs) disk [] ≡ encodeAll kept
-  pub reads : logOf i disk ≡ placed (getD (i .starts) disk 0) kept
+  pub rest : List Record
+  pub parts : recordsOn disk (t .puts) ≡ old ++ (kept ++ rest)
+  pub start : startOn (w .anchor) disk ≡ t .base disk + length (encodeAll old)
+  pub tail : tailOn (sizesOn (w .anchor)) w disk ≡ t .base disk + length (encodeAll (old ++ kept))
+  pub words : retainedWords (sizesOn (w .anchor)) w disk ≡ encodeAll kept
+  pub finds : retained (sizesOn (w .anchor)) w disk ≡ placed (startOn (w .anchor) disk) kept
+  pub reads : logOf (imageOf w) disk ≡ placed (startOn (w .anchor) disk) kept
 
 -- While the store is open or copying nothing is lost: what comes after the stretch is in the buffer, and the log from the start to
 -- the end, the buffer included, reads as all records put since the start.
@@ -101,14 +105,29 @@ logScan c w disk =
     scan (c .sizes) (readLog (c .sizes) (w .logs) disk (tailOf (c .logs) disk) (bufferOf (c .sizes) (w .work) disk (fillOf (c .logs) disk)))
     (endOf (c .logs) disk) (startOf (c .logs) disk)
 
-pub record LogOf (m : Machine) (disk : ℕ) (put : List Record) : Type 0 where
-  pub old : List Record
-  pub inRing : List Record
-  pub inBuffer : List Record
-  pub parts : put ≡ old ++ (inRing ++ inBuffer)
-  pub words : retainedWords (m .core .sizes) (m .world) disk ≡ encodeAll inRing
-  pub buffer : bufferOf (m .core .sizes) (m .world .work) disk (fillOf (m .core .logs) disk) ≡ encodeAll inBuffer
-  pub reads : logScan (m .core) (m .world) disk ≡ placed (startOf (m .core .logs) disk) (inRing ++ inBuffer)
+pub record Buffered (c : Core) (w : World) (disk : ℕ) (kept rest : List Record) : Type 0 where
+  pub buffer : bufferOf (c .sizes) (w .work) disk (fillOf (c .logs) disk) ≡ encodeAll rest
+  pub reads : logScan c w disk ≡ placed (startOf (c .logs) disk) (kept ++ rest)
+
+-- While it replays, the steps have taken the first records of the stretch and the others are left: from its position on the log step's
+-- reader reads these, the record that it takes next is the first of them, with its difference, and its search ahead is in those after it.
+pub record Replayed (c : Core) (w : World) (disk : ℕ) (kept : List Record) : Type 0 where
+  pub done : List Record
+  pub left : List Record
+  pub parts : kept ≡ done ++ left
+  pub position : positionOf c disk ≡ startOn (w .anchor) disk + length (encodeAll done)
+  pub reads : scan (c .sizes) (readDisk c w disk) (tailOf (c .logs) disk) (positionOf c disk) ≡ placed (positionOf c disk) left
+  pub takes : (r : Record) (more : List Record) → left ≡ r ∷ more → nextRecord c w disk ≡ decoded (positionOf c disk) r
+  pub diffs : (kind page slot number copy : ℕ) (diff : List ℕ) (more : List Record) → left ≡ change kind page slot number copy diff ∷ more
+      → span (readDisk c w disk) (positionOf c disk + 3) (length diff) ≡ diff
+  pub ahead : (r : Record) (more : List Record) → left ≡ r ∷ more → (number : ℕ)
+      → let next : ℕ = positionOf c disk + length (encode r) in
+      fateFrom c w disk number next ≡ fateIn number (placed next more)
+
+pub record LogOf (m : Machine) (t : Told) (disk : ℕ) : Type 0 where
+  pub stored : Stored t (m .world) disk
+  pub serving : whenServing (m .core .stage) ≡ true → Buffered (m .core) (m .world) disk (stored .kept) (stored .rest)
+  pub replaying : m .core .stage ≡ Replaying → Replayed (m .core) (m .world) disk (stored .kept)
 
 unfoldable pub LogKept : Type 0
 LogKept =
@@ -117,9 +136,8 @@ LogKept =
     → (events : List Event)
     → allowedAll events (formatted m s budget .machine) ≡ true
     → let n : Machine = follow events (formatted m s budget) .machine in
-    let put : List Put = history events (formatted m s budget .machine) [] in
-    ((disk : ℕ) → disk < imageOf (n .world) .sizes .disks → Stored (imageOf (n .world)) disk (recordsOn disk put))
-    × (whenServing (n .core .stage) ≡ true → (disk : ℕ) → disk < n .core .sizes .disks → LogOf n disk (recordsOn disk put))
+    let t : Told = history events (formatted m s budget) nothingTold in
+    (disk : ℕ) → disk < sizesOn (n .world .anchor) .disks → LogOf n t disk
 
 -- No call ever finds a malformed record.
 unfoldable pub NeverMalformed : Type 0

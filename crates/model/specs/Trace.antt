@@ -11,6 +11,7 @@ use Rattle.model.specs.declared.Sizes.{Sizes}
 use Rattle.model.specs.declared.Core.{Core}
 use Rattle.model.specs.declared.Reply.{Reply}
 use Rattle.model.specs.Sizes.{total}
+use Rattle.model.specs.Anchor.{sizesOn}
 use Rattle.model.specs.World.{World}
 use Rattle.model.specs.State.{endOf, isOpen}
 use Rattle.model.specs.Refusal.{numberOf}
@@ -18,11 +19,10 @@ use Rattle.model.specs.Causes.{whenServing, tailOn}
 use Rattle.model.specs.Transaction.{diskOf, readWords}
 use Rattle.model.specs.Restart.{remaining}
 use Rattle.model.specs.Call.{Call, format, update, read, commit, restartBegin, restartStep, restartEnd, Gives}
-use Rattle.model.specs.Image.{imageOf}
 use Rattle.model.specs.Reference.{Outcome, taken, refused, interrupted, outcomeOf, Reference, blank, heard, hear, slotIndex, wordsIn, plainTable, writtenByOther}
 use Rattle.model.specs.Machine.{Machine, isRefused, scrambled, Run}
-use Rattle.model.specs.History.{Put, toldBy, recordsOn}
-use Rattle.model.specs.Promise.{PlainTable, Stored, LogOf, Truth, Closable}
+use Rattle.model.specs.History.{Told, nothingTold, toldBy}
+use Rattle.model.specs.Promise.{PlainTable, LogOf, Truth, Closable}
 
 -- A call of the code as it was observed: the call with its arguments; the state and the words that it got; the answer and the state
 -- that it handed back; the budget that it left, 0 for a call that takes none; the words as it left them. A new state touches no word;
@@ -187,16 +187,16 @@ pub record PlainTableInCode (m : Machine) (r : Reference) : Type 0 where
 unfoldable pub TableInCode : Type 0
 TableInCode = AlwaysInCode λ m r. whenServing (m .core .stage) ≡ true → PlainTableInCode m r
 
--- what the observed calls put into the logs (specs/History.antt), told by what each of them answered and got; a call that was lent other
--- slices is refused and puts nothing
-abbrev pub toldInCode : EventInCode → List Put → List Put
-toldInCode (callInCode o) puts = toldBy (seen o) (o .call) (o .core) (o .entry) puts
-toldInCode (lentInCode o) puts = puts
-toldInCode (scrambleInCode pages work) puts = puts
+-- what the observed calls put into the logs (specs/History.antt), told by what each of them answered and by the run before it; a call
+-- that was lent other slices is refused and puts nothing
+abbrev pub toldInCode : EventInCode → Run → Told → Told
+toldInCode (callInCode o) x t = toldBy (seen o) (o .call) x t
+toldInCode (lentInCode o) x t = t
+toldInCode (scrambleInCode pages work) x t = t
 
-unfoldable pub historyInCode : List EventInCode → List Put → List Put
-historyInCode [] puts = puts
-historyInCode (s ∷ steps) puts = historyInCode steps (toldInCode s puts)
+unfoldable pub historyInCode : List EventInCode → Run → Told → Told
+historyInCode [] x t = t
+historyInCode (s ∷ steps) x t = historyInCode steps (afterInCode s x) (toldInCode s x t)
 
 -- The log: as LogKept, for the words that the code's calls left and the records that they put.
 unfoldable pub LogKeptInCode : Type 0
@@ -204,9 +204,8 @@ LogKeptInCode =
     (o : Observed) (s : Sizes) → Formats o s
     → (steps : List EventInCode) → AllowedAllInCode steps (formattedInCode o s)
     → let n : Machine = followInCode steps (formattedInCode o s) .machine in
-    let put : List Put = historyInCode steps [] in
-    ((disk : ℕ) → disk < imageOf (n .world) .sizes .disks → Stored (imageOf (n .world)) disk (recordsOn disk put))
-    × (whenServing (n .core .stage) ≡ true → (disk : ℕ) → disk < n .core .sizes .disks → LogOf n disk (recordsOn disk put))
+    let t : Told = historyInCode steps (formattedInCode o s) nothingTold in
+    (disk : ℕ) → disk < sizesOn (n .world .anchor) .disks → LogOf n t disk
 
 -- The state that the code hands back says what is true of the words that it left.
 unfoldable pub StateTrueInCode : Type 0

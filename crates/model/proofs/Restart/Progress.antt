@@ -107,7 +107,7 @@ begin-checked c w t =
     }
 
 -- at the start of its log, a disk's rest is the whole retained log
-left-retained : (c : Core) (w : World) (d : ℕ) → tailOf (c .logs) d ≡ tailOn (c .sizes) w d
+pub left-retained : (c : Core) (w : World) (d : ℕ) → tailOf (c .logs) d ≡ tailOn (c .sizes) w d
     → positionOf c d ≡ startOn (w .anchor) d → logLeft c w d ≡ retained (c .sizes) w d
 unfolding logLeft readDisk retained
 left-retained c w d e f =

@@ -18,7 +18,7 @@ use Rattle.model.specs.Transaction.{diskOf}
 use Rattle.model.specs.Abort.{updatesLeft, undoAll, abortRows, abortTask}
 use Rattle.model.specs.Call.{abort}
 use Rattle.model.specs.Reference.{Reference, afterTaken}
-use Rattle.model.specs.History.{Put, putBy}
+use Rattle.model.specs.History.{Told, also, putBy}
 use Rattle.model.proofs.Xor.{⊕-self}
 use Rattle.model.proofs.Run.{perform-append, stores-append, run-append, run-cut}
 use Rattle.model.proofs.Places.{open-place}
@@ -27,7 +27,7 @@ use Rattle.model.proofs.Ledger.Sums.{all-map}
 use Rattle.model.proofs.Ledger.Word.{ofTxn}
 use Rattle.model.proofs.Ledger.Good.{good-exempt}
 use Rattle.model.proofs.Link.Abort.{sumUpdates}
-use Rattle.model.proofs.Store.View.{Kept, Serving, Served}
+use Rattle.model.proofs.Store.View.{Kept, Serving, Served, runAt}
 use Rattle.model.proofs.Store.Compensate.{Compensated}
 use Rattle.model.proofs.Store.Undo.{compensations, none-undone, undone}
 use Rattle.model.proofs.Store.Left.{MayAbort, may-abort, none-left, none-logged, left-slotted, left-sum}
@@ -35,7 +35,7 @@ use Rattle.model.proofs.Store.CloseAbort.{closing, closed, closing-cut}
 use Rattle.model.proofs.Store.Steady.{kept-lost}
 
 -- an abort of transaction t may begin
-pub abort-begins : {home : ℕ → ℕ} {puts : List Put} {c : Core} {w : World} {r : Reference} {F B : List Entry} (t : ℕ) → Serving 0 home puts c w r F B
+pub abort-begins : {home : ℕ → ℕ} {puts : Told} {c : Core} {w : World} {r : Reference} {F B : List Entry} (t : ℕ) → Serving 0 home puts c w r F B
     → Serving t home puts c w r F B
 abort-begins {F = F} {B = B} t g =
     record {
@@ -72,7 +72,7 @@ abort-begins {F = F} {B = B} t g =
       told = g .told;
     }
 
-module _ {home : ℕ → ℕ} {puts : List Put} {c : Core} {w : World} {r : Reference} {F B : List Entry} (g : Serving 0 home puts c w r F B) (t : ℕ)
+module _ {home : ℕ → ℕ} {puts : Told} {c : Core} {w : World} {r : Reference} {F B : List Entry} (g : Serving 0 home puts c w r F B) (t : ℕ)
     (may : MayAbort c w t) where
   abbrev d : ℕ
   d = diskOf c t
@@ -83,8 +83,8 @@ module _ {home : ℕ → ℕ} {puts : List Put} {c : Core} {w : World} {r : Refe
   abbrev undo : Appended
   undo = undoAll (c .sizes) (c .logs) w t d us
 
-  abbrev told : List Put
-  told = puts ++ compensations c w t us
+  abbrev told : Told
+  told = also puts (compensations c w t us)
 
   -- the updates taken back: what their compensations add is what the transaction's entries add
   record Cancelled : Type 0 where
@@ -131,20 +131,20 @@ module _ {home : ℕ → ℕ} {puts : List Put} {c : Core} {w : World} {r : Refe
   unfolding withLog
   in-limit = omega (arith, work .ends, may .in-limit)
 
-  abort-served : Served (puts ++ putBy (abort t 0) c w) (abortTask c w t .core) (perform (abortTask c w t .actions) w) (afterTaken (abort t 0) 0 r)
+  abort-served : Served (also puts (putBy (abort t 0) (runAt c w r) puts)) (abortTask c w t .core) (perform (abortTask c w t .actions) w) (afterTaken (abort t 0) 0 r)
   unfolding abortTask withLog diskOf
   abort-served =
-      rw (perform-append (undo .actions) _ w, ← append-assoc puts (compensations c w t us) _)
+      rw (perform-append (undo .actions) _ w, ← append-assoc (puts .puts) (compensations c w t us) _)
       (closed (work .serving) (may .opened) (may .below) (work .small) room in-limit cancels)
 
-  abort-kept : (budget : ℕ) → budget < stores (abortTask c w t .actions) → Kept (puts ++ compensations c w t us) (run budget (abortTask c w t .actions) w) r
+  abort-kept : (budget : ℕ) → budget < stores (abortTask c w t .actions) → Kept (also puts (compensations c w t us)) (run budget (abortTask c w t .actions) w) r
   unfolding abortTask withLog diskOf
   abort-kept budget h = go (decLt budget (stores (undo .actions)))
     where
       last : Appended
       last = closing (work .serving) (may .opened) (may .below) (work .small) room in-limit cancels
 
-      go : Dec (budget < stores (undo .actions)) → Kept (puts ++ compensations c w t us) (run budget (undo .actions ++ last .actions) w) r
+      go : Dec (budget < stores (undo .actions)) → Kept (also puts (compensations c w t us)) (run budget (undo .actions ++ last .actions) w) r
       go (yes less) = rw (run-cut budget (undo .actions) (last .actions) w less) (work .cut budget less)
       go (no more) =
           rw (run-append budget (undo .actions) (last .actions) w (omega arith))
@@ -152,16 +152,16 @@ module _ {home : ℕ → ℕ} {puts : List Put} {c : Core} {w : World} {r : Refe
           (omega (arith, stores-append (undo .actions) (last .actions))))
 
 -- An accepted abort leaves a store that serves, without the transaction.
-pub abort-serves : {puts : List Put} {c : Core} {w : World} {r : Reference} → Served puts c w r → (number budget n : ℕ)
+pub abort-serves : {puts : Told} {c : Core} {w : World} {r : Reference} → Served puts c w r → (number budget n : ℕ)
     → verdict (abortRows c w number) ≡ accepted
-    → Served (puts ++ putBy (abort number budget) c w) (abortTask c w number .core) (perform (abortTask c w number .actions) w) (afterTaken (abort number budget) n r)
+    → Served (also puts (putBy (abort number budget) (runAt c w r) puts)) (abortTask c w number .core) (perform (abortTask c w number .actions) w) (afterTaken (abort number budget) n r)
 abort-serves {c = c} {w = w} g number budget n v = abort-served (g .serving) number (may-abort c w number v)
 
 -- Cut, it leaves devices that restart to what was committed.
-pub abort-cut : {puts : List Put} {c : Core} {w : World} {r : Reference} → Served puts c w r → (number budget : ℕ)
+pub abort-cut : {puts : Told} {c : Core} {w : World} {r : Reference} → Served puts c w r → (number budget : ℕ)
     → verdict (abortRows c w number) ≡ accepted → finishes budget (abortTask c w number .actions) ≡ false
-    → Kept (puts ++ putBy (abort number budget) c w) (run budget (abortTask c w number .actions) w) r
+    → Kept (also puts (putBy (abort number budget) (runAt c w r) puts)) (run budget (abortTask c w number .actions) w) r
 unfolding finishes
 abort-cut {puts} {c = c} {w = w} g number budget v f =
-    rw (← append-assoc puts (compensations c w number (updatesLeft c w number)) _)
+    rw (← append-assoc (puts .puts) (compensations c w number (updatesLeft c w number)) _)
     (kept-lost (abort-kept (g .serving) number (may-abort c w number v) budget (leb-false _ _ f)) _)

@@ -17,7 +17,7 @@ use Rattle.model.specs.State.{placeOf, isOpen, reservedAt, hasUpdate}
 use Rattle.model.specs.Transaction.{diskOf}
 use Rattle.model.specs.Abort.{abortScan, updatesLeft, abortFault}
 use Rattle.model.specs.Reference.{Reference}
-use Rattle.model.specs.History.{Put}
+use Rattle.model.specs.History.{Told}
 use Rattle.model.proofs.Places.{open-place}
 use Rattle.model.proofs.Updates.{update-words-append}
 use Rattle.model.proofs.Ledger.Entry.{Entry, recordOf, isClose, All}
@@ -61,7 +61,7 @@ pub nothing-bad : (c : Core) (w : World) (t : ℕ) → isOpen (c .table) t && ha
 unfolding abortScan updatesLeft updatesIn updateWords faultIn
 nothing-bad c w t none = none-bad c w t (λ rest. rw none) (rw none (omega arith))
 
-module _ {home : ℕ → ℕ} {puts : List Put} {c : Core} {w : World} {r : Reference} {F B : List Entry} (g : Serving 0 home puts c w r F B)
+module _ {home : ℕ → ℕ} {puts : Told} {c : Core} {w : World} {r : Reference} {F B : List Entry} (g : Serving 0 home puts c w r F B)
     (t : ℕ) (opened : isOpen (c .table) t ≡ true) (has : hasUpdate (c .table) (placeOf (c .table) t) ≡ true) where
   -- its updates have as many words as its entries
   pub words-left : updateWords (updatesLeft c w t) ≡ wordsFor t (F ++ B)
@@ -82,7 +82,7 @@ module _ {home : ℕ → ℕ} {puts : List Put} {c : Core} {w : World} {r : Refe
       (omega (arith, words-left, g .accounts .reserved t opened (open-place (c .table) t opened .0)))
 
 -- Whatever transaction is asked for, an abort of a store that serves finds no fault.
-pub abort-never-bad : {puts : List Put} {c : Core} {w : World} {r : Reference} → Served puts c w r → (number : ℕ) → abortFault c w number ≡ NoFault
+pub abort-never-bad : {puts : Told} {c : Core} {w : World} {r : Reference} → Served puts c w r → (number : ℕ) → abortFault c w number ≡ NoFault
 abort-never-bad {c = c} {w = w} g number = go (isOpen (c .table) number) refl (hasUpdate (c .table) (placeOf (c .table) number)) refl
   where
     go : (o : Bool) → isOpen (c .table) number ≡ o → (h : Bool) → hasUpdate (c .table) (placeOf (c .table) number) ≡ h → abortFault c w number ≡ NoFault

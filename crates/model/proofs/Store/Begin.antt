@@ -17,7 +17,7 @@ use Rattle.model.specs.Refusal.{accepted, verdict}
 use Rattle.model.specs.Transaction.{diskOf, beginRows, begun, beginTask}
 use Rattle.model.specs.Call.{begin}
 use Rattle.model.specs.Reference.{Reference, writesOf, afterTaken}
-use Rattle.model.specs.History.{Put}
+use Rattle.model.specs.History.{Told}
 use Rattle.model.proofs.Slots.{patchOf}
 use Rattle.model.proofs.WriteSets.{distinct-front, front-writes, front-has}
 use Rattle.model.proofs.Ledger.Entry.{Entry, some as someEntry, All}
@@ -25,14 +25,15 @@ use Rattle.model.proofs.Ledger.State.{Same, begun as begunLedger}
 use Rattle.model.proofs.Ledger.Order.{on, boundary}
 use Rattle.model.proofs.Ledger.Sums.{all-map, all-zip}
 use Rattle.model.proofs.Ledger.Good.{good-same, begin-good}
-use Rattle.model.proofs.Store.View.{view, before, Safe, Own, wordsFor, Accounts, Copies, Sets, Owners, Serving, Served}
+use Rattle.model.proofs.Store.OneMore.{since-still}
+use Rattle.model.proofs.Store.View.{view, before, Safe, Own, wordsFor, Accounts, Copies, Sets, Owners, Serving, Served, SinceOn}
 use Rattle.model.proofs.Store.Same.{devices-same}
 use Rattle.model.proofs.Booleans.{true-false, or-none}
 use Rattle.model.proofs.Store.Accepted.{begin-accepted}
 use Rattle.model.proofs.Store.BeginTable.{T as table, new, open-after, newly, old, same-disk, same-first, same-reserved, same-update, new-disk, new-reserved, no-update, new-tabled}
 use Rattle.model.proofs.Store.WordsFor.{words-for-none}
 
-module _ {home : ℕ → ℕ} {puts : List Put} {c : Core} {w : World} {r : Reference} {F B : List Entry}
+module _ {home : ℕ → ℕ} {puts : Told} {c : Core} {w : World} {r : Reference} {F B : List Entry}
     (ok : verdict (beginRows c w) ≡ accepted) (v : Serving 0 home puts c w r F B) where
   abbrev T : Table
   T = table ok v
@@ -156,12 +157,19 @@ module _ {home : ℕ → ℕ} {puts : List Put} {c : Core} {w : World} {r : Refe
             (v .owners .written page slot p q (newly ok v t (isOpen (c .table) t ≡ true) o (λ e. absurd (omega arith)) (λ h. h)));
       }
 
+  told : (d : ℕ) → d < c .sizes .disks → SinceOn puts (begun c) d (on d F ++ on d B)
+  unfolding begun
+  told d h =
+      since-still refl
+      (λ t y l. newly ok v t (isOpen (c .table) t ≡ true) (y (omega arith)) (λ q. absurd (omega (arith, q))) (λ p. p))
+      (v .told d h)
+
   begin-serving : Serving 0 homes puts (begun c) w R F B
   unfolding begun
-  begin-serving = record { stage = v .stage; safe = safe; accounts = accounts; copies = copies; sets = sets; owners = owners; told = v .told }
+  begin-serving = record { stage = v .stage; safe = safe; accounts = accounts; copies = copies; sets = sets; owners = owners; told = told }
 
 -- begin keeps what holds of an open store, with the reference's (new ok v), empty write set
-pub begin-serves : {puts : List Put} {c : Core} {w : World} {r : Reference} → Served puts c w r → verdict (beginRows c w) ≡ accepted
+pub begin-serves : {puts : Told} {c : Core} {w : World} {r : Reference} → Served puts c w r → verdict (beginRows c w) ≡ accepted
     → Served puts (beginTask c w .core) w (afterTaken begin (c .next) r)
 unfolding beginTask
 begin-serves s ok =

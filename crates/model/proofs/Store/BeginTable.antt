@@ -13,7 +13,7 @@ use Rattle.model.specs.Room.{idlest}
 use Rattle.model.specs.Refusal.{accepted, verdict}
 use Rattle.model.specs.Transaction.{beginRows}
 use Rattle.model.specs.Reference.{Reference}
-use Rattle.model.specs.History.{Put}
+use Rattle.model.specs.History.{Told}
 use Rattle.model.proofs.SetPlace.{put-disk, put-reserved, other-same, SameAt}
 use Rattle.model.proofs.Places.{Tabled, place-holds, open-place, begin-place, begin-other, begin-open, begin-tabled}
 use Rattle.model.proofs.Ledger.Entry.{Entry}
@@ -22,7 +22,7 @@ use Rattle.model.proofs.Store.View.{view, Serving}
 use Rattle.model.proofs.Booleans.{true-false}
 use Rattle.model.proofs.Store.Accepted.{begin-accepted}
 
-module _ {home : ℕ → ℕ} {puts : List Put} {c : Core} {w : World} {r : Reference} {F B : List Entry}
+module _ {home : ℕ → ℕ} {puts : Told} {c : Core} {w : World} {r : Reference} {F B : List Entry}
     (ok : verdict (beginRows c w) ≡ accepted) (v : Serving 0 home puts c w r F B) where
   abbrev pub place : ℕ
   place = placeOf (c .table) 0

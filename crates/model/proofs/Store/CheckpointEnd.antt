@@ -14,7 +14,7 @@ use Rattle.model.specs.Refusal.{accepted, verdict}
 use Rattle.model.specs.Causes.{whenCopying}
 use Rattle.model.specs.Checkpoint.{toCopy, lowestToCopy, newStart, checkpointEndRows, checkpointEndTask}
 use Rattle.model.specs.Reference.{Reference}
-use Rattle.model.specs.History.{Put}
+use Rattle.model.specs.History.{Told}
 use Rattle.model.proofs.Below.{first-before}
 use Rattle.model.proofs.PerDisk.{per-disk-cong}
 use Rattle.model.proofs.Run.{perform-append, stores-append, run-append, run-cut, perform-lengths}
@@ -53,7 +53,7 @@ all-copied c some h =
     let last = first-before (toCopy c) (c .sizes .pages) (c .sizes .pages - 1) (omega arith) in
     omega (arith, leb-false (c .checkpoint .copied) (c .sizes .pages - 1) last)
 
-module _ {puts : List Put} {c : Core} {w : World} {r : Reference} (g : Served puts c w r) (ok : verdict (checkpointEndRows c w) ≡ accepted) where
+module _ {puts : Told} {c : Core} {w : World} {r : Reference} (g : Served puts c w r) (ok : verdict (checkpointEndRows c w) ≡ accepted) where
   found : Accepted c
   found = end-accepted c w ok
 

@@ -15,7 +15,7 @@ use Rattle.model.specs.State.{limit, startOf, endOf, withLog, isOpen, wi
 use Rattle.model.specs.Append.{Appended, append}
 use Rattle.model.specs.Transaction.{diskOf}
 use Rattle.model.specs.Reference.{Reference, removed, withSets}
-use Rattle.model.specs.History.{Put}
+use Rattle.model.specs.History.{Told, also}
 use Rattle.model.proofs.Geometry.{slotStart, slot-in}
 use Rattle.model.proofs.Slots.{patchOf}
 use Rattle.model.proofs.WriteSets.{writes-removed-other}
@@ -30,15 +30,15 @@ use Rattle.model.proofs.Ledger.Close.{abort-good, closes-one}
 use Rattle.model.proofs.Link.Buffered.{InBuffer, owners-same, copies-same}
 use Rattle.model.proofs.Store.View.{Kept, view, Accounts, Serving, Served, open-used}
 use Rattle.model.proofs.Store.Logged.{none-written}
-use Rattle.model.proofs.Store.Closed.{sets-closed, owners-closed, accounts-closed, found-more}
+use Rattle.model.proofs.Store.Closed.{sets-closed, owners-closed, accounts-closed, found-more, was-open}
 use Rattle.model.proofs.Store.Put.{MayPut, put-longer, put-in-buffer, F1, B1, made-sums, made-good, made-accounts, put-safe, put-copies, put-told, put-cut}
 use Rattle.model.proofs.Growth.{Small}
 use Rattle.model.proofs.Booleans.{true-false}
-use Rattle.model.proofs.Store.OneMore.{all-more, boundary-logged}
+use Rattle.model.proofs.Store.OneMore.{all-more, boundary-logged, since-still}
 use Rattle.model.proofs.Store.ClosingEntry.{closingEntry, closing-size, closing-closes, closing-fit}
 use Rattle.model.proofs.Store.WordsFor.{words-for-other}
 
-module _ {t : ℕ} {home : ℕ → ℕ} {puts : List Put} {c : Core} {w : World} {r : Reference} {F B : List Entry} (g : Serving t home puts c w r F B)
+module _ {t : ℕ} {home : ℕ → ℕ} {puts : Told} {c : Core} {w : World} {r : Reference} {F B : List Entry} (g : Serving t home puts c w r F B)
     (opened : isOpen (c .table) t ≡ true) (below : diskOf c t < c .sizes .disks) (small : Small (c .sizes) (c .logs))
     (room : endOf (c .logs) (diskOf c t) + 2 ≤ startOf (c .logs) (diskOf c t) + ringOf (c .sizes) (diskOf c t))
     (in-limit : endOf (c .logs) (diskOf c t) + 2 ≤ limit)
@@ -131,7 +131,7 @@ module _ {t : ℕ} {home : ℕ → ℕ} {puts : List Put} {c : Core} {w : World}
       (λ q p k h. boundary-logged q p k F' (B1 g e may) e h) (closing .logs) (put-longer g e may .start-same)
       (open-used (g .safe) t opened .1) (found-more F' (B1 g e may) e) (words-for-other F' (B1 g e may) e)
 
-  pub closed : Served (puts ++ record { disk = diskOf c t; content = close abortKind t } ∷ []) (withLog c (closing .logs) (without (c .table) t)) (perform (closing .actions) w) (withSets r (removed t (r .writeSets)))
+  pub closed : Served (also puts (record { disk = diskOf c t; content = close abortKind t } ∷ [])) (withLog c (closing .logs) (without (c .table) t)) (perform (closing .actions) w) (withSets r (removed t (r .writeSets)))
   unfolding withLog recordOf isClose
   closed =
       record {
@@ -148,7 +148,9 @@ module _ {t : ℕ} {home : ℕ → ℕ} {puts : List Put} {c : Core} {w : World}
               owners =
                   owners-closed (g .accounts .tabled) t opened (g .safe .devices .bounds) (g .owners) (owners-same buffer) (closing .logs)
                   reference refl;
-              told = put-told g e may (record { disk = d; content = close abortKind t }) refl refl;
+              told = λ k h.
+                  since-still refl (λ u y l. was-open (c .table) (g .accounts .tabled) t opened u (y l) .0)
+                  (put-told g e may (record { disk = d; content = close abortKind t }) refl refl k h);
             };
       }
 

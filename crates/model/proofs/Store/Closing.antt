@@ -17,7 +17,7 @@ use Rattle.model.specs.Memory.{bufferAt, copyAt, copyOf}
 use Rattle.model.specs.State.{limit, startOf, endOf, flushed, withLog, without, isOpen}
 use Rattle.model.specs.Append.{Appended, append, flush}
 use Rattle.model.specs.Reference.{Reference, writesOf, removed, applied, wordsIn}
-use Rattle.model.specs.History.{Put}
+use Rattle.model.specs.History.{Told, also}
 use Rattle.model.proofs.Lengths.{Lengths, lengths-right}
 use Rattle.model.proofs.Run.{SameLengths, same-lengths-trans, perform-lengths, run-lengths}
 use Rattle.model.proofs.Flush.{OnlyLogs}
@@ -39,7 +39,8 @@ use Rattle.model.proofs.Store.View.{Kept, view, Devices, Safe, Accounts
 use Rattle.model.proofs.Store.Flush.{devices-kept, left}
 use Rattle.model.proofs.Store.Logged.{longer, in-buffer, link-logged, ordered-logged, logged-stores, MayLog}
 use Rattle.model.proofs.Store.Linked.{kept-linked}
-use Rattle.model.proofs.Store.Closed.{all-writes, sets-closed, owners-closed, accounts-closed, committedLog, lists, moved, closed, bounds, found, words, told}
+use Rattle.model.proofs.Store.OneMore.{since-still}
+use Rattle.model.proofs.Store.Closed.{all-writes, sets-closed, owners-closed, accounts-closed, committedLog, lists, moved, closed, bounds, found, words, told, was-open}
 use Rattle.model.proofs.Growth.{start-flushed, ends-flushed, Longer}
 use Rattle.model.proofs.Booleans.{true-false}
 
@@ -49,7 +50,7 @@ committedReference r n =
     record { sizes = r .sizes; committed = applied (r .sizes) (writesOf n (r .writeSets)) (r .committed); writeSets = removed n (r .writeSets) }
 
 -- The closing record e of an open transaction, appended where the buffer has room, and its disk flushed.
-module _ {home : ℕ → ℕ} {puts : List Put} {c : Core} {w : World} {r : Reference} {F B : List Entry} (g : Serving 0 home puts c w r F B) (e : Entry)
+module _ {home : ℕ → ℕ} {puts : Told} {c : Core} {w : World} {r : Reference} {F B : List Entry} (g : Serving 0 home puts c w r F B) (e : Entry)
     (opened : isOpen (c .table) (e .number) ≡ true) (closes : isClose e ≡ true) (may : MayLog home c F B e) where
   abbrev added : Appended
   added = append (c .sizes) (c .logs) (w .work) (e .disk) (encode (recordOf e))
@@ -215,7 +216,7 @@ module _ {home : ℕ → ℕ} {puts : List Put} {c : Core} {w : World} {r : Refe
       }
 
   -- whole, the transaction is committed
-  pub closing-serves : Serving 0 home (puts ++ record { disk = e .disk; content = recordOf e } ∷ []) doneCore doneWorld doneReference gone rest
+  pub closing-serves : Serving 0 home (also puts (record { disk = e .disk; content = recordOf e } ∷ [])) doneCore doneWorld doneReference gone rest
   unfolding withLog
   closing-serves =
       record {
@@ -227,5 +228,5 @@ module _ {home : ℕ → ℕ} {puts : List Put} {c : Core} {w : World} {r : Refe
         owners =
             owners-closed (g .accounts .tabled) (e .number) opened (g .safe .devices .bounds) (g .owners) owner-same
             (flushed (added .logs) (e .disk)) doneReference refl;
-        told = λ d h. told F B e puts d (g .told d h);
+        told = λ d h. since-still (start-same d) (λ t y l. was-open (c .table) (g .accounts .tabled) (e .number) opened t (y l) .0) (told F B e (puts .puts) d (g .told d h));
       }

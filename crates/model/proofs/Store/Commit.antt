@@ -17,11 +17,11 @@ use Rattle.model.specs.Append.{Appended, append, flush}
 use Rattle.model.specs.Transaction.{diskOf, commitRows, commitTask}
 use Rattle.model.specs.Call.{commit}
 use Rattle.model.specs.Reference.{Reference, afterTaken}
-use Rattle.model.specs.History.{Put, putBy}
+use Rattle.model.specs.History.{Told, also, putBy}
 use Rattle.model.proofs.Run.{perform-append, stores-append, run-append, run-cut}
 use Rattle.model.proofs.Ledger.Entry.{Entry, recordOf, isClose}
 use Rattle.model.proofs.Ledger.Order.{sizeOf}
-use Rattle.model.proofs.Store.View.{Kept, Served, view, open-used}
+use Rattle.model.proofs.Store.View.{Kept, Served, view, open-used, runAt}
 use Rattle.model.proofs.Store.Rows.{serving-sound}
 use Rattle.model.proofs.Store.Ready.{Ready, ready}
 use Rattle.model.proofs.Store.Closing.{committedReference, closing-append, closing-cut, closing-serves}
@@ -52,7 +52,7 @@ allowed c w n ok =
       in-limit = room .1;
     }
 
-module _ {puts : List Put} {c : Core} {w : World} {r : Reference} (g : Served puts c w r) (n : ℕ) (a : Allowed c n) where
+module _ {puts : Told} {c : Core} {w : World} {r : Reference} (g : Served puts c w r) (n : ℕ) (a : Allowed c n) where
   start : Ready 0 (g .home) puts c w r (diskOf c n) 2
   start = ready (g .serving) (diskOf c n) 2 (a .below) (a .small) (omega arith)
 
@@ -110,7 +110,7 @@ module _ {puts : List Put} {c : Core} {w : World} {r : Reference} (g : Served pu
         in-limit = omega (arith, start .ends, a .in-limit, size);
       }
 
-  serves : Served (puts ++ record { disk = diskOf c n; content = close commitKind n } ∷ []) (withLog c (flushed (added .logs) (diskOf c n)) (without (c .table) n))
+  serves : Served (also puts (record { disk = diskOf c n; content = close commitKind n } ∷ [])) (withLog c (flushed (added .logs) (diskOf c n)) (without (c .table) n))
       (perform flushing (perform (added .actions) world)) (committedReference r n)
   unfolding withLog diskOf recordOf isClose
   serves =
@@ -146,17 +146,17 @@ module _ {puts : List Put} {c : Core} {w : World} {r : Reference} (g : Served pu
           (cut (k - stores (start .flushing) - stores (added .actions)) (omega (arith, no-stores)))
 
 -- An accepted commit keeps the store open, and commits the transaction.
-pub commit-serves : {puts : List Put} {c : Core} {w : World} {r : Reference} → Served puts c w r → (number budget n : ℕ)
+pub commit-serves : {puts : Told} {c : Core} {w : World} {r : Reference} → Served puts c w r → (number budget n : ℕ)
     → verdict (commitRows c w number) ≡ accepted
-    → Served (puts ++ putBy (commit number budget) c w) (commitTask c w number .core) (perform (commitTask c w number .actions) w) (afterTaken (commit number budget) n r)
+    → Served (also puts (putBy (commit number budget) (runAt c w r) puts)) (commitTask c w number .core) (perform (commitTask c w number .actions) w) (afterTaken (commit number budget) n r)
 commit-serves {c} {w} g number budget n v =
     let a = allowed c w number v in
     rw (task g number a, perform-append, perform-append) (serves g number a)
 
 -- Cut, it leaves what was committed before it.
-pub commit-cut : {puts : List Put} {c : Core} {w : World} {r : Reference} → Served puts c w r → (number budget : ℕ)
+pub commit-cut : {puts : Told} {c : Core} {w : World} {r : Reference} → Served puts c w r → (number budget : ℕ)
     → verdict (commitRows c w number) ≡ accepted → finishes budget (commitTask c w number .actions) ≡ false
-    → Kept (puts ++ putBy (commit number budget) c w) (run budget (commitTask c w number .actions) w) r
+    → Kept (also puts (putBy (commit number budget) (runAt c w r) puts)) (run budget (commitTask c w number .actions) w) r
 unfolding finishes
 commit-cut {puts} {c} {w} g number budget v f =
     let a = allowed c w number v in

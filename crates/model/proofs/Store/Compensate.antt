@@ -20,7 +20,7 @@ use Rattle.model.specs.Transaction.{diskOf}
 use Rattle.model.specs.Abort.{xorIn, compensate}
 use Rattle.model.specs.Image.{xorAt}
 use Rattle.model.specs.Reference.{Reference}
-use Rattle.model.specs.History.{Put, compensation}
+use Rattle.model.specs.History.{Told, also, compensation}
 use Rattle.model.proofs.Run.{perform-append, stores-written}
 use Rattle.model.proofs.Lengths.{lengths-right}
 use Rattle.model.proofs.Geometry.{pageOf, slotStart, slot-start, slot-in, slot-end-total}
@@ -43,7 +43,7 @@ use Rattle.model.proofs.Store.Compensation.{MayCompensate, compensation
 
 -- What some compensations leave: the log of disk d has n words more, and the transaction's entries add `more` besides;
 -- `after` is what is then told of the logs.
-pub record Compensated (t : ℕ) (home : ℕ → ℕ) (after : List Put) (c : Core) (w : World) (r : Reference) (F B : List Entry) (d n : ℕ) (more : ℕ → ℕ) (done : Appended) : Type 0 where
+pub record Compensated (t : ℕ) (home : ℕ → ℕ) (after : Told) (c : Core) (w : World) (r : Reference) (F B : List Entry) (d n : ℕ) (more : ℕ → ℕ) (done : Appended) : Type 0 where
   pub flushed : List Entry
   pub buffered : List Entry
   pub serving : Serving t home after (withLog c (done .logs) (c .table)) (perform (done .actions) w) r flushed buffered
@@ -55,7 +55,7 @@ pub record Compensated (t : ℕ) (home : ℕ → ℕ) (after : List Put) (c : Co
   pub cut : (k : ℕ) → k < stores (done .actions) → Kept after (run k (done .actions) w) r
 
 -- One update u of transaction t taken back, with room for its record.
-module _ {t : ℕ} {home : ℕ → ℕ} {puts : List Put} {c : Core} {w : World} {r : Reference} {F B : List Entry} (g : Serving t home puts c w r F B)
+module _ {t : ℕ} {home : ℕ → ℕ} {puts : Told} {c : Core} {w : World} {r : Reference} {F B : List Entry} (g : Serving t home puts c w r F B)
     (u : Update) (ok : MayCompensate c t u) where
   abbrev s : Sizes
   s = c .sizes
@@ -144,8 +144,8 @@ module _ {t : ℕ} {home : ℕ → ℕ} {puts : List Put} {c : Core} {w : World}
       }
 
   -- what is told of the logs, with its record
-  abbrev told : List Put
-  told = puts ++ record { disk = diskOf c t; content = compensation c w t u } ∷ []
+  abbrev told : Told
+  told = also puts (record { disk = diskOf c t; content = compensation c w t u } ∷ [])
 
   serving : Serving t home told (withLog c (added .logs) (c .table)) w2 r F' B'
   unfolding withLog
@@ -183,7 +183,7 @@ module _ {t : ℕ} {home : ℕ → ℕ} {puts : List Put} {c : Core} {w : World}
   unfolding adds isClose
   sums i = put-sums g e may (λ q. mask (eqb (q .number) t) (adds i q)) ∙ rw (eq-eqb t t refl)
 
-  pub compensated : Compensated t home (puts ++ record { disk = diskOf c t; content = compensation c w t u } ∷ []) c w r F B d (3 + length (u .diff)) (share at (u .diff)) (compensate s (c .logs) w t d u)
+  pub compensated : Compensated t home (also puts (record { disk = diskOf c t; content = compensation c w t u } ∷ [])) c w r F B d (3 + length (u .diff)) (share at (u .diff)) (compensate s (c .logs) w t d u)
   compensated =
       rw is-put
       (record {

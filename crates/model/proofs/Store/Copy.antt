@@ -18,7 +18,7 @@ use Rattle.model.specs.Refusal.{accepted, verdict}
 use Rattle.model.specs.Causes.{whenOpen, tailOn}
 use Rattle.model.specs.Checkpoint.{checkpointBeginRows, checkpointBeginTask, lowestToCopy, checkpointStepRows, copyPage, checkpointStepTask}
 use Rattle.model.specs.Reference.{Reference}
-use Rattle.model.specs.History.{Put}
+use Rattle.model.specs.History.{Told}
 use Rattle.model.proofs.Geometry.{pageOf, page-of, page-in, slotStart, slot-in}
 use Rattle.model.proofs.Ledger.Entry.{Entry, All, spanning}
 use Rattle.model.proofs.Ledger.State.{Same, copied}
@@ -41,7 +41,7 @@ use Rattle.model.proofs.PerDisk.{getD-per-disk}
 
 -- ---- checkpoint begin
 
-module _ {home : ℕ → ℕ} {puts : List Put} {c : Core} {w : World} {r : Reference} {F B : List Entry}
+module _ {home : ℕ → ℕ} {puts : Told} {c : Core} {w : World} {r : Reference} {F B : List Entry}
     (ok : verdict (checkpointBeginRows c w) ≡ accepted) (v : Serving 0 home puts c w r F B) where
   opened : whenOpen (c .stage) ≡ true
   unfolding checkpointBeginRows
@@ -82,7 +82,7 @@ module _ {home : ℕ → ℕ} {puts : List Put} {c : Core} {w : World} {r : Refe
         told = v .told;
       }
 
-pub checkpoint-begin-serves : {puts : List Put} {c : Core} {w : World} {r : Reference} → Served puts c w r → verdict (checkpointBeginRows c w) ≡ accepted
+pub checkpoint-begin-serves : {puts : Told} {c : Core} {w : World} {r : Reference} → Served puts c w r → verdict (checkpointBeginRows c w) ≡ accepted
     → Served puts (checkpointBeginTask c w .core) w r
 checkpoint-begin-serves s ok =
     record { home = s .home; flushed = s .flushed; buffered = s .buffered; serving = begin-serving ok (s .serving) }
@@ -96,7 +96,7 @@ ltb-other q k ne = go (ltb q k) refl
     go true e = sym (lt-ltb q (k + 1) (omega (arith, ltb-true q k e)))
     go false e = sym (le-ltb q (k + 1) (omega (arith, ltb-false q k e)))
 
-module _ {home : ℕ → ℕ} {puts : List Put} {c : Core} {w : World} {r : Reference} {F B : List Entry}
+module _ {home : ℕ → ℕ} {puts : Told} {c : Core} {w : World} {r : Reference} {F B : List Entry}
     (ok : verdict (checkpointStepRows c w) ≡ accepted) (v : Serving 0 home puts c w r F B) where
   abbrev u : World
   u = after ok (v .safe .devices)
@@ -212,7 +212,7 @@ module _ {home : ℕ → ℕ} {puts : List Put} {c : Core} {w : World} {r : Refe
         told = v .told;
       }
 
-pub checkpoint-step-serves : {puts : List Put} {c : Core} {w : World} {r : Reference} → Served puts c w r → verdict (checkpointStepRows c w) ≡ accepted
+pub checkpoint-step-serves : {puts : Told} {c : Core} {w : World} {r : Reference} → Served puts c w r → verdict (checkpointStepRows c w) ≡ accepted
     → Served puts (checkpointStepTask c w .core) (perform (checkpointStepTask c w .actions) w) r
 checkpoint-step-serves s ok =
     rw (stepped ok (s .serving .safe .devices))
@@ -226,7 +226,7 @@ step-aside {c} {w} v ok =
     (write work (copyAt (c .sizes) (lowestToCopy c)) (c .epoch + 1) ∷ [])
     (aside-backup (c .sizes) (c .epoch) (at ok v) (words ok v) (omega arith) (omega (arith, size-words ok v, fits ok v))) (tt, tt)
 
-pub checkpoint-step-cut : {puts : List Put} {c : Core} {w : World} {r : Reference} (budget : ℕ) → Served puts c w r → verdict (checkpointStepRows c w) ≡ accepted → Kept puts w r
+pub checkpoint-step-cut : {puts : Told} {c : Core} {w : World} {r : Reference} (budget : ℕ) → Served puts c w r → verdict (checkpointStepRows c w) ≡ accepted → Kept puts w r
     → finishes budget (checkpointStepTask c w .actions) ≡ false → Kept puts (run budget (checkpointStepTask c w .actions) w) r
 checkpoint-step-cut {c = c} {w = w} budget s ok k cut =
     let v : Devices c w = s .serving .safe .devices in

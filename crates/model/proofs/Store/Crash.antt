@@ -3,24 +3,25 @@ use mathlib.Core.Path.{_≡_, refl, sym, ap, ap₂, subst, _∙_}
 use mathlib.Core.List.{List, [], _∷_, _++_, map, map-append}
 use Prim.Native.Nat.{ℕ, _+_, _≤_, _<_}
 use native.Mathlib.Omega.{arith}
-use lib.ListN.{length, getD}
+use lib.ListN.{length, getD, length-append}
 use lib.Seq.{ext-getD}
 use Rattle.model.specs.declared.Sizes.{Sizes}
 use Rattle.model.specs.declared.Core.{Core}
 use Rattle.model.specs.Word.{_⊕_}
 use Rattle.model.specs.Sizes.{total, ringOf}
-use Rattle.model.specs.Anchor.{startOn, backupAt}
-use Rattle.model.specs.Record.{Record}
+use Rattle.model.specs.Anchor.{sizesOn, startOn, backupAt}
+use Rattle.model.specs.Record.{Record, encodeAll}
 use Rattle.model.specs.World.{World}
 use Rattle.model.specs.Scan.{end}
 use Rattle.model.specs.State.{limit, startOf, tailOf, endOf}
-use Rattle.model.specs.Image.{imageOf, retainedWords, logOf, restarted}
+use Rattle.model.specs.Causes.{tailOn, retained as retainedScan}
+use Rattle.model.specs.Image.{Image, imageOf, retainedWords, logOf, restarted}
 use Rattle.model.specs.Reference.{Reference, wordsIn}
-use Rattle.model.specs.History.{Put, recordsOn}
+use Rattle.model.specs.History.{Told}
 use Rattle.model.specs.Promise.{Stored}
-use Rattle.model.proofs.Below.{getD-list}
 use Rattle.model.proofs.Bounds.{in-bounds}
 use Rattle.model.proofs.Reading.{ending}
+use Rattle.model.proofs.RoundTrip.{encode-append}
 use Rattle.model.proofs.Slots.{words-length}
 use Rattle.model.proofs.Ledger.Entry.{Entry, recordOf, adds, All, closedIn, chosen, mask, sum}
 use Rattle.model.proofs.Ledger.Order.{on, wordsOf, entriesScan}
@@ -34,7 +35,7 @@ use Rattle.model.proofs.Restart.Words.{xor-below-cong}
 use Rattle.model.proofs.Restart.Gain.{gain, gains, restarted-word, length-restarted}
 use Rattle.model.proofs.Restart.Image.{length-backup}
 use Rattle.model.proofs.Restart.Entries.{gain-entries, sum-by-disk}
-use Rattle.model.proofs.Store.View.{Kept, Restartable, view, Safe, Since, flushed-laid}
+use Rattle.model.proofs.Store.View.{Kept, Restartable, view, Safe, SinceOn, flushed-laid}
 use Rattle.model.proofs.Parts.{getD-part}
 
 -- entries are read to their end
@@ -43,18 +44,37 @@ unfolding entriesScan ending
 entries-end [] = refl
 entries-end (r ∷ l) = entries-end l
 
+-- where a restart sees the same of a disk, it holds the same of what was put
+unfoldable pub stored-same : {v w : World} {puts : Told} {d : ℕ} → sizesOn (v .anchor) ≡ sizesOn (w .anchor) → startOn (v .anchor) d ≡ startOn (w .anchor) d
+    → tailOn (sizesOn (w .anchor)) v d ≡ tailOn (sizesOn (w .anchor)) w d
+    → retainedWords (sizesOn (w .anchor)) v d ≡ retainedWords (sizesOn (w .anchor)) w d
+    → retainedScan (sizesOn (w .anchor)) v d ≡ retainedScan (sizesOn (w .anchor)) w d
+    → imageOf v ≡ imageOf w → Stored puts w d → Stored puts v d
+stored-same {d = d} sizes start tail words scan image k =
+    record {
+      old = k .old;
+      kept = k .kept;
+      rest = k .rest;
+      parts = k .parts;
+      start = start ∙ k .start;
+      tail = rw sizes (tail ∙ k .tail);
+      words = rw sizes (words ∙ k .words);
+      finds = rw (sizes, start) (scan ∙ k .finds);
+      reads = rw start (ap (λ (i : Image). logOf i d) image ∙ k .reads);
+    }
+
 module _ {x : ℕ} {home : ℕ → ℕ} {c : Core} {w : World} {r : Reference} {F B : List Entry} (g : Safe x home c w r F B) where
   abbrev s : Sizes
   s = c .sizes
 
-  fit : All (Fit s) F
+  pub fit : All (Fit s) F
   fit = all-left (Fit s) F B (g .fit)
 
   -- what a restart chooses of an entry, at word i
   part-of : ℕ → Entry → ℕ
   part-of i e = mask (chosen (closedIn F) (c .epoch) e) (adds i e)
 
-  log : (d : ℕ) → d < s .disks → logOf (imageOf w) d ≡ entriesScan (on d F)
+  pub log : (d : ℕ) → d < s .disks → logOf (imageOf w) d ≡ entriesScan (on d F)
   log d h =
       image-log (g .link) d h (g .devices .sizes) (g .devices .starts d h) fit (flushed-laid g d h)
 
@@ -115,21 +135,26 @@ module _ {x : ℕ} {home : ℕ → ℕ} {c : Core} {w : World} {r : Reference} {
       }
 
   -- the logs of the image are the flushed entries; what is buffered would be lost
-  stored : (d : ℕ) → d < s .disks → (puts : List Record) → Since puts (on d F ++ on d B) → Stored (imageOf w) d puts
-  unfolding imageOf wordsOf
+  unfoldable pub stored : (d : ℕ) → d < s .disks → (puts : Told) → SinceOn puts c d (on d F ++ on d B) → Stored puts w d
+  unfolding wordsOf
   stored d h puts told =
-      let start = getD-list (startOn (w .anchor)) (s .disks) d 0 h ∙ g .devices .starts d h in
+      let start = g .devices .starts d h in
+      let laid = sym (placed-entries (startOf (c .logs) d) (on d F) (flushed-laid g d h)) in
+      let long = ap length (encode-append (told .old) (map recordOf (on d F))) ∙ length-append (encodeAll (told .old)) (encodeAll (map recordOf (on d F))) in
       record {
         old = told .old;
         kept = map recordOf (on d F);
-        lost = map recordOf (on d B);
+        rest = map recordOf (on d B);
         parts = told .all ∙ ap (λ (l : List Record). told .old ++ l) (map-append recordOf (on d F) (on d B));
-        words = rw (g .devices .sizes) (getD-list (retainedWords s w) (s .disks) d [] h ∙ retained (g .link) d h (g .devices .starts d h));
-        reads = log d h ∙ rw (g .devices .sizes, start) (sym (placed-entries (startOf (c .logs) d) (on d F) (flushed-laid g d h)));
+        start = start ∙ told .from;
+        tail = rw (g .devices .sizes) (g .link .stored d h ∙ g .link .tail d h ∙ omega (arith, told .from, long));
+        words = rw (g .devices .sizes) (retained (g .link) d h start);
+        finds = rw (g .devices .sizes, start) (retained-scan (g .link) d h start fit (flushed-laid g d h) ∙ laid);
+        reads = rw start (log d h ∙ laid);
       }
 
   -- a restart from this moment on gives what is committed
-  pub kept : (puts : List Put) → ((d : ℕ) → d < s .disks → Since (recordsOn d puts) (on d F ++ on d B)) → Kept puts w r
+  pub kept : (puts : Told) → ((d : ℕ) → d < s .disks → SinceOn puts c d (on d F ++ on d B)) → Kept puts w r
   kept puts told =
       record {
         sizes = g .devices .sizes ∙ sym (g .sizes);
@@ -137,6 +162,6 @@ module _ {x : ℕ} {home : ℕ → ℕ} {c : Core} {w : World} {r : Reference} {
         image =
             ext-getD 0 _ _ (length-restarted (imageOf w) backup-long ∙ ap total image-sizes ∙ sym (words-length s (r .committed) (g .shaped)))
             (λ i h. word i (subst (λ (n : ℕ). i < n) (length-restarted (imageOf w) backup-long ∙ ap total image-sizes) h));
-        logs = λ d h. stored d (rw image-sizes at h) (recordsOn d puts) (told d (rw image-sizes at h));
+        logs = λ d h. let k = rw (g .devices .sizes) at h in stored d k puts (told d k);
         sound = restartable;
       }

@@ -22,7 +22,7 @@ use Rattle.model.specs.Refusal.{accepted, verdict}
 use Rattle.model.specs.Causes.{whenReplaying, anchorWrong, lengthsWrong, tailOn}
 use Rattle.model.specs.Format.{freshMemory, freshWork}
 use Rattle.model.specs.Restart.{restartEndRows, restartEndTask}
-use Rattle.model.specs.History.{Put}
+use Rattle.model.specs.History.{Told}
 use Rattle.model.specs.Reference.{Reference, wordsIn}
 use Rattle.model.proofs.Below.{all-each}
 use Rattle.model.proofs.Run.{perform-append, perform-backups, perform-work, stores-append, stores-stored}
@@ -196,11 +196,11 @@ module _ (c : Core) (w : World) (r : Reference) (m : AtEnd c w r) (found : EndFo
 
 -- A restart end that is taken leaves an open store with the committed contents.
 pub restart-end-serves : {c : Core} {w : World} {r : Reference} → AtEnd c w r → verdict (restartEndRows c w) ≡ accepted
-    → Served [] (restartEndTask c w .core) (perform (restartEndTask c w .actions) w) r
-unfolding restartEndTask
+    → Served (record { base = tailOn (c .sizes) w; puts = [] }) (restartEndTask c w .core) (perform (restartEndTask c w .actions) w) r
+unfolding restartEndTask tailOf
 restart-end-serves {c} {w} {r} m e =
     let found = end-found c w e in
-    rw (end-world c w r m found) (fresh-serving (end-fresh c w r m found))
+    rw (end-world c w r m found) (fresh-serving (end-fresh c w r m found) (tailOn (c .sizes) w) (m .tails))
 
 -- ---- cut: before the last store, c := c + 1, only the other backup and the other row change
 module _ (c : Core) (w : World) (found : EndFound c w) where
@@ -234,7 +234,7 @@ module _ (c : Core) (w : World) (found : EndFound c w) where
       (aside-starts (c .sizes) (c .epoch) (tailOf (c .logs)) (c .sizes .disks) (bounded (c .sizes) (found .bounds) .disks-max))
 
 -- A restart end that is cut leaves what a restart needs: the next restart makes the same pages.
-pub restart-end-cut : (c : Core) (w : World) {puts : List Put} {r : Reference} (budget : ℕ) → Kept puts w r → c .sizes ≡ sizesOn (w .anchor)
+pub restart-end-cut : (c : Core) (w : World) {puts : Told} {r : Reference} (budget : ℕ) → Kept puts w r → c .sizes ≡ sizesOn (w .anchor)
     → c .epoch ≡ epochOn (w .anchor) → verdict (restartEndRows c w) ≡ accepted
     → finishes budget (restartEndTask c w .actions) ≡ false → Kept puts (run budget (restartEndTask c w .actions) w) r
 restart-end-cut c w budget k sizes epoch e f =

@@ -16,7 +16,7 @@ use Rattle.model.specs.Anchor.{sizesOn, epochOn, startOn}
 use Rattle.model.specs.Append.{flush}
 use Rattle.model.specs.Transaction.{diskOf}
 use Rattle.model.specs.Reference.{Reference}
-use Rattle.model.specs.History.{Put}
+use Rattle.model.specs.History.{Told, also}
 use Rattle.model.proofs.Lengths.{Lengths, lengths-right}
 use Rattle.model.proofs.Run.{SameLengths, perform-lengths, run-lengths}
 use Rattle.model.proofs.Flush.{OnlyLogs}
@@ -155,7 +155,7 @@ module _ {x : ℕ} {home : ℕ → ℕ} {c : Core} {w : World} {r : Reference} {
         }
 
 -- the table, the copy numbers and the write sets do not see where an entry of the log lies
-module _ {x : ℕ} {home : ℕ → ℕ} {puts : List Put} {c : Core} {w : World} {r : Reference} {F B : List Entry} (g : Serving x home puts c w r F B)
+module _ {x : ℕ} {home : ℕ → ℕ} {puts : Told} {c : Core} {w : World} {r : Reference} {F B : List Entry} (g : Serving x home puts c w r F B)
     (d : ℕ) (below : d < c .sizes .disks) where
   moved : (P : Entry → Type 0) → All P (F ++ B) → All P ((F ++ on d B) ++ left d B)
   unfolding on
@@ -188,7 +188,7 @@ module _ {x : ℕ} {home : ℕ → ℕ} {puts : List Put} {c : Core} {w : World}
       }
 
   pub flush-serving : Serving x home puts (flushedCore c d) (flushedWorld (g .safe) d below) r (F ++ on d B) (left d B)
-  unfolding withLog
+  unfolding withLog flushed startOf
   flush-serving =
       record {
         stage = g .stage;

@@ -13,7 +13,7 @@ use Rattle.model.specs.World.{World, Action, perform, run, stores}
 use Rattle.model.specs.State.{tailOf, fillOf, endOf, flushed, withLog}
 use Rattle.model.specs.Append.{flush}
 use Rattle.model.specs.Reference.{Reference}
-use Rattle.model.specs.History.{Put}
+use Rattle.model.specs.History.{Told}
 use Rattle.model.proofs.Below.{below-suc}
 use Rattle.model.proofs.Run.{perform-append, stores-append, run-append, run-cut}
 use Rattle.model.proofs.Ledger.Entry.{Entry, All, pick, onDisk}
@@ -42,7 +42,7 @@ abbrev pub flushes : Core → World → ℕ → List Action
 flushes c w n = joinBelow (flush (c .sizes) (c .logs) (w .work)) n
 
 -- The store with the disks below n flushed.
-pub record Emptied (x : ℕ) (home : ℕ → ℕ) (puts : List Put) (c : Core) (w : World) (r : Reference) (n : ℕ) : Type 0 where
+pub record Emptied (x : ℕ) (home : ℕ → ℕ) (puts : Told) (c : Core) (w : World) (r : Reference) (n : ℕ) : Type 0 where
   pub logs : Logs
   pub flushed : List Entry
   pub buffered : List Entry
@@ -55,13 +55,13 @@ pub record Emptied (x : ℕ) (home : ℕ → ℕ) (puts : List Put) (c : Core) (
   pub cut : (k : ℕ) → k < stores (flushes c w n) → Kept puts (run k (flushes c w n) w) r
 
 -- with all disks flushed nothing is buffered
-pub none-buffered : {x : ℕ} {home : ℕ → ℕ} {puts : List Put} {c : Core} {w : World} {r : Reference} (e : Emptied x home puts c w r (c .sizes .disks))
+pub none-buffered : {x : ℕ} {home : ℕ → ℕ} {puts : Told} {c : Core} {w : World} {r : Reference} (e : Emptied x home puts c w r (c .sizes .disks))
     → e .buffered ≡ []
 unfolding withLog
 none-buffered {c = c} e =
     none-left (c .sizes .disks) (e .buffered) (all-right _ (e .flushed) (e .buffered) (e .serving .safe .ordered .inside)) (e .none)
 
-module _ {x : ℕ} {home : ℕ → ℕ} {puts : List Put} {c : Core} {w : World} {r : Reference} {F B : List Entry}
+module _ {x : ℕ} {home : ℕ → ℕ} {puts : Told} {c : Core} {w : World} {r : Reference} {F B : List Entry}
     (g : Serving x home puts c w r F B) where
   start : Emptied x home puts c w r 0
   unfolding withLog joinBelow perform stores

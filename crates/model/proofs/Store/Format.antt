@@ -18,6 +18,7 @@ use Rattle.model.specs.Memory.{copyAt, lengthsRight}
 use Rattle.model.specs.Refusal.{accepted, verdict}
 use Rattle.model.specs.Causes.{anchorWrong, sizesWrong, lengthsWrong, tailOn}
 use Rattle.model.specs.Format.{formatRows, formatStores, freshMemory, freshWork, formatTask}
+use Rattle.model.specs.History.{nothingTold}
 use Rattle.model.specs.Reference.{blank}
 use Rattle.model.proofs.Run.{perform-append, perform-anchor, perform-backups, perform-pages, perform-work}
 use Rattle.model.proofs.Bounds.{Bounded, bounded}
@@ -158,10 +159,11 @@ format-rows c w s e =
 
 -- A format that is taken leaves an open store with the blank reference.
 pub format-serves : (c : Core) (w : World) (s : Sizes) → verdict (formatRows c w s) ≡ accepted
-    → Served [] (formatTask s .core) (perform (formatTask s .actions) w) (blank s)
-unfolding formatTask
+    → Served nothingTold (formatTask s .core) (perform (formatTask s .actions) w) (blank s)
+unfolding formatTask nothingTold
 format-serves c w s v =
     let rows = format-rows c w s v in
     let right = lengths-right s w (rows .2) in
     rw (format-world s w (bounded s (rows .1)) (rows .0) right)
-    (fresh-serving (format-fresh s w (bounded s (rows .1)) (rows .0) right))
+    (fresh-serving (format-fresh s w (bounded s (rows .1)) (rows .0) right) (λ d. 0)
+    (λ d h. getD-replicate 8 d 0 0 (omega (arith, bounded s (rows .1) .disks-max))))

@@ -17,6 +17,8 @@ use Rattle.model.specs.Memory.{ownerAt, ownerOf, bufferOf, copyOf, lengt
 use Rattle.model.specs.State.{limit, places, noTable, emptyLogs, openCore, startOf, tailOf, fillOf, endOf, numberAt, placeOf, isOpen}
 use Rattle.model.specs.Causes.{tailOn}
 use Rattle.model.specs.Reference.{Reference, wordsIn, hasSet}
+use Rattle.model.specs.Record.{encodeAll}
+use Rattle.model.specs.Scan.{placed, updatesIn}
 use Rattle.model.specs.History.{recordsOn}
 use Rattle.model.proofs.Bounds.{Bounded}
 use Rattle.model.proofs.Geometry.{pageOf, slotStart, page-in}
@@ -197,9 +199,10 @@ module _ {s : Sizes} {n : ℕ} {tails : List ℕ} {v : World} {r : Reference} (f
       unowned page slot p q = f .owners _ (slot-lt s (f .bounds) page slot p q)
 
   -- what holds of an open store between two calls holds of a fresh one
-  pub fresh-serving : Served [] (openCore s n tails) v r
-  unfolding openCore recordsOn on pick
-  fresh-serving =
+  pub fresh-serving : (base : ℕ → ℕ) → ((d : ℕ) → d < s .disks → getD tails d 0 ≡ base d)
+      → Served (record { base = base; puts = [] }) (openCore s n tails) v r
+  unfolding openCore startOf recordsOn on pick encodeAll placed updatesIn
+  fresh-serving base there =
       record {
         home = λ t. 0;
         flushed = [];
@@ -212,6 +215,6 @@ module _ {s : Sizes} {n : ℕ} {tails : List ℕ} {v : World} {r : Reference} (f
               copies = fresh-copies;
               sets = fresh-sets;
               owners = fresh-owners;
-              told = λ d h. record { old = []; all = refl };
+              told = λ d h. record { old = []; all = refl; from = omega (arith, there d h); past = λ t y. refl };
             };
       }

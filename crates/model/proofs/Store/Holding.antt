@@ -1,34 +1,46 @@
 -- What holds between any two events, and how a call that is refused, taken or cut keeps it.
 use mathlib.Core.Path.{_≡_, refl}
-use mathlib.Core.List.{List, [], _++_}
+use mathlib.Core.List.{List, []}
 use mathlib.Core.Bool.{true, false, cond}
-use Prim.Native.Nat.{ℕ}
+use Prim.Native.Nat.{ℕ, _<_}
 use Rattle.model.specs.declared.Stage.the-variants.{Shut}
+use Rattle.model.specs.declared.Core.{Core}
+use Rattle.model.specs.Anchor.{sizesOn}
 use Rattle.model.specs.World.{World, perform, run, finishes}
 use Rattle.model.specs.State.{newCore}
 use Rattle.model.specs.Refusal.{Result, Task, verdict, accepted}
 use Rattle.model.specs.Call.{Call, rowsOf, taskOf, budgetOf}
 use Rattle.model.specs.Reference.{Reference, WriteSet, withSets, taken, outcomeOf, isBegin, afterTaken, heard, hear}
-use Rattle.model.specs.Machine.{Machine, call, result, outcome, after, referred}
-use Rattle.model.specs.History.{Put, putBy, toldBy, told}
+use Rattle.model.specs.Machine.{Machine, call, result, outcome, after, referred, Run}
+use Rattle.model.specs.History.{Told, also, putBy, toldBy, told}
+use Rattle.model.specs.Promise.{Stored, Replayed}
 use Rattle.model.proofs.Run.{finished-run}
 use Rattle.model.proofs.Restart.Progress.{Progress}
 use Rattle.model.proofs.Store.View.{Kept, Served}
 use Rattle.model.proofs.Store.Cases.{call-cases}
 
+-- What the log of a disk holds of what was put, and how far the steps of a restart have come in it.
+pub record Going (puts : Told) (c : Core) (w : World) (d : ℕ) : Type 0 where
+  pub stored : Stored puts w d
+  pub replayed : Replayed c w d (stored .kept)
+
 -- A shut store has devices that restart to the committed contents, a replaying one too, and how far it got; an open one serves.
-pub data Holding (puts : List Put) (m : Machine) (r : Reference) : Type 0 where
+pub data Holding (puts : Told) (m : Machine) (r : Reference) : Type 0 where
   shut : m .core .stage ≡ Shut → Kept puts (m .world) r → r .writeSets ≡ [] → Holding puts m r
-  replaying : Progress (m .core) (m .world) → Kept puts (m .world) r → r .writeSets ≡ [] → Holding puts m r
+  replaying : Progress (m .core) (m .world) → Kept puts (m .world) r
+      → ((d : ℕ) → d < sizesOn (m .world .anchor) .disks → Going puts (m .core) (m .world) d) → r .writeSets ≡ [] → Holding puts m r
   serving : Served puts (m .core) (m .world) r → Holding puts m r
 
 -- the committed contents do not hang on the write sets
-pub kept-sets : {puts : List Put} {w : World} {r : Reference} → Kept puts w r → (sets : List WriteSet) → Kept puts w (withSets r sets)
+pub kept-sets : {puts : Told} {w : World} {r : Reference} → Kept puts w r → (sets : List WriteSet) → Kept puts w (withSets r sets)
 kept-sets k sets = record { sizes = k .sizes; shaped = k .shaped; image = k .image; logs = k .logs; sound = k .sound }
 
-module _ (k : Call) (puts : List Put) (m : Machine) (r : Reference) where
+module _ (k : Call) (puts : Told) (m : Machine) (r : Reference) where
   abbrev task : Task
   task = taskOf k (m .core) (m .world)
+
+  abbrev pub x : Run
+  x = record { machine = m; reference = r }
 
   -- the number that the reference hears of when the call is taken
   abbrev pub heardNumber : ℕ
@@ -39,13 +51,13 @@ module _ (k : Call) (puts : List Put) (m : Machine) (r : Reference) where
 
   pub call-keeps : Holding puts m r
       → (verdict (rowsOf k (m .core) (m .world)) ≡ accepted → finishes (budgetOf k) (task .actions) ≡ true
-      → Holding (toldBy taken k (m .core) (m .world) puts) takenMachine (afterTaken k heardNumber r))
+      → Holding (toldBy taken k x puts) takenMachine (afterTaken k heardNumber r))
       → (verdict (rowsOf k (m .core) (m .world)) ≡ accepted → finishes (budgetOf k) (task .actions) ≡ false
-      → Kept (puts ++ putBy k (m .core) (m .world)) (run (budgetOf k) (task .actions) (m .world)) r)
-      → Holding (told m (call k) puts) (after m (call k)) (referred m (call k) r)
+      → Kept (also puts (putBy k x puts)) (run (budgetOf k) (task .actions) (m .world)) r)
+      → Holding (told x (call k) puts) (after m (call k)) (referred m (call k) r)
   unfolding result outcome hear newCore
   call-keeps h done cut =
-      call-cases (λ (x : Result). Holding (toldBy (outcomeOf (x .answer)) k (m .core) (m .world) puts) (record { core = x .core; world = x .world }) (hear (heard k (x .answer)) r))
+      call-cases (λ (y : Result). Holding (toldBy (outcomeOf (y .answer)) k x puts) (record { core = y .core; world = y .world }) (hear (heard k (y .answer)) r))
       k (m .core) (m .world)
       (λ number first second v. h)
       (λ v f. rw (finished-run (budgetOf k) (task .actions) (m .world) f) (done v f))

@@ -17,7 +17,7 @@ use Rattle.model.specs.Refusal.{accepted, verdict}
 use Rattle.model.specs.Transaction.{diskOf}
 use Rattle.model.specs.Abort.{abortScan, updatesLeft, abortRows}
 use Rattle.model.specs.Reference.{Reference}
-use Rattle.model.specs.History.{Put}
+use Rattle.model.specs.History.{Told}
 use Rattle.model.proofs.RoundTrip.{WellFormed}
 use Rattle.model.proofs.Places.{open-place}
 use Rattle.model.proofs.Xor.{⊕-zero-l}
@@ -64,7 +64,7 @@ updates-slotted s t [] h = tt
 updates-slotted s t (q ∷ l) h = update-slotted s t (q .position) (recordOf q) (entriesScan l) (h .0 .formed) (updates-slotted s t l (h .1))
 
 -- The updates that an abort of an open transaction reads.
-module _ {home : ℕ → ℕ} {puts : List Put} {c : Core} {w : World} {r : Reference} {F B : List Entry} (g : Serving 0 home puts c w r F B)
+module _ {home : ℕ → ℕ} {puts : Told} {c : Core} {w : World} {r : Reference} {F B : List Entry} (g : Serving 0 home puts c w r F B)
     (t : ℕ) (opened : isOpen (c .table) t ≡ true) (below : diskOf c t < c .sizes .disks) where
   abbrev s : Sizes
   s = c .sizes

@@ -14,7 +14,7 @@ use Rattle.model.specs.State.{startOf}
 use Rattle.model.specs.Causes.{tailOn, retained as retainedScan}
 use Rattle.model.specs.Image.{imageOf, retainedWords, restarted}
 use Rattle.model.specs.Reference.{Reference}
-use Rattle.model.specs.History.{Put, recordsOn}
+use Rattle.model.specs.History.{Told}
 use Rattle.model.proofs.Run.{SameLengths}
 use Rattle.model.proofs.Reading.{ending}
 use Rattle.model.proofs.Ledger.Entry.{Entry}
@@ -22,8 +22,8 @@ use Rattle.model.proofs.Ledger.Order.{on}
 use Rattle.model.proofs.Ledger.Lists.{all-left}
 use Rattle.model.proofs.Link.Words.{Fit, Link, retained, retained-scan}
 use Rattle.model.proofs.Restart.Image.{image-same}
-use Rattle.model.proofs.Store.View.{Restartable, Kept, Safe, Since, flushed-laid}
-use Rattle.model.proofs.Store.Crash.{kept}
+use Rattle.model.proofs.Store.View.{Restartable, Kept, Safe, SinceOn, flushed-laid}
+use Rattle.model.proofs.Store.Crash.{kept, stored, stored-same}
 use Rattle.model.proofs.Store.Flush.{lengths-same}
 
 -- w is the world of an open store, v another one with its flushed entries, its anchor and its backups.
@@ -73,13 +73,16 @@ module _ {x : ℕ} {home : ℕ → ℕ} {c : Core} {m : Logs} {w v : World} {r :
       }
 
   -- so what one of them keeps, the other keeps
-  pub kept-linked : (puts : List Put) → ((d : ℕ) → d < s .disks → Since (recordsOn d puts) (on d F ++ on d B)) → Kept puts v r
+  pub kept-linked : (puts : Told) → ((d : ℕ) → d < s .disks → SinceOn puts c d (on d F ++ on d B)) → Kept puts v r
   kept-linked puts told =
       let h = kept g puts told in
       record {
         sizes = ap sizesOn anchor ∙ h .sizes;
         shaped = h .shaped;
         image = ap restarted image-linked ∙ h .image;
-        logs = rw image-linked (h .logs);
+        logs = λ d l.
+            let k = rw sizes at l in
+            stored-same (ap sizesOn anchor) (ap (λ (a : List ℕ). startOn a d) anchor) (rw (g .devices .sizes) (tail-linked d k))
+            (rw (g .devices .sizes) (words d k)) (rw (g .devices .sizes) (scan-linked d k)) image-linked (stored g d k puts (told d k));
         sound = restartable-linked (h .sound);
       }

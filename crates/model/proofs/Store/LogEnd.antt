@@ -13,7 +13,7 @@ use Rattle.model.specs.Memory.{copyOf}
 use Rattle.model.specs.State.{startOf, endOf}
 use Rattle.model.specs.Causes.{whenOpen}
 use Rattle.model.specs.Reference.{Reference}
-use Rattle.model.specs.History.{Put}
+use Rattle.model.specs.History.{Told}
 use Rattle.model.proofs.Ledger.Entry.{Entry}
 use Rattle.model.proofs.Ledger.Order.{sizeOf, wordsOf, on, boundary}
 use Rattle.model.proofs.Ledger.Lists.{length-words}
@@ -32,7 +32,7 @@ boundary-to q p (r ∷ l) h = go (eqb q p) refl h (boundary-to q (p + sizeOf r) 
     go false e x ih = omega (arith, ih x, length-words r l)
 
 -- An entry at the end of its disk's log, with the copy number of its page.
-module _ {x : ℕ} {home : ℕ → ℕ} {puts : List Put} {c : Core} {w : World} {r : Reference} {F B : List Entry} (g : Serving x home puts c w r F B)
+module _ {x : ℕ} {home : ℕ → ℕ} {puts : Told} {c : Core} {w : World} {r : Reference} {F B : List Entry} (g : Serving x home puts c w r F B)
     (e : Entry) (page : ℕ) (page-lt : page < c .sizes .pages) (copy : e .copy ≡ copyOf (c .sizes) (w .work) page) where
   page-copy : e .copy ≡ cond (ltb page (c .checkpoint .copied)) (c .epoch + 1) (c .epoch)
   page-copy = copy ∙ g .copies .pages page page-lt

@@ -21,7 +21,7 @@ use Rattle.model.specs.Transaction.{readRows, readWords, slotWords}
 use Rattle.model.specs.Reference.{Reference, Write, WriteSet, writesOf, plainTable, writesSlot, writtenByOther, slotIndex, wordsIn, hasSet}
 use Rattle.model.specs.Call.{read}
 use Rattle.model.specs.Machine.{Machine, outcome, result}
-use Rattle.model.specs.History.{Put}
+use Rattle.model.specs.History.{Told}
 use Rattle.model.specs.Promise.{PlainTable}
 use Rattle.model.proofs.Geometry.{slotStart, slot-start}
 use Rattle.model.proofs.Lengths.{lengths-right}
@@ -45,7 +45,7 @@ read-slot c w reader page slot v =
     let r8 = or-none (leb (c .sizes .pages) page) (leb (slotsIn (c .sizes) page) slot) (row-passed _ _ r5 .0) in
     (leb-false _ _ (r8 .0), leb-false _ _ (r8 .1))
 
-module _ {home : ℕ → ℕ} {puts : List Put} {c : Core} {w : World} {r : Reference} {F B : List Entry} (g : Serving 0 home puts c w r F B) where
+module _ {home : ℕ → ℕ} {puts : Told} {c : Core} {w : World} {r : Reference} {F B : List Entry} (g : Serving 0 home puts c w r F B) where
   abbrev s : Sizes
   s = c .sizes
 
@@ -159,7 +159,7 @@ module _ {home : ℕ → ℕ} {puts : List Put} {c : Core} {w : World} {r : Refe
                 rw (sym (ap (isOpen (c .table)) same) ∙ open-set (x .number) (k .1), ne-eqb holder number (λ e. ne (same ∙ e)))
 
 -- the promise of specs/Promise.antt
-pub plain : {puts : List Put} (m : Machine) (r : Reference) → Served puts (m .core) (m .world) r → PlainTable m r
+pub plain : {puts : Told} (m : Machine) (r : Reference) → Served puts (m .core) (m .world) r → PlainTable m r
 unfolding outcome result
 plain m r g =
     record {

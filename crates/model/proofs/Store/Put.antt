@@ -17,7 +17,7 @@ use Rattle.model.specs.State.{limit, startOf, endOf, withLog, isOpen, pl
 use Rattle.model.specs.Append.{Appended, append}
 use Rattle.model.specs.Transaction.{diskOf}
 use Rattle.model.specs.Reference.{Reference}
-use Rattle.model.specs.History.{Put, recordsOn}
+use Rattle.model.specs.History.{Put, recordsOn, Told}
 use Rattle.model.proofs.Run.{perform-append, stores-append, run-cut}
 use Rattle.model.proofs.Slots.{Shaped}
 use Rattle.model.proofs.Ledger.Entry.{Entry, recordOf, isClose, sum}
@@ -35,7 +35,7 @@ use Rattle.model.proofs.Store.Ready.{Ready, ready, ready-sums}
 use Rattle.model.proofs.Store.LogEnd.{boundary-to}
 use Rattle.model.proofs.Store.Logged.{Written, logged, logged-stores, safe-written, copies-written, MayLog}
 use Rattle.model.proofs.Growth.{Small, Longer}
-use Rattle.model.proofs.Store.OneMore.{told-more, boundary-logged}
+use Rattle.model.proofs.Store.OneMore.{told-more, boundary-logged, since-still}
 use Rattle.model.proofs.Store.Entered.{accounts-logged}
 
 -- The entry is of an open transaction, on its disk and at the end there, and the log has room for it.
@@ -50,7 +50,7 @@ pub record MayPut (c : Core) (e : Entry) : Type 0 where
   pub in-limit : endOf (c .logs) (e .disk) + sizeOf e ≤ limit
   pub fit : Fit (c .sizes) e
 
-module _ {x : ℕ} {home : ℕ → ℕ} {puts : List Put} {c : Core} {w : World} {r : Reference} {F B : List Entry} (g : Serving x home puts c w r F B)
+module _ {x : ℕ} {home : ℕ → ℕ} {puts : Told} {c : Core} {w : World} {r : Reference} {F B : List Entry} (g : Serving x home puts c w r F B)
     (e : Entry) (may : MayPut c e) where
   abbrev s : Sizes
   s = c .sizes
@@ -175,9 +175,10 @@ module _ {x : ℕ} {home : ℕ → ℕ} {puts : List Put} {c : Core} {w : World}
 
   -- what is told of the logs, with the entry's record
   pub put-told : (p : Put) → p .disk ≡ e .disk → p .content ≡ recordOf e → (k : ℕ) → k < c .sizes .disks
-      → Since (recordsOn k (puts ++ p ∷ [])) (on k F1 ++ on k (B1 ++ e ∷ []))
+      → Since (puts .base k) (startOf (put .logs) k) (c .next) (isOpen (c .table)) (recordsOn k (puts .puts ++ p ∷ [])) (on k F1 ++ on k (B1 ++ e ∷ []))
   unfolding withLog
-  put-told p disk content k h = told-more puts F1 B1 e p disk content k (serving1 .told k h)
+  put-told p disk content k h =
+      since-still (put-longer .start-same k ∙ sym (made .starts k)) (λ t y. y) (told-more (puts .puts) F1 B1 e p disk content k (serving1 .told k h))
 
   -- Memory words written after it.
   module _ {u : World} (k : Written (c .sizes) (perform (put .actions) w) u) where

@@ -14,7 +14,7 @@ use Rattle.model.specs.World.{World, Action, perform, run, stores}
 use Rattle.model.specs.State.{startOf, fillOf, endOf, flushed, withLog}
 use Rattle.model.specs.Append.{append, flush}
 use Rattle.model.specs.Reference.{Reference}
-use Rattle.model.specs.History.{Put}
+use Rattle.model.specs.History.{Told}
 use Rattle.model.proofs.Flush.{OnlyLogs, none-changed}
 use Rattle.model.proofs.Ledger.Entry.{Entry, sum, onDisk}
 use Rattle.model.proofs.Ledger.Order.{on}
@@ -27,7 +27,7 @@ use Rattle.model.proofs.Link.Words.{below-eight}
 use Rattle.model.proofs.Ledger.Lists.{sum-flush}
 
 -- The store with room for n words in the buffer of disk d: `flushing` is the flush, or nothing.
-pub record Ready (x : ℕ) (home : ℕ → ℕ) (puts : List Put) (c : Core) (w : World) (r : Reference) (d n : ℕ) : Type 0 where
+pub record Ready (x : ℕ) (home : ℕ → ℕ) (puts : Told) (c : Core) (w : World) (r : Reference) (d n : ℕ) : Type 0 where
   pub flushing : List Action
   pub logs : Logs
   pub flushed : List Entry
@@ -47,7 +47,7 @@ pub record Ready (x : ℕ) (home : ℕ → ℕ) (puts : List Put) (c : Core) (w 
       }
   pub cut : (k : ℕ) → k < stores flushing → Kept puts (run k flushing w) r
 
-module _ {x : ℕ} {home : ℕ → ℕ} {puts : List Put} {c : Core} {w : World} {r : Reference} {F B : List Entry} (g : Serving x home puts c w r F B)
+module _ {x : ℕ} {home : ℕ → ℕ} {puts : Told} {c : Core} {w : World} {r : Reference} {F B : List Entry} (g : Serving x home puts c w r F B)
     (d n : ℕ) (below : d < c .sizes .disks) (small : Small (c .sizes) (c .logs)) (short : n ≤ 64) where
   fits : fillOf (c .logs) d + n ≤ 64 → Ready x home puts c w r d n
   unfolding perform withLog stores

@@ -9,7 +9,7 @@ use Rattle.model.specs.declared.Sizes.{Sizes}
 use Rattle.model.specs.Below.{listBelow}
 use Rattle.model.specs.Anchor.{anchorWords, epochWord, epochOn, sizesOn, startOn, startWord, backupAt}
 use Rattle.model.specs.World.{World, anchor, Action, store, cost, act, perform, stores, run}
-use Rattle.model.specs.History.{Put}
+use Rattle.model.specs.History.{Told}
 use Rattle.model.specs.Reference.{Reference}
 use Rattle.model.proofs.Run.{perform-append, stores-append}
 use Rattle.model.proofs.Restart.Aside.{aside-starts}
@@ -91,7 +91,7 @@ module _ (c : ℕ) (f : ℕ → ℕ) (n : ℕ) (w : World) (few : n ≤ 8) where
         })
 
   -- Cut before its last store, it changes nothing that a restart sees.
-  pub end-cut : {puts : List Put} {r : Reference} → epochOn (w .anchor) ≡ c → Kept puts w r
+  pub end-cut : {puts : Told} {r : Reference} → epochOn (w .anchor) ≡ c → Kept puts w r
       → (k : ℕ) → k < stores (endStores c f n) → Kept puts (run k (endStores c f n) w) r
   unfolding stores cost
   end-cut now h k less =

@@ -8,15 +8,16 @@ use Rattle.model.specs.Record.{Record}
 use Rattle.model.specs.World.{World, Action, run}
 use Rattle.model.specs.Causes.{tailOn, retained}
 use Rattle.model.specs.Anchor.{epochOn}
-use Rattle.model.specs.Image.{restarted}
+use Rattle.model.specs.Image.{retainedWords, restarted}
 use Rattle.model.specs.Reference.{Reference}
-use Rattle.model.specs.History.{Put, recordsOn}
+use Rattle.model.specs.History.{Put, recordsOn, Told, also}
 use Rattle.model.proofs.Bounds.{bounded}
 use Rattle.model.proofs.Run.{SameLengths}
 use Rattle.model.proofs.Ledger.Entry.{All}
 use Rattle.model.proofs.Restart.Image.{SameDevices}
 use Rattle.model.proofs.Restart.Aside.{Aside, Steady, devices-steady, steady-image, steady-run}
 use Rattle.model.proofs.Store.View.{Restartable, Kept}
+use Rattle.model.proofs.Store.Crash.{stored-same}
 use Rattle.model.proofs.Store.Flush.{lengths-same}
 use Rattle.model.proofs.Store.OneMore.{records-append}
 
@@ -33,28 +34,33 @@ steady-restartable {v} {w} k h =
       clean = λ d. rw (k .sizes) (λ l. rw (k .logs, k .starts d (omega arith)) (h .clean d l));
     }
 
-pub steady-kept : {puts : List Put} {v w : World} {r : Reference} → Steady v w → Kept puts w r → Kept puts v r
+pub steady-kept : {puts : Told} {v w : World} {r : Reference} → Steady v w → Kept puts w r → Kept puts v r
+unfolding tailOn retained retainedWords
 steady-kept {v = v} {w = w} k h =
-    let same = steady-image k (bounded (sizesOn (w .anchor)) (h .sound .bounds) .disks-max) in
+    let eight = bounded (sizesOn (w .anchor)) (h .sound .bounds) .disks-max in
+    let same = steady-image k eight in
     record {
       sizes = k .sizes ∙ h .sizes;
       shaped = h .shaped;
       image = ap restarted same ∙ h .image;
-      logs = rw same (h .logs);
+      logs = λ d l.
+          let below = rw (k .sizes) at l in
+          let start = k .starts d (omega (arith, eight, below)) in
+          stored-same (k .sizes) start (rw (k .logs)) (rw (k .logs, start)) (rw (k .logs, start)) same (h .logs d below);
       sound = steady-restartable k (h .sound);
     }
 
 -- the same devices, and memories of the same lengths
-pub kept-devices : {puts : List Put} {v w : World} {r : Reference} → SameDevices v w → SameLengths v w → Kept puts w r → Kept puts v r
+pub kept-devices : {puts : Told} {v w : World} {r : Reference} → SameDevices v w → SameLengths v w → Kept puts w r → Kept puts v r
 kept-devices d k h = steady-kept (devices-steady d k) h
 
 -- stores beside what a restart sees, as many as a budget covers
-pub kept-aside : (budget : ℕ) (l : List Action) {puts : List Put} {w : World} {r : Reference} → All (Aside (sizesOn (w .anchor)) (epochOn (w .anchor))) l
+pub kept-aside : (budget : ℕ) (l : List Action) {puts : Told} {w : World} {r : Reference} → All (Aside (sizesOn (w .anchor)) (epochOn (w .anchor))) l
     → Kept puts w r → Kept puts (run budget l w) r
 kept-aside budget l {w = w} a h = steady-kept (steady-run budget l w a) h
 
 -- what is put and never stored is lost
-pub kept-lost : {puts : List Put} {w : World} {r : Reference} → Kept puts w r → (more : List Put) → Kept (puts ++ more) w r
+pub kept-lost : {puts : Told} {w : World} {r : Reference} → Kept puts w r → (more : List Put) → Kept (also puts more) w r
 kept-lost {puts} k more =
     record {
       sizes = k .sizes;
@@ -62,14 +68,17 @@ kept-lost {puts} k more =
       image = k .image;
       logs = λ d h.
           let was = k .logs d h in
-          let lost = recordsOn d more in
+          let last = recordsOn d more in
           record {
             old = was .old;
             kept = was .kept;
-            lost = was .lost ++ lost;
-            parts = records-append d puts more ∙ ap (λ (l : List Record). l ++ lost) (was .parts)
-                ∙ append-assoc (was .old) (was .kept ++ was .lost) lost ∙ ap (λ (l : List Record). was .old ++ l) (append-assoc (was .kept) (was .lost) lost);
+            rest = was .rest ++ last;
+            parts = records-append d (puts .puts) more ∙ ap (λ (l : List Record). l ++ last) (was .parts)
+                ∙ append-assoc (was .old) (was .kept ++ was .rest) last ∙ ap (λ (l : List Record). was .old ++ l) (append-assoc (was .kept) (was .rest) last);
+            start = was .start;
+            tail = was .tail;
             words = was .words;
+            finds = was .finds;
             reads = was .reads;
           };
       sound = k .sound;

@@ -17,7 +17,7 @@ use Rattle.model.specs.Causes.{whenOpen, tailOn}
 use Rattle.model.specs.Checkpoint.{perDisk, newStart}
 use Rattle.model.specs.Transaction.{diskOf}
 use Rattle.model.specs.Reference.{Reference}
-use Rattle.model.specs.History.{Put, recordsOn}
+use Rattle.model.specs.History.{Told}
 use Rattle.model.proofs.Reader.{Holds, holds-append}
 use Rattle.model.proofs.Run.{SameLengths}
 use Rattle.model.proofs.Ledger.Entry.{Entry, All, pick}
@@ -32,10 +32,10 @@ use Rattle.model.proofs.Ledger.Good.{good-same}
 use Rattle.model.proofs.Ledger.Checkpoint.{switch-good}
 use Rattle.model.proofs.Ledger.Switch.{placed-kept}
 use Rattle.model.proofs.Link.Words.{Link}
-use Rattle.model.proofs.Store.View.{view, Devices, Safe, Accounts, Copies, Since, Serving, before}
+use Rattle.model.proofs.Store.View.{view, Devices, Safe, Accounts, Copies, SinceOn, Serving, before}
 use Rattle.model.proofs.Store.Same.{sets-same, owners-same}
 use Rattle.model.proofs.Store.Flush.{lengths-same}
-use Rattle.model.proofs.Store.NewStarts.{firstOf, boundary-later, since-later, first-boundary, new-boundary, start-early, first-stays, reserved-stays, placed, page-copied, may}
+use Rattle.model.proofs.Store.NewStarts.{firstOf, boundary-later, since-later, first-boundary, new-boundary, start-early, first-stays, reserved-stays, placed, page-copied, may, live-kept}
 use Rattle.model.proofs.Store.Starts.{Moved, backup-back}
 use Rattle.model.proofs.Booleans.{true-false}
 use Rattle.model.proofs.PerDisk.{getD-per-disk, length-per-disk}
@@ -46,7 +46,7 @@ switchedCore c =
     switchedTo c
     (record { starts = perDisk (c .sizes) (newStart c); tails = perDisk (c .sizes) (endOf (c .logs)); fills = replicate 8 0 })
 
-module _ {home : ℕ → ℕ} {puts : List Put} {c : Core} {w : World} {r : Reference} {F : List Entry} (g : Serving 0 home puts c w r F [])
+module _ {home : ℕ → ℕ} {puts : Told} {c : Core} {w : World} {r : Reference} {F : List Entry} (g : Serving 0 home puts c w r F [])
     (copying : whenOpen (c .stage) ≡ false) (copied : c .sizes .pages ≤ c .checkpoint .copied) where
   abbrev kept : Entry → Bool
   kept = keptFrom (newStart c)
@@ -214,11 +214,11 @@ module _ {home : ℕ → ℕ} {puts : List Put} {c : Core} {w : World} {r : Refe
         }
 
     -- what goes is the older part of what was put
-    told : (d : ℕ) → d < c .sizes .disks → Since (recordsOn d puts) (on d (pick kept F) ++ on d [])
+    told : (d : ℕ) → d < c .sizes .disks → SinceOn puts now d (on d (pick kept F) ++ on d [])
     unfolding on pick
     told d h =
-        rw (append-nil (on d (pick kept F)))
-        (since-later (g .safe .ordered) (newStart c) d h (cut d h) (rw (append-nil (on d F)) at (g .told d h)))
+        rw (append-nil (on d (pick kept F)), start-now d h)
+        (since-later (g .safe .ordered) (newStart c) d h (cut d h) (live-kept g copying copied) (rw (append-nil (on d F)) at (g .told d h)))
 
     -- the store is open, with the other backup current
     pub switch-serving : Serving 0 home puts now v r (pick kept F) []

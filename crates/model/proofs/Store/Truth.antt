@@ -7,22 +7,21 @@ use native.Mathlib.Omega.{arith}
 use lib.Dec.{leb, eqb}
 use borrow.Author.Tests.{le-leb, eqb-true, eqb-false, eq-eqb, ne-eqb}
 use Rattle.model.specs.declared.Core.{Core}
-use Rattle.model.specs.Record.{Record}
 use Rattle.model.specs.Scan.{Scan, Update, placed, updatesIn, updateWords, oldest}
 use Rattle.model.specs.World.{World}
 use Rattle.model.specs.State.{startOf, isOpen, placeOf, firstAt, hasUpdate, reservedAt}
 use Rattle.model.specs.Transaction.{diskOf}
 use Rattle.model.specs.Reference.{Reference}
 use Rattle.model.specs.Machine.{Machine}
-use Rattle.model.specs.History.{Put, recordsOn}
-use Rattle.model.specs.Promise.{logScan, LogOf, Truth}
+use Rattle.model.specs.History.{Told}
+use Rattle.model.specs.Promise.{logScan, Buffered, Truth}
 use Rattle.model.proofs.Ledger.Entry.{Entry, recordOf, isClose, some, All, pick, onDisk}
 use Rattle.model.proofs.Ledger.Order.{on, sizeOf, wordsOf, Laid, entriesScan}
 use Rattle.model.proofs.Ledger.Sums.{all-map, all-append, all-right}
 use Rattle.model.proofs.Ledger.Picks.{all-pick}
 use Rattle.model.proofs.Ledger.Lists.{all-left, pick-whole, on-append, some-pick}
 use Rattle.model.proofs.Ledger.Positions.{size-ge, laid-from, boundary-start}
-use Rattle.model.proofs.Link.Words.{retained, placed-entries}
+use Rattle.model.proofs.Link.Words.{placed-entries}
 use Rattle.model.proofs.Link.Abort.{scan-from}
 use Rattle.model.proofs.Store.View.{wordsFor, Serving, Served, open-used}
 use Rattle.model.proofs.Places.{open-place}
@@ -30,7 +29,7 @@ use Rattle.model.proofs.Store.AbortRows.{update-words}
 use Rattle.model.proofs.Booleans.{true-false}
 use Rattle.model.proofs.Store.WordsFor.{words-for-picked}
 
-module _ {home : ℕ → ℕ} {puts : List Put} {c : Core} {w : World} {r : Reference} {F B : List Entry} (g : Serving 0 home puts c w r F B)
+module _ {home : ℕ → ℕ} {puts : Told} {c : Core} {w : World} {r : Reference} {F B : List Entry} (g : Serving 0 home puts c w r F B)
     (d : ℕ) (below : d < c .sizes .disks) where
   -- the entries of the disk
   abbrev entries : List Entry
@@ -49,20 +48,15 @@ module _ {home : ℕ → ℕ} {puts : List Put} {c : Core} {w : World} {r : Refe
       scan-from (g .safe .link) d below (startOf (c .logs) d) (g .safe .fit) laid (boundary-start (startOf (c .logs) d) entries)
       ∙ ap entriesScan from-start
 
--- the promise of the log
-pub log-of : {puts : List Put} (m : Machine) (r : Reference) → Served puts (m .core) (m .world) r
-    → (d : ℕ) → d < m .core .sizes .disks → LogOf m d (recordsOn d puts)
+-- the promise of the log: what is buffered comes after what is stored
+pub buffered : {puts : Told} (m : Machine) (r : Reference) (g : Served puts (m .core) (m .world) r) (d : ℕ) → d < m .core .sizes .disks
+    → Buffered (m .core) (m .world) d (map recordOf (on d (g .flushed))) (map recordOf (on d (g .buffered)))
 unfolding wordsOf
-log-of m r g d below =
+buffered m r g d below =
     let s = g .serving in
     let F = on d (g .flushed) in
     let B = on d (g .buffered) in
     record {
-      old = s .told d below .old;
-      inRing = map recordOf F;
-      inBuffer = map recordOf B;
-      parts = s .told d below .all ∙ ap (λ (l : List Record). s .told d below .old ++ l) (map-append recordOf F B);
-      words = retained (s .safe .link) d below (s .safe .devices .starts d below);
       buffer = s .safe .link .buffer d below;
       reads =
           log-entries s d below ∙ sym (placed-entries (startOf (m .core .logs) d) (F ++ B) (s .safe .ordered .laid d below))
@@ -127,7 +121,7 @@ first-is t f p (e ∷ l) laid h s =
         absurd (omega (arith, later s, laid .0, h .0 (eqb-true (e .number) t x), size-ge e))
     go false b x y s later ih = ih s
 
-module _ {home : ℕ → ℕ} {puts : List Put} {c : Core} {w : World} {r : Reference} {F B : List Entry} (g : Serving 0 home puts c w r F B)
+module _ {home : ℕ → ℕ} {puts : Told} {c : Core} {w : World} {r : Reference} {F B : List Entry} (g : Serving 0 home puts c w r F B)
     (t : ℕ) (o : isOpen (c .table) t ≡ true) where
   d : ℕ
   d = diskOf c t
@@ -189,7 +183,7 @@ module _ {home : ℕ → ℕ} {puts : List Put} {c : Core} {w : World} {r : Refe
       (started-here _ (g .accounts .started t o h))
 
 -- the promise of the state
-pub truth : {puts : List Put} (m : Machine) (r : Reference) → Served puts (m .core) (m .world) r → Truth m
+pub truth : {puts : Told} (m : Machine) (r : Reference) → Served puts (m .core) (m .world) r → Truth m
 truth m r g =
     let s = g .serving in
     record {

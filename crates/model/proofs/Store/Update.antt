@@ -19,12 +19,12 @@ use Rattle.model.specs.Append.{Appended, append}
 use Rattle.model.specs.Transaction.{diskOf, slotWords, updateRecord, updated, updateRows, updateTask}
 use Rattle.model.specs.Call.{update}
 use Rattle.model.specs.Reference.{Reference, afterTaken}
-use Rattle.model.specs.History.{Put, putBy}
+use Rattle.model.specs.History.{Told, also, putBy}
 use Rattle.model.proofs.Run.{perform-append, perform-pages, run-cut, stores-append, stores-written}
 use Rattle.model.proofs.Counts.{append-fits}
 use Rattle.model.proofs.Ledger.Entry.{Entry, recordOf, isClose}
 use Rattle.model.proofs.Ledger.Order.{sizeOf}
-use Rattle.model.proofs.Store.View.{Kept, Serving, Served}
+use Rattle.model.proofs.Store.View.{Kept, Serving, Served, runAt}
 use Rattle.model.proofs.Store.Rows.{serving-sound}
 use Rattle.model.proofs.Store.Ready.{Ready, ready}
 use Rattle.model.proofs.Store.UpdateRoom.{Allowed, updateEntry, slotChanged, noted, update-size}
@@ -71,7 +71,7 @@ unfolding finishes
 cut-short budget l m none h = omega (arith, leb-false (stores (l ++ m)) budget h, stores-append l m)
 
 -- An update is the flush that makes room, and an update with room.
-module _ {home : ℕ → ℕ} {puts : List Put} {c : Core} {w : World} {r : Reference} {F B : List Entry} (g : Serving 0 home puts c w r F B)
+module _ {home : ℕ → ℕ} {puts : Told} {c : Core} {w : World} {r : Reference} {F B : List Entry} (g : Serving 0 home puts c w r F B)
     (number page slot : ℕ) (value : List ℕ) (ok : verdict (updateRows c w number page slot value) ≡ accepted) where
   may : Allowed c w number page slot value
   may = update-allowed (update-accepted c w number page slot value ok)
@@ -149,7 +149,7 @@ module _ {home : ℕ → ℕ} {puts : List Put} {c : Core} {w : World} {r : Refe
   -- what holds after record q
   abbrev After : Record → Table → Type 0
   After q t =
-      Serving 0 home (puts ++ record { disk = d; content = q } ∷ []) (withLog c (append (c .sizes) (y .logs) (v .work) d (encode q) .logs) t)
+      Serving 0 home (also puts (record { disk = d; content = q } ∷ [])) (withLog c (append (c .sizes) (y .logs) (v .work) d (encode q) .logs) t)
       (slotChanged (perform (append (c .sizes) (y .logs) (v .work) d (encode q) .actions) v) at value number)
       (noted r number page slot value) (y .flushed) (y .buffered ++ updateEntry c' v number page slot value ∷ [])
 
@@ -164,7 +164,7 @@ module _ {home : ℕ → ℕ} {puts : List Put} {c : Core} {w : World} {r : Refe
       serving-updated (y .serving) number page slot value may' (y .small) (omega (arith, size', y .room))
       (omega (arith, size, size', h .0, y .starts d, y .ends)) (omega (arith, size, size', h .1, y .ends))
 
-  pub update-served : Served (puts ++ record { disk = d; content = updateRecord c w number page slot value } ∷ [])
+  pub update-served : Served (also puts (record { disk = d; content = updateRecord c w number page slot value } ∷ []))
       (updateTask c w number page slot value .core) (perform (updateTask c w number page slot value .actions) w)
       (noted r number page slot value)
   update-served =
@@ -194,15 +194,15 @@ module _ {home : ℕ → ℕ} {puts : List Put} {c : Core} {w : World} {r : Refe
       short : finishes budget (y .flushing ++ rest) ≡ false → budget < stores (y .flushing)
       short h = cut-short budget (y .flushing) rest stores-rest h
 
-module _ {puts : List Put} {c : Core} {w : World} {r : Reference} (g : Served puts c w r) where
+module _ {puts : Told} {c : Core} {w : World} {r : Reference} (g : Served puts c w r) where
   -- finished, it leaves an open store whose reference has noted its write
   pub update-serves : (number page slot : ℕ) (value : List ℕ) (budget n : ℕ) → verdict (updateRows c w number page slot value) ≡ accepted
-      → Served (puts ++ putBy (update number page slot value budget) c w) (updateTask c w number page slot value .core) (perform (updateTask c w number page slot value .actions) w)
+      → Served (also puts (putBy (update number page slot value budget) (runAt c w r) puts)) (updateTask c w number page slot value .core) (perform (updateTask c w number page slot value .actions) w)
       (afterTaken (update number page slot value budget) n r)
   update-serves number page slot value budget n ok = update-served (g .serving) number page slot value ok
 
   -- cut, it leaves devices that restart to what was committed
   pub update-cut : (number page slot : ℕ) (value : List ℕ) (budget : ℕ) → verdict (updateRows c w number page slot value) ≡ accepted
       → finishes budget (updateTask c w number page slot value .actions) ≡ false
-      → Kept (puts ++ putBy (update number page slot value budget) c w) (run budget (updateTask c w number page slot value .actions) w) r
+      → Kept (also puts (putBy (update number page slot value budget) (runAt c w r) puts)) (run budget (updateTask c w number page slot value .actions) w) r
   update-cut number page slot value budget ok h = kept-lost (update-kept (g .serving) number page slot value ok budget h) _

@@ -19,7 +19,7 @@ use Rattle.model.specs.Memory.{bufferAt, copyAt, workWords, ownerAt, own
 use Rattle.model.specs.State.{endOf, withLog, isOpen, placeOf, reservedAt}
 use Rattle.model.specs.Transaction.{diskOf, slotWords}
 use Rattle.model.specs.Reference.{Reference, Write, writesOf, added, withSets}
-use Rattle.model.specs.History.{Put}
+use Rattle.model.specs.History.{Told}
 use Rattle.model.proofs.Xor.{⊕-self-left, ⊕-zero-r, length-xors-same, getD-xors-same}
 use Rattle.model.proofs.Lengths.{Lengths, lengths-right}
 use Rattle.model.proofs.Geometry.{pageOf, slotStart, slot-start, slot-in, slot-apart, slot-end-total}
@@ -70,7 +70,7 @@ slotChanged v at value number =
 abbrev pub noted : Reference → ℕ → ℕ → ℕ → List ℕ → Reference
 noted r number page slot value = withSets r (added number (record { page = page; slot = slot; value = value }) (r .writeSets))
 
-module _ {home : ℕ → ℕ} {puts : List Put} {c : Core} {w : World} {r : Reference} {F B : List Entry} (g : Serving 0 home puts c w r F B)
+module _ {home : ℕ → ℕ} {puts : Told} {c : Core} {w : World} {r : Reference} {F B : List Entry} (g : Serving 0 home puts c w r F B)
     (number page slot : ℕ) (value : List ℕ) (may : Allowed c w number page slot value) where
   abbrev s : Sizes
   s = c .sizes

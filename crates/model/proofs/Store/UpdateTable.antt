@@ -19,7 +19,7 @@ use Rattle.model.specs.State.{places, limit, startOf, fillOf, endOf, wit
 use Rattle.model.specs.Append.{Appended, append}
 use Rattle.model.specs.Transaction.{diskOf}
 use Rattle.model.specs.Reference.{Reference, Write}
-use Rattle.model.specs.History.{Put}
+use Rattle.model.specs.History.{Told, also}
 use Rattle.model.proofs.Lengths.{lengths-right}
 use Rattle.model.proofs.Run.{perform-lengths}
 use Rattle.model.proofs.WriteSets.{has-added, distinct-added}
@@ -33,15 +33,15 @@ use Rattle.model.proofs.Ledger.Positions.{boundary-end}
 use Rattle.model.proofs.Link.Words.{log-end}
 use Rattle.model.proofs.Link.Buffered.{InBuffer, owners-same}
 use Rattle.model.proofs.Store.View.{Sets, Owners, Serving, open-used}
-use Rattle.model.proofs.Store.Logged.{Written, in-buffer, safe-written, copies-written, MayLog}
+use Rattle.model.proofs.Store.Logged.{Written, in-buffer, safe-written, copies-written, MayLog, longer}
 use Rattle.model.proofs.Store.LogEnd.{boundary-to, capped, early}
 use Rattle.model.proofs.Store.UpdateRoom.{Allowed, updateEntry, slotChanged, noted, at-lt, update-size, update-fit, update-unclosed, good-updated}
 use Rattle.model.proofs.Store.UpdateOwners.{fits-added, owners-updated}
 use Rattle.model.proofs.Growth.{Small}
-use Rattle.model.proofs.Store.OneMore.{told-more, boundary-logged}
+use Rattle.model.proofs.Store.OneMore.{told-more, boundary-logged, since-still}
 use Rattle.model.proofs.Store.Entered.{Entered, accounts-logged}
 
-module _ {home : ℕ → ℕ} {puts : List Put} {c : Core} {w : World} {r : Reference} {F B : List Entry} (g : Serving 0 home puts c w r F B)
+module _ {home : ℕ → ℕ} {puts : Told} {c : Core} {w : World} {r : Reference} {F B : List Entry} (g : Serving 0 home puts c w r F B)
     (number page slot : ℕ) (value : List ℕ) (may : Allowed c w number page slot value) (small : Small (c .sizes) (c .logs))
     (room : fillOf (c .logs) (diskOf c number) + sizeOf (updateEntry c w number page slot value) ≤ 64)
     (in-ring : endOf (c .logs) (diskOf c number) + sizeOf (updateEntry c w number page slot value) ≤ startOf (c .logs) (diskOf c number) + ringOf (c .sizes) (diskOf c number))
@@ -230,7 +230,7 @@ module _ {home : ℕ → ℕ} {puts : List Put} {c : Core} {w : World} {r : Refe
       owners-updated (g .owners) (g .safe .devices .bounds) number page slot value may (sym (g .sets .has number) ∙ may .opened) (open-used (g .safe) number (may .opened) .1)
       bufferedWorld (omega (arith, long)) (owners-same buffer) updatedCore refl refl same-open
 
-  pub serving-updated : Serving 0 home (puts ++ record { disk = d; content = recordOf e } ∷ []) updatedCore changed (noted r number page slot value) F (B ++ e ∷ [])
+  pub serving-updated : Serving 0 home (also puts (record { disk = d; content = recordOf e } ∷ [])) updatedCore changed (noted r number page slot value) F (B ++ e ∷ [])
   unfolding withLog bufferAt
   serving-updated =
       record {
@@ -245,5 +245,7 @@ module _ {home : ℕ → ℕ} {puts : List Put} {c : Core} {w : World} {r : Refe
             (λ i h. other-word i (omega arith)) (λ o. capped g e page (may .page-lt) refl) (λ h o. early g e page (may .page-lt) refl (may .disk) refl h) t;
         sets = sets-after;
         owners = owners-after;
-        told = λ n h. told-more puts F B e (record { disk = d; content = recordOf e }) refl refl n (g .told n h);
+        told = λ n h.
+            since-still (longer (g .safe) e loggable .start-same n) (λ u y l. sym (same-open u) ∙ y l)
+            (told-more (puts .puts) F B e (record { disk = d; content = recordOf e }) refl refl n (g .told n h));
       }

@@ -17,9 +17,10 @@ use Rattle.model.specs.Causes.{whenOpen, whenServing, tailOn, retained}
 use Rattle.model.specs.Transaction.{diskOf}
 use Rattle.model.specs.Image.{imageOf, restarted}
 use Rattle.model.specs.Reference.{Reference, WriteSet, writesOf, writesSlot, wordsIn, hasSet}
-use Rattle.model.specs.Record.{Record}
-use Rattle.model.specs.Scan.{end}
-use Rattle.model.specs.History.{Put, recordsOn}
+use Rattle.model.specs.Record.{Record, encodeAll}
+use Rattle.model.specs.Scan.{end, placed, updatesIn}
+use Rattle.model.specs.Machine.{Run}
+use Rattle.model.specs.History.{Told, recordsOn}
 use Rattle.model.specs.Promise.{Stored}
 use Rattle.model.proofs.Reading.{ending}
 use Rattle.model.proofs.Bounds.{Bounded}
@@ -49,11 +50,11 @@ pub record Restartable (w : World) : Type 0 where
   pub clean : (d : ℕ) → d < sizesOn (w .anchor) .disks → ending (retained (sizesOn (w .anchor)) w d) ≡ end
 
 -- The devices keep what a restart needs: their image restarts to the committed contents, and its logs are of what the calls put.
-pub record Kept (puts : List Put) (w : World) (r : Reference) : Type 0 where
+pub record Kept (puts : Told) (w : World) (r : Reference) : Type 0 where
   pub sizes : sizesOn (w .anchor) ≡ r .sizes
   pub shaped : Shaped (r .sizes) (r .committed)
   pub image : restarted (imageOf w) ≡ wordsIn (r .committed)
-  pub logs : (d : ℕ) → d < imageOf w .sizes .disks → Stored (imageOf w) d (recordsOn d puts)
+  pub logs : (d : ℕ) → d < sizesOn (w .anchor) .disks → Stored puts w d
   pub sound : Restartable w
 
 -- the store and its reference as a ledger, with the flushed entries F and the buffered entries B
@@ -153,22 +154,32 @@ pub record Owners (c : Core) (w : World) (r : Reference) : Type 0 where
       → isOpen (c .table) (ownerOf (c .sizes) (w .work) page slot) ≡ true
       → writesSlot page slot (writesOf (ownerOf (c .sizes) (w .work) page slot) (r .writeSets)) ≡ true
 
--- The entries of a disk are the last of the records that the calls put there.
-pub record Since (puts : List Record) (l : List Entry) : Type 0 where
+-- The entries of a disk are the last of the records that the calls put there since its log began at `base`, and they begin where the
+-- words of those before end. Of these none is an update of a transaction that is open or to come.
+pub record Since (base start next : ℕ) (opened : ℕ → Bool) (puts : List Record) (l : List Entry) : Type 0 where
   pub old : List Record
   pub all : puts ≡ old ++ map recordOf l
+  pub from : start ≡ base + length (encodeAll old)
+  pub past : (t : ℕ) → (t < next → opened t ≡ true) → updatesIn t (placed base old) ≡ []
+
+abbrev pub SinceOn : Told → Core → ℕ → List Entry → Type 0
+SinceOn t c d l = Since (t .base d) (startOf (c .logs) d) (c .next) (isOpen (c .table)) (recordsOn d (t .puts)) l
+
+-- the store and its reference, as the calls find them
+abbrev pub runAt : Core → World → Reference → Run
+runAt c w r = record { machine = record { core = c; world = w }; reference = r }
 
 -- An open store, or one inside an abort of transaction x; `puts` is what its calls put into the logs.
-pub record Serving (x : ℕ) (home : ℕ → ℕ) (puts : List Put) (c : Core) (w : World) (r : Reference) (F B : List Entry) : Type 0 where
+pub record Serving (x : ℕ) (home : ℕ → ℕ) (puts : Told) (c : Core) (w : World) (r : Reference) (F B : List Entry) : Type 0 where
   pub stage : whenServing (c .stage) ≡ true
   pub safe : Safe x home c w r F B
   pub accounts : Accounts x home c F B
   pub copies : Copies c w F B
   pub sets : Sets c r
   pub owners : Owners c w r
-  pub told : (d : ℕ) → d < c .sizes .disks → Since (recordsOn d puts) (on d F ++ on d B)
+  pub told : (d : ℕ) → d < c .sizes .disks → SinceOn puts c d (on d F ++ on d B)
 
-pub record Served (puts : List Put) (c : Core) (w : World) (r : Reference) : Type 0 where
+pub record Served (puts : Told) (c : Core) (w : World) (r : Reference) : Type 0 where
   pub home : ℕ → ℕ
   pub flushed : List Entry
   pub buffered : List Entry

@@ -1,5 +1,5 @@
 -- Each step of a trace is an event of the machine: so what always holds of the machine always holds of the code.
-use mathlib.Core.Path.{_≡_, refl, sym, ap, subst, _∙_}
+use mathlib.Core.Path.{_≡_, refl, sym, ap, subst, _∙_, ap₂}
 use mathlib.Core.List.{List, [], _∷_}
 use mathlib.Core.Bool.{true, and-eq-true-iff}
 use Prim.Native.Nat.{ℕ}
@@ -15,7 +15,7 @@ use Rattle.model.specs.Refusal.{Result}
 use Rattle.model.specs.Call.{Call, format, begin, update, read, commit, abort, checkpointBegin, checkpointStep, checkpointEnd, restartBegin, restartStep, restartEnd, newState, resultOf, Gives}
 use Rattle.model.specs.Reference.{taken, refused, outcomeOf, Reference, blank, heard, hear}
 use Rattle.model.specs.Machine.{Machine, Event, call, lent, scramble, result, outcome, isRefused, allowedCall, allowed, after, referred, Run, follow, allowedAll, formatted}
-use Rattle.model.specs.History.{Put, told, history}
+use Rattle.model.specs.History.{Told, nothingTold, told, history}
 use Rattle.model.specs.Promise.{Always}
 use Rattle.model.specs.Trace.{Observed, KeepsContract, seen, EventInCode, callInCode, lentInCode, scrambleInCode, On, Beside, FormatRefused, AllowedInCode, afterInCode, followInCode, AllowedAllInCode, Formats, formattedInCode, toldInCode, historyInCode, AlwaysInCode}
 use Rattle.model.proofs.Verdict.{answer-refused, refused-leaves}
@@ -114,21 +114,18 @@ steps-follow [] x l = refl
 steps-follow (s ∷ steps) x l = steps-follow steps (afterInCode s x) (l .1) ∙ ap (follow (eventsOf steps)) (step-next s x (l .0))
 
 -- what they put
-step-told : (s : EventInCode) (x : Run) (puts : List Put) → AllowedInCode (x .machine) s → toldInCode s puts ≡ told (x .machine) (eventOf s) puts
+step-told : (s : EventInCode) (x : Run) (t : Told) → AllowedInCode (x .machine) s → toldInCode s x t ≡ told x (eventOf s) t
 unfolding eventOf outcome
-step-told (callInCode o) x puts h =
-    rw (h .0 .core, h .0 .entry, sym (as-machine (x .machine) o (h .0)))
-step-told (lentInCode o) x puts h = refl
-step-told (scrambleInCode pages work) x puts h = refl
+step-told (callInCode o) x t h = rw (sym (as-machine (x .machine) o (h .0)))
+step-told (lentInCode o) x t h = refl
+step-told (scrambleInCode pages work) x t h = refl
 
-steps-history : (steps : List EventInCode) (x : Run) (puts : List Put) → AllowedAllInCode steps x
-    → historyInCode steps puts ≡ history (eventsOf steps) (x .machine) puts
+steps-history : (steps : List EventInCode) (x : Run) (t : Told) → AllowedAllInCode steps x → historyInCode steps x t ≡ history (eventsOf steps) x t
 unfolding eventsOf history historyInCode AllowedAllInCode
-steps-history [] x puts l = refl
-steps-history (s ∷ steps) x puts l =
-    steps-history steps (afterInCode s x) (toldInCode s puts) (l .1)
-    ∙ ap (λ (y : Run). history (eventsOf steps) (y .machine) (toldInCode s puts)) (step-next s x (l .0))
-    ∙ ap (history (eventsOf steps) (after (x .machine) (eventOf s))) (step-told s x puts (l .0))
+steps-history [] x t l = refl
+steps-history (s ∷ steps) x t l =
+    steps-history steps (afterInCode s x) (toldInCode s x t) (l .1)
+    ∙ ap₂ (history (eventsOf steps)) (step-next s x (l .0)) (step-told s x t (l .0))
 
 -- The machine that a format of the code got, and what it made of it.
 unfoldable got : Observed → Machine
@@ -151,20 +148,20 @@ module _ (o : Observed) (s : Sizes) (f : Formats o s) where
       ap (λ (r : Result). record { machine = record { core = r .core; world = r .world }; reference = blank s }) formats-as-machine
 
 -- What holds of each run of the machine, and of what it put, holds of each trace of the code.
-pub each-trace : (P : List Put → Run → Type 0)
+pub each-trace : (P : Told → Run → Type 0)
     → ((m : Machine) (s : Sizes) (budget : ℕ) → outcome m (format s budget) ≡ taken
     → (events : List Event) → allowedAll events (formatted m s budget .machine) ≡ true
-    → P (history events (formatted m s budget .machine) []) (follow events (formatted m s budget)))
+    → P (history events (formatted m s budget) nothingTold) (follow events (formatted m s budget)))
     → (o : Observed) (s : Sizes) → Formats o s → (steps : List EventInCode) → AllowedAllInCode steps (formattedInCode o s)
-    → P (historyInCode steps []) (followInCode steps (formattedInCode o s))
+    → P (historyInCode steps (formattedInCode o s) nothingTold) (followInCode steps (formattedInCode o s))
 each-trace P runs o s f steps l =
     let start = formats-begins o s f in
     let events = eventsOf steps in
     let allows = subst (λ (x : Run). allowedAll events (x .machine) ≡ true) start (steps-allowed steps (formattedInCode o s) l) in
-    let puts = steps-history steps (formattedInCode o s) [] l ∙ ap (λ (x : Run). history events (x .machine) []) start in
+    let puts = steps-history steps (formattedInCode o s) nothingTold l ∙ ap (λ (x : Run). history events x nothingTold) start in
     let ends = steps-follow steps (formattedInCode o s) l ∙ ap (follow events) start in
-    subst (λ (x : Run). P (historyInCode steps []) x) (sym ends)
-    (subst (λ (l : List Put). P l (follow events (formatted (got o) s (f .budget)))) (sym puts)
+    subst (P (historyInCode steps (formattedInCode o s) nothingTold)) (sym ends)
+    (subst (λ (t : Told). P t (follow events (formatted (got o) s (f .budget)))) (sym puts)
     (runs (got o) s (f .budget) (formats-taken o s f) events allows))
 
 -- So what always holds of the machine always holds of the code.

@@ -4,16 +4,14 @@ use mathlib.Core.List.{List, [], _∷_, _++_}
 use mathlib.Core.Bool.{true}
 use Prim.Native.Nat.{ℕ, _<_}
 use Rattle.model.specs.declared.Core.{Core}
+use Rattle.model.specs.Anchor.{sizesOn}
 use Rattle.model.specs.World.{World}
 use Rattle.model.specs.Refusal.{Result, numberOf}
-use Rattle.model.specs.Causes.{whenServing}
 use Rattle.model.specs.Restart.{remaining}
-use Rattle.model.specs.Image.{imageOf}
 use Rattle.model.specs.Call.{Call, restartBegin, restartStep, restartEnd}
 use Rattle.model.specs.Reference.{outcomeOf, Reference, hear}
 use Rattle.model.specs.Machine.{Machine, result, outcome, Run}
-use Rattle.model.specs.History.{recordsOn}
-use Rattle.model.specs.Promise.{Always, PowerLoss, RestartAccepted, RestartFinishes, LogKept, StateTrue, NeverMalformed, ClosingFits, Stored, LogOf}
+use Rattle.model.specs.Promise.{Always, PowerLoss, RestartAccepted, RestartFinishes, LogKept, StateTrue, NeverMalformed, ClosingFits, LogOf}
 use Rattle.model.specs.Trace.{Observed, seen, EventInCode, callInCode, On, afterInCode, followInCode, AllowedAllInCode, formattedInCode, AlwaysInCode, PowerLossInCode, EachRestartEnd, RestartAcceptedInCode, RestartFinishesInCode, LogKeptInCode, StateTrueInCode, NeverMalformedInCode, ClosingFitsInCode}
 use Rattle.model.proofs.PowerLoss.{power-loss, restart-accepted, log-kept, state-true, never-malformed}
 use Rattle.model.proofs.Finish.{restart-finishes}
@@ -112,7 +110,4 @@ closing-fits-in-code = in-code _ closing-fits
 pub log-kept-in-code : LogKeptInCode
 unfolding LogKeptInCode LogKept
 log-kept-in-code =
-    each-trace (λ put x.
-    ((disk : ℕ) → disk < imageOf (x .machine .world) .sizes .disks → Stored (imageOf (x .machine .world)) disk (recordsOn disk put))
-    × (whenServing (x .machine .core .stage) ≡ true → (disk : ℕ) → disk < x .machine .core .sizes .disks
-    → LogOf (x .machine) disk (recordsOn disk put))) log-kept
+    each-trace (λ t x. (disk : ℕ) → disk < sizesOn (x .machine .world .anchor) .disks → LogOf (x .machine) t disk) log-kept
