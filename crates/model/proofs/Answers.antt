@@ -28,7 +28,7 @@ use Rattle.model.specs.Restart.{restartBeginRows, restartStepRows, resta
 use Rattle.model.specs.Call.{Call, format, begin, update, read, commit, abort, checkpointBegin, checkpointStep, checkpointEnd, restartBegin, restartStep, restartEnd, newState, rowsOf, resultOf}
 use Rattle.model.specs.Reference.{Reference, taken, outcomeOf}
 use Rattle.model.specs.Machine.{Machine, Event, result, outcome, isRefused, follow, allowedAll, formatted}
-use Rattle.model.specs.History.{Put}
+use Rattle.model.specs.History.{Told, nothingTold}
 use Rattle.model.specs.Promise.{Always}
 use Rattle.model.specs.Answers.{stagesOf, isFormat, ClosingTaken, OwnSlices}
 use Rattle.model.proofs.Booleans.{true-false}
@@ -53,17 +53,17 @@ record Right (c : Core) (w : World) : Type 0 where
   aborts : whenServing (c .stage) ≡ true → (number : ℕ) → abortFault c w number ≡ NoFault
 
 -- the slices have the lengths that the state's sizes give
-right-lengths : {puts : List Put} {m : Machine} {r : Reference} → Holding puts m r → whenShut (m .core .stage) ≡ false
+right-lengths : {puts : Told} {m : Machine} {r : Reference} → Holding puts m r → whenShut (m .core .stage) ≡ false
     → lengthsRight (m .core .sizes) (m .world) ≡ true
 right-lengths (shut s k n) e = true-false (ap whenShut s) e
-right-lengths (replaying p k n) e = rw (p .sizes) (k .sound .lengths)
+right-lengths (replaying p k n _) e = rw (p .sizes) (k .sound .lengths)
 right-lengths (serving g) e = g .serving .safe .devices .lengths
 
 reached : (m : Machine) (s : Sizes) (budget : ℕ) → outcome m (format s budget) ≡ taken → (es : List Event)
     → allowedAll es (formatted m s budget .machine) ≡ true
     → Right (follow es (formatted m s budget) .machine .core) (follow es (formatted m s budget) .machine .world)
 reached m s budget formats es a =
-    let h = follow-holds es [] (formatted m s budget) (format-holds m s budget formats) a in
+    let h = follow-holds es nothingTold (formatted m s budget) (format-holds m s budget formats) a in
     record {
       sound = sound-after m s budget formats es .1;
       restarts = holding-kept h .sound;

@@ -18,8 +18,8 @@ use Rattle.model.specs.Record.{Record, change, close, encode, encodeAll}
 use Rattle.model.specs.Decode.{span, decodeAt, decoded}
 use Rattle.model.specs.Scan.{item, scan, placed, fateIn}
 use Rattle.model.specs.World.{World}
-use Rattle.model.specs.State.{startOf, tailOf}
-use Rattle.model.specs.Restart.{positionOf, remaining, readDisk, fateFrom, nextRecord, withReplay, movedTo, recordStep, backupStep, restartBeginTask, restartStepTask}
+use Rattle.model.specs.State.{withReplay, startOf, tailOf}
+use Rattle.model.specs.Restart.{positionOf, remaining, readDisk, fateFrom, nextRecord, movedTo, recordStep, backupStep, restartBeginTask, restartStepTask}
 use Rattle.model.specs.History.{Told}
 use Rattle.model.specs.Promise.{Stored, Replayed}
 use Rattle.model.proofs.Decode.{found-change, found-close}
