@@ -68,7 +68,7 @@ reached m s budget formats es a =
       sound = sound-after m s budget formats es .1;
       restarts = holding-kept h .sound;
       lengths = right-lengths h;
-      replays = λ e. replayed h e .0;
+      replays = λ e. replayed h e .progress;
       aborts = λ e. abort-never-bad (served h e);
     }
 
