@@ -11,7 +11,7 @@ ghost use mathlib.Core.Path.{_≡_};
 ghost use Rattle.model.specs.World.{worldOf};
 ghost use Rattle.model.specs.Refusal.{verdict};
 ghost use Rattle.model.specs.Transaction.{readRows, readWords};
-ghost use Rattle.model.specs.Call.{read, Gives};
+ghost use Rattle.model.specs.Call.{read, look, Gives};
 ghost use Rattle.frame.specs.Checks.{verdictOf};
 
 // The number that a read is refused with, 0 if it is taken.
@@ -57,7 +57,7 @@ pub fn read_answer(
     logs: &[u64],
     work: &[u64],
 ) -> Answer
-    ensures { λ r. ⌜ Gives (read reader page slot) core (worldOf (now (anchor .entry)) (now (pages .entry)) (now (backups .entry)) (now (logs .entry)) (now (work .entry))) (record { answer = r; core = core }) 0 (worldOf (now (anchor .entry)) (now (pages .entry)) (now (backups .entry)) (now (logs .entry)) (now (work .entry))) ⌝ }
+    ensures { λ r. ⌜ Gives (look (read reader page slot)) core (worldOf (now (anchor .entry)) (now (pages .entry)) (now (backups .entry)) (now (logs .entry)) (now (work .entry))) (record { answer = r; core = core }) 0 (worldOf (now (anchor .entry)) (now (pages .entry)) (now (backups .entry)) (now (logs .entry)) (now (work .entry))) ⌝ }
 {
     let number = read_refusal(core, reader, page, slot, anchor, pages, backups, logs, work);
     if number != 0 {

@@ -6,7 +6,7 @@ use lib.Bits.{bitXor}
 use Rattle.model.specs.declared.Core.{Core}
 use Rattle.model.specs.World.{World}
 use Rattle.model.specs.Refusal.{Result}
-use Rattle.model.specs.Call.{begin, update, read, commit, abort, checkpointBegin, checkpointStep, checkpointEnd, resultOf}
+use Rattle.model.specs.Call.{begin, update, read, commit, abort, checkpointBegin, checkpointStep, checkpointEnd, look, resultOf}
 use Rattle.lines.specs.declared.command.Command.{Command}
 use Rattle.lines.specs.declared.command.Command.the-variants.{Begin, Set, Commit, Abort, Get, Mark, Copy, Close, Restart, Other}
 use Rattle.commands.specs.declared.outcome.Outcome.{Outcome}
@@ -36,7 +36,7 @@ lineOf (Set number page slot value) c w =
     showing (bitXor (slotWord c w number page slot) value) (resultOf (update number page slot (value ∷ []) 18446744073709551615) c w)
 lineOf (Commit number allowance) c w = showing 0 (resultOf (commit number allowance) c w)
 lineOf (Abort number) c w = showing 0 (resultOf (abort number 18446744073709551615) c w)
-lineOf (Get page slot) c w = showing (slotWord c w 0 page slot) (resultOf (read 0 page slot) c w)
+lineOf (Get page slot) c w = showing (slotWord c w 0 page slot) (resultOf (look (read 0 page slot)) c w)
 lineOf Mark c w = showing 0 (resultOf checkpointBegin c w)
 lineOf Copy c w = showing 0 (resultOf (checkpointStep 18446744073709551615) c w)
 lineOf Close c w = showing 0 (resultOf (checkpointEnd 18446744073709551615) c w)

@@ -25,7 +25,7 @@ use Rattle.model.specs.Transaction.{beginRows, updateRows, readRows, com
 use Rattle.model.specs.Abort.{abortFault, abortRows}
 use Rattle.model.specs.Checkpoint.{checkpointBeginRows, checkpointStepRows, checkpointEndRows}
 use Rattle.model.specs.Restart.{restartBeginRows, restartStepRows, restartEndRows}
-use Rattle.model.specs.Call.{Call, format, begin, update, read, commit, abort, checkpointBegin, checkpointStep, checkpointEnd, restartBegin, restartStep, restartEnd, newState, rowsOf, resultOf}
+use Rattle.model.specs.Call.{Call, format, begin, update, look, read, commit, abort, checkpointBegin, checkpointStep, checkpointEnd, restartBegin, restartStep, restartEnd, newState, rowsOf, resultOf}
 use Rattle.model.specs.Reference.{Reference, taken, outcomeOf}
 use Rattle.model.specs.Machine.{Machine, Event, result, outcome, isRefused, follow, allowedAll, formatted}
 use Rattle.model.specs.History.{Told, nothingTold}
@@ -114,7 +114,7 @@ module _ (c : Core) (w : World) (right : Right c w) where
   late-rows begin other stage = record { rest = _; late = refl; same = first-three c w right whenServing refl stage _ }
   late-rows (update number page slot value budget) other stage =
       record { rest = _; late = refl; same = first-three c w right whenServing refl stage _ }
-  late-rows (read reader page slot) other stage = record { rest = _; late = refl; same = first-three c w right whenServing refl stage _ }
+  late-rows (look (read reader page slot)) other stage = record { rest = _; late = refl; same = first-three c w right whenServing refl stage _ }
   late-rows (commit number budget) other stage = record { rest = _; late = refl; same = first-three c w right whenServing refl stage _ }
   late-rows (abort number budget) other stage =
       record {

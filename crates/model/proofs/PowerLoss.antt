@@ -7,13 +7,15 @@ use lib.ListN.{length}
 use lib.Dec.{eqb}
 use borrow.Author.Tests.{eqb-true}
 use Rattle.model.specs.declared.Sizes.{Sizes}
+use Rattle.model.specs.declared.Core.{Core}
 use Rattle.model.specs.declared.Answer.{Answer}
 use Rattle.model.specs.declared.Answer.the-variants.{Finished, Refused, Interrupted}
+use Rattle.model.specs.World.{World}
 use Rattle.model.specs.Anchor.{sizesOn}
 use Rattle.model.specs.Causes.{whenShut, whenReplaying, whenServing}
 use Rattle.model.specs.Restart.{restartEndRows}
 use Rattle.model.specs.Call.{Call, format, restartEnd, resultOf}
-use Rattle.model.specs.Reference.{Reference, taken, refused, outcomeOf, hear, heard, wordsIn}
+use Rattle.model.specs.Reference.{Reference, taken, refused, outcomeOf, hear, heardOf, wordsIn}
 use Rattle.model.specs.Machine.{Machine, Event, call, lent, scramble, result, outcome, isRefused, allowed, after, referred, Run, follow, allowedAll, formatted}
 use Rattle.model.specs.Promise.{Always, PowerLoss, RestartAccepted, Table, LogOf, LogKept, StateTrue, NeverMalformed}
 use Rattle.model.specs.History.{Told, nothingTold, told, history}
@@ -31,17 +33,18 @@ use Rattle.model.proofs.Store.Truth.{buffered, truth}
 use Rattle.model.proofs.Store.AbortRows.{abort-never-bad}
 
 -- what the reference hears of a refused call changes nothing
-heard-refused : (k : Call) (a : Answer) (r : Reference) → isRefused (outcomeOf a) ≡ true → hear (heard k a) r ≡ r
+heard-refused : (k : Call) (c : Core) (w : World) (a : Answer) (r : Reference) → isRefused (outcomeOf a) ≡ true
+    → hear (heardOf k c w a) r ≡ r
 unfolding hear
-heard-refused k (Finished n v) r e = true-false e refl
-heard-refused k (Refused n x y) r e = refl
-heard-refused k (Interrupted n) r e = true-false e refl
+heard-refused k c w (Finished n v) r e = true-false e refl
+heard-refused k c w (Refused n x y) r e = refl
+heard-refused k c w (Interrupted n) r e = true-false e refl
 
 -- every allowed event keeps what holds
 pub step-event : (e : Event) (puts : Told) (m : Machine) (r : Reference) → Holding puts m r → allowed m e ≡ true
     → Holding (told (record { machine = m; reference = r }) e puts) (after m e) (referred m e r)
 step-event (call k) puts m r h a = step-call k puts m r h a
-step-event (lent k w) puts m r h a = rw (heard-refused k (resultOf k (m .core) w .answer) r a) h
+step-event (lent k w) puts m r h a = rw (heard-refused k (m .core) w (resultOf k (m .core) w .answer) r a) h
 step-event (scramble pages work) puts m r h a =
     let one = eqb (length pages) (length (m .world .pages)) in
     let two = eqb (length work) (length (m .world .work)) in

@@ -20,7 +20,7 @@ use Rattle.model.specs.Transaction.{beginRows, updateRows, readRows, com
 use Rattle.model.specs.Abort.{abortRows}
 use Rattle.model.specs.Checkpoint.{checkpointBeginRows, checkpointStepRows, checkpointEndRows}
 use Rattle.model.specs.Restart.{imageRows, restartBeginRows, restartStepRows, restartEndRows}
-use Rattle.model.specs.Call.{Call, format, begin, update, read, commit, abort, checkpointBegin, checkpointStep, checkpointEnd, restartBegin, restartStep, restartEnd, newState, rowsOf, taskOf, budgetOf}
+use Rattle.model.specs.Call.{Call, format, begin, update, look, read, commit, abort, checkpointBegin, checkpointStep, checkpointEnd, restartBegin, restartStep, restartEnd, newState, rowsOf, taskOf, budgetOf}
 use Rattle.model.specs.Reference.{taken, refused, interrupted}
 use Rattle.model.specs.Answers.{outcomeNumbered, faultOf, Returns, Returned, RowNumbers}
 use Rattle.model.proofs.Booleans.{true-false, both, all-four, in-range}
@@ -103,7 +103,7 @@ unfolding within plain allPlain formatRows beginRows updateRows readRows commitR
 rows-return (format s budget) c w = plain-rows (format s budget) c w _ refl
 rows-return begin c w = plain-rows begin c w _ refl
 rows-return (update number page slot value budget) c w = plain-rows (update number page slot value budget) c w _ refl
-rows-return (read reader page slot) c w = plain-rows (read reader page slot) c w _ refl
+rows-return (look (read reader page slot)) c w = plain-rows (look (read reader page slot)) c w _ refl
 rows-return (commit number budget) c w = plain-rows (commit number budget) c w _ refl
 rows-return (abort number budget) c w =
     let k : Call = abort number budget in

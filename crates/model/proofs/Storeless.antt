@@ -13,18 +13,18 @@ use Rattle.model.specs.Sizes.{pageBase, slotBase}
 use Rattle.model.specs.Decode.{span}
 use Rattle.model.specs.World.{World, Action, pages, stores, finishes}
 use Rattle.model.specs.Refusal.{Task, Verdict, accepted, rejected, verdict, conclude}
-use Rattle.model.specs.Transaction.{beginTask, readTask}
+use Rattle.model.specs.Transaction.{beginTask}
 use Rattle.model.specs.Abort.{xorIn}
 use Rattle.model.specs.Checkpoint.{checkpointBeginTask}
 use Rattle.model.specs.Restart.{replays, positionOf, readDisk, fateFrom, backupStep, recordStep, nextRecord, restartBeginTask, restartStepTask}
-use Rattle.model.specs.Call.{Call, format, begin, update, read, commit, abort, checkpointBegin, checkpointStep, checkpointEnd, restartBegin, restartStep, restartEnd, newState, rowsOf, taskOf, budgetOf, resultOf}
+use Rattle.model.specs.Call.{Call, format, begin, update, look, commit, abort, checkpointBegin, checkpointStep, checkpointEnd, restartBegin, restartStep, restartEnd, newState, rowsOf, taskOf, budgetOf, resultOf, lookTask}
 use Rattle.model.proofs.Run.{stores-written}
 
 abbrev pub storesNothing : Call → Bool
 storesNothing (format s budget) = false
 storesNothing begin = true
 storesNothing (update number page slot value budget) = false
-storesNothing (read reader page slot) = true
+storesNothing (look q) = true
 storesNothing (commit number budget) = false
 storesNothing (abort number budget) = false
 storesNothing checkpointBegin = true
@@ -63,11 +63,11 @@ step-stores c w source = go (ltb source (c .sizes .disks))
     go false = xor-stores (pageBase (c .sizes) (c .replay .page)) _ (w .pages)
 
 pub nothing-stored : (k : Call) (c : Core) (w : World) → storesNothing k ≡ true → stores (taskOf k c w .actions) ≡ 0
-unfolding stores beginTask readTask checkpointBeginTask restartBeginTask
+unfolding stores beginTask lookTask checkpointBeginTask restartBeginTask
 nothing-stored (format s budget) c w h = absurd (false≢true h)
 nothing-stored begin c w h = refl
 nothing-stored (update number page slot value budget) c w h = absurd (false≢true h)
-nothing-stored (read reader page slot) c w h = refl
+nothing-stored (look q) c w h = refl
 nothing-stored (commit number budget) c w h = absurd (false≢true h)
 nothing-stored (abort number budget) c w h = absurd (false≢true h)
 nothing-stored checkpointBegin c w h = refl

@@ -19,7 +19,7 @@ use Rattle.model.specs.Abort.{abortFault, abortRows}
 use Rattle.model.specs.Anchor.{sizesOn}
 use Rattle.model.specs.Checkpoint.{checkpointBeginRows, checkpointStepRows, checkpointEndRows}
 use Rattle.model.specs.Restart.{imageRows, restartBeginRows, stepFault, restartStepRows, restartEndRows}
-use Rattle.model.specs.Call.{Call, format, begin, update, read, commit, abort, checkpointBegin, checkpointStep, checkpointEnd, restartBegin, restartStep, restartEnd, newState, rowsOf, taskOf, budgetOf, resultOf}
+use Rattle.model.specs.Call.{Call, format, begin, update, look, read, commit, abort, checkpointBegin, checkpointStep, checkpointEnd, restartBegin, restartStep, restartEnd, newState, rowsOf, taskOf, budgetOf, resultOf}
 use Rattle.model.proofs.Members.{Every, every-nil, every-cons}
 use Rattle.model.proofs.Run.{made-le}
 
@@ -98,7 +98,7 @@ unfolding ascending ascendingFrom formatRows beginRows updateRows readRows commi
 rows-ascend (format s budget) c w = refl
 rows-ascend begin c w = refl
 rows-ascend (update number page slot value budget) c w = refl
-rows-ascend (read reader page slot) c w = refl
+rows-ascend (look (read reader page slot)) c w = refl
 rows-ascend (commit number budget) c w = refl
 rows-ascend (abort number budget) c w = rw (fault-number (abortFault c w number))
 rows-ascend checkpointBegin c w = refl

@@ -19,7 +19,7 @@ use Rattle.model.specs.Refusal.{Row, numberOf, storesOf, firstOf, second
 use Rattle.model.specs.Causes.{whenShut, whenReplaying, whenOpen, whenCopying, whenServing, stageForbids, wrongTail, faultFrom}
 use Rattle.model.specs.Abort.{abortFault}
 use Rattle.model.specs.Restart.{stepFault}
-use Rattle.model.specs.Call.{Call, format, begin, update, read, commit, abort, checkpointBegin, checkpointStep, checkpointEnd, restartBegin, restartStep, restartEnd, newState, rowsOf, taskOf, budgetOf, resultOf}
+use Rattle.model.specs.Call.{Call, format, begin, update, Look, look, read, commit, abort, checkpointBegin, checkpointStep, checkpointEnd, restartBegin, restartStep, restartEnd, newState, rowsOf, taskOf, budgetOf, resultOf}
 use Rattle.model.specs.Reference.{Outcome, taken, refused, interrupted, outcomeOf}
 use Rattle.model.specs.Machine.{Machine, result, outcome, isRefused}
 use Rattle.model.specs.Promise.{Always}
@@ -27,11 +27,14 @@ use Rattle.model.specs.Promise.{Always}
 -- The stages that a call is for: "Format (shut)", "Begin (open, copying, as the next four)", "Checkpoint begin (open)", "Checkpoint
 -- step (copying)", "Checkpoint end (copying)", "Restart begin (shut)", "Restart step (replaying)", "Restart end (replaying)". A new
 -- state is handed out in every stage.
+abbrev pub stagesOfLook : Look → Stage → Bool
+stagesOfLook (read reader page slot) stage = whenServing stage
+
 abbrev pub stagesOf : Call → Stage → Bool
 stagesOf (format s budget) stage = whenShut stage
 stagesOf begin stage = whenServing stage
 stagesOf (update number page slot value budget) stage = whenServing stage
-stagesOf (read reader page slot) stage = whenServing stage
+stagesOf (look q) stage = stagesOfLook q stage
 stagesOf (commit number budget) stage = whenServing stage
 stagesOf (abort number budget) stage = whenServing stage
 stagesOf checkpointBegin stage = whenOpen stage
@@ -46,7 +49,7 @@ abbrev pub isFormat : Call → Bool
 isFormat (format s budget) = true
 isFormat begin = false
 isFormat (update number page slot value budget) = false
-isFormat (read reader page slot) = false
+isFormat (look q) = false
 isFormat (commit number budget) = false
 isFormat (abort number budget) = false
 isFormat checkpointBegin = false
@@ -107,7 +110,7 @@ faultOf (abort number budget) c w = abortFault c w number
 faultOf (format s budget) c w = NoFault
 faultOf begin c w = NoFault
 faultOf (update number page slot value budget) c w = NoFault
-faultOf (read reader page slot) c w = NoFault
+faultOf (look q) c w = NoFault
 faultOf (commit number budget) c w = NoFault
 faultOf checkpointBegin c w = NoFault
 faultOf (checkpointStep budget) c w = NoFault

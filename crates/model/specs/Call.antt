@@ -8,11 +8,15 @@ use Rattle.model.specs.declared.Reply.{Reply}
 use Rattle.model.specs.World.{World}
 use Rattle.model.specs.State.{newCore}
 use Rattle.model.specs.Refusal.{Row, Task, Result, verdict, conclude}
-use Rattle.model.specs.Transaction.{beginRows, beginTask, updateRows, updateTask, readRows, readTask, commitRows, commitTask}
+use Rattle.model.specs.Transaction.{beginRows, beginTask, updateRows, updateTask, readRows, commitRows, commitTask}
 use Rattle.model.specs.Abort.{abortRows, abortTask}
 use Rattle.model.specs.Format.{formatRows, formatTask}
 use Rattle.model.specs.Checkpoint.{checkpointBeginRows, checkpointBeginTask, checkpointStepRows, checkpointStepTask, checkpointEndRows, checkpointEndTask}
 use Rattle.model.specs.Restart.{restartBeginRows, restartBeginTask, restartStepRows, restartStepTask, restartEndRows, restartEndTask}
+
+-- Calls that only look: they hand back the state that they got, change no word and store nothing.
+pub data Look : Type 0 where
+  read : (reader page slot : ℕ) → Look
 
 -- "Each storing call takes an allowance": here its budget, the last argument. "Only these calls, and one that hands out a new state, make
 -- a state."
@@ -20,7 +24,6 @@ pub data Call : Type 0 where
   format : Sizes → (budget : ℕ) → Call
   begin : Call
   update : (number page slot : ℕ) → List ℕ → (budget : ℕ) → Call
-  read : (reader page slot : ℕ) → Call
   commit : (number budget : ℕ) → Call
   abort : (number budget : ℕ) → Call
   checkpointBegin : Call
@@ -30,6 +33,13 @@ pub data Call : Type 0 where
   restartStep : (source : ℕ) → Call
   restartEnd : (budget : ℕ) → Call
   newState : Call
+  look : Look → Call
+
+abbrev pub lookRows : Look → Core → World → List Row
+lookRows (read reader page slot) c w = readRows c w reader page slot
+
+unfoldable pub lookTask : Core → Task
+lookTask c = record { actions = []; core = c; value = 0 }
 
 -- The rows of "Turned away" that a call checks. "Format checks 1, 2, 4 (of the sizes handed to it), 5 and 16; restart begin 1 to 7 and
 -- 13; the rest 1, 2, 5 and, where the cause can arise, 7 to 16, working with the sizes, c, starts and ends their state holds." Row 16 is
@@ -38,7 +48,7 @@ abbrev pub rowsOf : Call → Core → World → List Row
 rowsOf (format s budget) c w = formatRows c w s
 rowsOf begin c w = beginRows c w
 rowsOf (update number page slot value budget) c w = updateRows c w number page slot value
-rowsOf (read reader page slot) c w = readRows c w reader page slot
+rowsOf (look q) c w = lookRows q c w
 rowsOf (commit number budget) c w = commitRows c w number
 rowsOf (abort number budget) c w = abortRows c w number
 rowsOf checkpointBegin c w = checkpointBeginRows c w
@@ -54,7 +64,7 @@ abbrev pub taskOf : Call → Core → World → Task
 taskOf (format s budget) c w = formatTask s
 taskOf begin c w = beginTask c w
 taskOf (update number page slot value budget) c w = updateTask c w number page slot value
-taskOf (read reader page slot) c w = readTask c w reader page slot
+taskOf (look q) c w = lookTask c
 taskOf (commit number budget) c w = commitTask c w number
 taskOf (abort number budget) c w = abortTask c w number
 taskOf checkpointBegin c w = checkpointBeginTask c w
@@ -70,7 +80,7 @@ abbrev pub budgetOf : Call → ℕ
 budgetOf (format s budget) = budget
 budgetOf begin = 0
 budgetOf (update number page slot value budget) = budget
-budgetOf (read reader page slot) = 0
+budgetOf (look q) = 0
 budgetOf (commit number budget) = budget
 budgetOf (abort number budget) = budget
 budgetOf checkpointBegin = 0

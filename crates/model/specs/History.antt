@@ -12,7 +12,7 @@ use Rattle.model.specs.Memory.{copyOf}
 use Rattle.model.specs.Causes.{tailOn}
 use Rattle.model.specs.Transaction.{diskOf, updateRecord}
 use Rattle.model.specs.Abort.{updatesLeft}
-use Rattle.model.specs.Call.{Call, format, begin, update, read, commit, abort, checkpointBegin, checkpointStep, checkpointEnd, restartBegin, restartStep, restartEnd, newState}
+use Rattle.model.specs.Call.{Call, format, begin, update, look, commit, abort, checkpointBegin, checkpointStep, checkpointEnd, restartBegin, restartStep, restartEnd, newState}
 use Rattle.model.specs.Reference.{Outcome, taken, refused, interrupted}
 use Rattle.model.specs.Machine.{Event, call, lent, scramble, outcome, after, referred, Run}
 
@@ -47,7 +47,7 @@ putBy (abort number budget) x t =
     ++ record { disk = diskOf (x .machine .core) number; content = close abortKind number } ∷ []
 putBy (format s budget) x t = []
 putBy begin x t = []
-putBy (read reader page slot) x t = []
+putBy (look q) x t = []
 putBy checkpointBegin x t = []
 putBy (checkpointStep budget) x t = []
 putBy (checkpointEnd budget) x t = []
@@ -64,7 +64,7 @@ emptied (format s budget) x t = nothingTold
 emptied newState x t = t
 emptied begin x t = t
 emptied (update number page slot value budget) x t = t
-emptied (read reader page slot) x t = t
+emptied (look q) x t = t
 emptied (commit number budget) x t = t
 emptied (abort number budget) x t = t
 emptied checkpointBegin x t = t

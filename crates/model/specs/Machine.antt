@@ -9,8 +9,8 @@ use Rattle.model.specs.declared.Core.{Core}
 use Rattle.model.specs.World.{World}
 use Rattle.model.specs.Refusal.{Result}
 use Rattle.model.specs.Causes.{whenShut}
-use Rattle.model.specs.Call.{Call, format, begin, update, read, commit, abort, checkpointBegin, checkpointStep, checkpointEnd, restartBegin, restartStep, restartEnd, newState, resultOf}
-use Rattle.model.specs.Reference.{Outcome, taken, refused, interrupted, outcomeOf, Reference, blank, heard, hear}
+use Rattle.model.specs.Call.{Call, format, begin, update, look, commit, abort, checkpointBegin, checkpointStep, checkpointEnd, restartBegin, restartStep, restartEnd, newState, resultOf}
+use Rattle.model.specs.Reference.{Outcome, taken, refused, interrupted, outcomeOf, Reference, blank, heardOf, hear}
 
 -- The state, and the devices and memory that go with it.
 pub record Machine : Type 0 where
@@ -44,7 +44,7 @@ abbrev pub allowedCall : Machine → Call → Bool
 allowedCall m (format s budget) = isRefused (outcome m (format s budget))
 allowedCall m begin = true
 allowedCall m (update number page slot value budget) = true
-allowedCall m (read reader page slot) = true
+allowedCall m (look q) = true
 allowedCall m (commit number budget) = true
 allowedCall m (abort number budget) = true
 allowedCall m checkpointBegin = true
@@ -72,8 +72,8 @@ after m (scramble pages work) = record { core = m .core; world = scrambled (m .w
 
 -- the reference after it: it hears of calls alone
 abbrev pub referred : Machine → Event → Reference → Reference
-referred m (call k) r = hear (heard k (result m k .answer)) r
-referred m (lent k w) r = hear (heard k (resultOf k (m .core) w .answer)) r
+referred m (call k) r = hear (heardOf k (m .core) (m .world) (result m k .answer)) r
+referred m (lent k w) r = hear (heardOf k (m .core) w (resultOf k (m .core) w .answer)) r
 referred m (scramble pages work) r = r
 
 -- A machine with the reference beside it.

@@ -21,7 +21,7 @@ use Rattle.model.specs.Causes.{whenServing, tailOn, retained, locked}
 use Rattle.model.specs.Append.{storeLog}
 use Rattle.model.specs.Transaction.{diskOf, readWords, commitRows, commitTask}
 use Rattle.model.specs.Restart.{positionOf, remaining, readDisk, fateFrom, nextRecord}
-use Rattle.model.specs.Call.{Call, format, read, restartBegin, restartStep, restartEnd}
+use Rattle.model.specs.Call.{Call, format, look, read, restartBegin, restartStep, restartEnd}
 use Rattle.model.specs.Image.{Image, retainedWords, imageOf, logOf, restarted}
 use Rattle.model.specs.Reference.{Reference, taken, slotIndex, wordsIn, plainTable, hasSet, writtenByOther}
 use Rattle.model.specs.Machine.{Machine, Event, call, outcome, result, after, follow, allowedAll, formatted, afterSteps}
@@ -73,7 +73,7 @@ RestartFinishes = Always λ m r. m .core .stage ≡ Replaying → Finishable m
 pub record PlainTable (m : Machine) (r : Reference) : Type 0 where
   pub sizes : r .sizes ≡ m .core .sizes
   pub pages : m .world .pages ≡ wordsIn (plainTable r)
-  pub reads : (reader page slot : ℕ) → outcome m (read reader page slot) ≡ taken
+  pub reads : (reader page slot : ℕ) → outcome m (look (read reader page slot)) ≡ taken
       → readWords (m .core) (m .world) reader page slot ≡ getD (plainTable r) (slotIndex (r .sizes) page slot) []
   pub opened : (number : ℕ) → isOpen (m .core .table) number ≡ hasSet number (r .writeSets)
   pub locks : (number page slot : ℕ) → page < m .core .sizes .pages → slot < slotsIn (m .core .sizes) page

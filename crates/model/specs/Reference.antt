@@ -5,11 +5,13 @@ use mathlib.Core.Bool.{Bool, true, false, cond, not, _&&_, _||_}
 use lib.ListN.{set, replicate}
 use lib.Dec.{eqb}
 use Rattle.model.specs.declared.Sizes.{Sizes}
+use Rattle.model.specs.declared.Core.{Core}
 use Rattle.model.specs.declared.Answer.{Answer}
 use Rattle.model.specs.declared.Answer.the-variants.{Finished, Refused, Interrupted}
 use Rattle.model.specs.Below.{sumBelow, joinBelow}
 use Rattle.model.specs.Sizes.{slotsIn, widthIn}
-use Rattle.model.specs.Call.{Call, format, begin, update, read, commit, abort, checkpointBegin, checkpointStep, checkpointEnd, restartBegin, restartStep, restartEnd, newState}
+use Rattle.model.specs.World.{World}
+use Rattle.model.specs.Call.{Call, format, begin, update, look, commit, abort, checkpointBegin, checkpointStep, checkpointEnd, restartBegin, restartStep, restartEnd, newState}
 
 -- An entry: page, slot and value.
 pub record Write : Type 0 where
@@ -50,7 +52,7 @@ abbrev pub isBegin : Call → Bool
 isBegin begin = true
 isBegin (format s budget) = false
 isBegin (update number page slot value budget) = false
-isBegin (read reader page slot) = false
+isBegin (look q) = false
 isBegin (commit number budget) = false
 isBegin (abort number budget) = false
 isBegin checkpointBegin = false
@@ -66,8 +68,9 @@ answered (Finished count value) = value
 answered (Refused number first second) = 0
 answered (Interrupted count) = 0
 
-abbrev pub heard : Call → Answer → Heard
-heard call a = record { call = call; outcome = outcomeOf a; number = cond (isBegin call) (answered a) 0 }
+-- of the state and the words, nothing; they stand here for a request that feeds it the disks that a call's stores went to
+abbrev pub heardOf : Call → Core → World → Answer → Heard
+heardOf call c w a = record { call = call; outcome = outcomeOf a; number = cond (isBegin call) (answered a) 0 }
 
 -- "all zero after format"
 unfoldable pub blank : Sizes → Reference
@@ -122,7 +125,7 @@ afterTaken (abort number budget) n r = withSets r (removed number (r .writeSets)
 -- "Any call cut, or a new state: all sheets go, the results stay."
 afterTaken newState n r = withSets r []
 -- "Any other call, and every refused one: nothing."
-afterTaken (read reader page slot) n r = r
+afterTaken (look q) n r = r
 afterTaken checkpointBegin n r = r
 afterTaken (checkpointStep budget) n r = r
 afterTaken (checkpointEnd budget) n r = r

@@ -18,8 +18,8 @@ use Rattle.model.specs.Refusal.{numberOf}
 use Rattle.model.specs.Causes.{whenServing, tailOn}
 use Rattle.model.specs.Transaction.{diskOf, readWords}
 use Rattle.model.specs.Restart.{remaining}
-use Rattle.model.specs.Call.{Call, format, update, read, commit, restartBegin, restartStep, restartEnd, Gives}
-use Rattle.model.specs.Reference.{Outcome, taken, refused, interrupted, outcomeOf, Reference, blank, heard, hear, slotIndex, wordsIn, plainTable, writtenByOther}
+use Rattle.model.specs.Call.{Call, format, update, look, read, commit, restartBegin, restartStep, restartEnd, Gives}
+use Rattle.model.specs.Reference.{Outcome, taken, refused, interrupted, outcomeOf, Reference, blank, heardOf, hear, slotIndex, wordsIn, plainTable, writtenByOther}
 use Rattle.model.specs.Machine.{Machine, isRefused, scrambled, Run}
 use Rattle.model.specs.History.{Told, nothingTold, toldBy}
 use Rattle.model.specs.Promise.{PlainTable, LogOf, Truth, Closable}
@@ -89,12 +89,12 @@ abbrev pub afterInCode : EventInCode → Run → Run
 afterInCode (callInCode o) x =
     record {
       machine = record { core = o .reply .core; world = o .exit };
-      reference = hear (heard (o .call) (o .reply .answer)) (x .reference);
+      reference = hear (heardOf (o .call) (o .core) (o .entry) (o .reply .answer)) (x .reference);
     }
 afterInCode (lentInCode o) x =
     record {
       machine = record { core = o .reply .core; world = x .machine .world };
-      reference = hear (heard (o .call) (o .reply .answer)) (x .reference);
+      reference = hear (heardOf (o .call) (o .core) (o .entry) (o .reply .answer)) (x .reference);
     }
 afterInCode (scrambleInCode pages work) x =
     record {
@@ -177,10 +177,10 @@ pub record Guarded (r : Reference) (o : Observed) (number page slot : ℕ) : Typ
 -- taken gives the slot's value there. `words` are what that read hands back, by its contract.
 pub record PlainTableInCode (m : Machine) (r : Reference) : Type 0 where
   pub table : PlainTable m r
-  pub reads : (o : Observed) (reader page slot : ℕ) (words : List ℕ) → o .call ≡ read reader page slot → On m o → seen o ≡ taken
+  pub reads : (o : Observed) (reader page slot : ℕ) (words : List ℕ) → o .call ≡ look (read reader page slot) → On m o → seen o ≡ taken
       → words ≡ readWords (o .core) (o .entry) reader page slot
       → words ≡ getD (plainTable r) (slotIndex (r .sizes) page slot) []
-  pub readLocks : (o : Observed) (reader page slot : ℕ) → o .call ≡ read reader page slot → On m o → Guarded r o reader page slot
+  pub readLocks : (o : Observed) (reader page slot : ℕ) → o .call ≡ look (read reader page slot) → On m o → Guarded r o reader page slot
   pub updateLocks : (o : Observed) (number page slot : ℕ) (value : List ℕ) (budget : ℕ)
       → o .call ≡ update number page slot value budget → On m o → Guarded r o number page slot
 

@@ -87,15 +87,13 @@ readRows c w reader page slot =
     row 1 (stageForbids whenServing c) ∷ row 2 (anchorWrong w) ∷ row 5 (lengthsWrong (c .sizes) w)
     ∷ row 8 (slotMissing (c .sizes) page slot) ∷ row 9 (readerNotOpen c reader) ∷ row 11 (locked c w reader page slot) ∷ []
 
-unfoldable pub readTask : Core → World → ℕ → ℕ → ℕ → Task
-readTask c w reader page slot = record { actions = []; core = c; value = 0 }
-
-abbrev pub wordsIf : Verdict → List ℕ → List ℕ
-wordsIf accepted words = words
-wordsIf (rejected number first second) words = []
+-- what a place for words holds after a call that fills it: these words, and where the call is refused what it held before
+abbrev pub filled : Verdict → (words before : List ℕ) → List ℕ
+filled accepted words before = words
+filled (rejected number first second) words before = before
 
 unfoldable pub readWords : Core → World → ℕ → ℕ → ℕ → List ℕ
-readWords c w reader page slot = wordsIf (verdict (readRows c w reader page slot)) (slotWords c w page slot)
+readWords c w reader page slot = filled (verdict (readRows c w reader page slot)) (slotWords c w page slot) []
 
 -- Commit: "closing record, flush, slots released". A slot is released when its owner leaves the table.
 unfoldable pub commitRows : Core → World → ℕ → List Row

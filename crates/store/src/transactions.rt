@@ -9,7 +9,7 @@ ghost use mathlib.Core.Bool.{true};
 ghost use Rattle.model.specs.World.{worldOf};
 ghost use Rattle.model.specs.State.{sound};
 ghost use Rattle.model.specs.Transaction.{readWords};
-ghost use Rattle.model.specs.Call.{begin, update, read, commit, abort, Gives};
+ghost use Rattle.model.specs.Call.{begin, update, read, commit, abort, look, Gives};
 
 // Answers the transaction's number.
 pub fn begin(
@@ -101,7 +101,7 @@ pub fn read_answer(
     logs: &[u64],
     work: &[u64],
 ) -> Answer
-    ensures { λ r. ⌜ Gives (read reader page slot) (state .core) (worldOf (now (anchor .entry)) (now (pages .entry)) (now (backups .entry)) (now (logs .entry)) (now (work .entry))) (record { answer = r; core = state .core }) 0 (worldOf (now (anchor .entry)) (now (pages .entry)) (now (backups .entry)) (now (logs .entry)) (now (work .entry))) ⌝ }
+    ensures { λ r. ⌜ Gives (look (read reader page slot)) (state .core) (worldOf (now (anchor .entry)) (now (pages .entry)) (now (backups .entry)) (now (logs .entry)) (now (work .entry))) (record { answer = r; core = state .core }) 0 (worldOf (now (anchor .entry)) (now (pages .entry)) (now (backups .entry)) (now (logs .entry)) (now (work .entry))) ⌝ }
 {
     access::read::read_answer(
         state.core,

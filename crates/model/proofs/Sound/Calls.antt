@@ -6,8 +6,7 @@ use Rattle.model.specs.declared.Core.{Core}
 use Rattle.model.specs.World.{World}
 use Rattle.model.specs.State.{newCore, sound}
 use Rattle.model.specs.Refusal.{Result, accepted, verdict}
-use Rattle.model.specs.Transaction.{readRows, readTask}
-use Rattle.model.specs.Call.{Call, format, begin, update, read, commit, abort, checkpointBegin, checkpointStep, checkpointEnd, restartBegin, restartStep, restartEnd, newState, rowsOf, taskOf, resultOf}
+use Rattle.model.specs.Call.{Call, format, begin, update, look, lookTask, commit, abort, checkpointBegin, checkpointStep, checkpointEnd, restartBegin, restartStep, restartEnd, newState, rowsOf, taskOf, resultOf}
 use Rattle.model.proofs.Store.Cases.{call-cases}
 use Rattle.model.proofs.Store.Rows.{serving-row}
 use Rattle.model.proofs.Sound.Test.{Sized, Passing}
@@ -30,33 +29,32 @@ new-passes = (
   refl,
 )
 
-read-passes : (c : Core) (w : World) (reader page slot : ℕ) → Sized c → verdict (readRows c w reader page slot) ≡ accepted
-    → Passing (readTask c w reader page slot .core)
-unfolding readRows readTask
-read-passes c w reader page slot sized ok = (sized, serving-row c (row-passed _ _ ok .0) .1)
+look-passes : (c : Core) → Sized c → sound c ≡ true → Passing (lookTask c .core)
+unfolding lookTask
+look-passes c sized s = (sized, s)
 
 -- a call that is accepted
-pub taken-passes : (k : Call) (c : Core) (w : World) → Sized c → verdict (rowsOf k c w) ≡ accepted → Passing (taskOf k c w .core)
-taken-passes (format s budget) c w sized ok = format-passes c w s ok
-taken-passes begin c w sized ok = begin-passes c w sized ok
-taken-passes (update number page slot value budget) c w sized ok = update-passes c w number page slot value sized ok
-taken-passes (read reader page slot) c w sized ok = read-passes c w reader page slot sized ok
-taken-passes (commit number budget) c w sized ok = commit-passes c w number sized ok
-taken-passes (abort number budget) c w sized ok = abort-passes c w number sized ok
-taken-passes checkpointBegin c w sized ok = checkpoint-begin-passes c w sized ok
-taken-passes (checkpointStep budget) c w sized ok = checkpoint-step-passes c w sized ok
-taken-passes (checkpointEnd budget) c w sized ok = checkpoint-end-passes c w sized ok
-taken-passes restartBegin c w sized ok = restart-begin-passes c w ok
-taken-passes (restartStep source) c w sized ok = restart-step-passes c w source sized ok
-taken-passes (restartEnd budget) c w sized ok = restart-end-passes c w sized ok
-taken-passes newState c w sized ok = new-passes
+pub taken-passes : (k : Call) (c : Core) (w : World) → Sized c → sound c ≡ true → verdict (rowsOf k c w) ≡ accepted → Passing (taskOf k c w .core)
+taken-passes (format z budget) c w sized s ok = format-passes c w z ok
+taken-passes begin c w sized s ok = begin-passes c w sized ok
+taken-passes (update number page slot value budget) c w sized s ok = update-passes c w number page slot value sized ok
+taken-passes (look q) c w sized s ok = look-passes c sized s
+taken-passes (commit number budget) c w sized s ok = commit-passes c w number sized ok
+taken-passes (abort number budget) c w sized s ok = abort-passes c w number sized ok
+taken-passes checkpointBegin c w sized s ok = checkpoint-begin-passes c w sized ok
+taken-passes (checkpointStep budget) c w sized s ok = checkpoint-step-passes c w sized ok
+taken-passes (checkpointEnd budget) c w sized s ok = checkpoint-end-passes c w sized ok
+taken-passes restartBegin c w sized s ok = restart-begin-passes c w ok
+taken-passes (restartStep source) c w sized s ok = restart-step-passes c w source sized ok
+taken-passes (restartEnd budget) c w sized s ok = restart-end-passes c w sized ok
+taken-passes newState c w sized s ok = new-passes
 
-pub sized-kept : (k : Call) (c : Core) (w : World) → Sized c → Sized (resultOf k c w .core)
-sized-kept k c w sized =
-    call-cases (λ (r : Result). Sized (r .core)) k c w (λ number first second v. sized) (λ v f. taken-passes k c w sized v .0)
+pub sized-kept : (k : Call) (c : Core) (w : World) → Sized c → sound c ≡ true → Sized (resultOf k c w .core)
+sized-kept k c w sized s =
+    call-cases (λ (r : Result). Sized (r .core)) k c w (λ number first second v. sized) (λ v f. taken-passes k c w sized s v .0)
     (λ v f. new-passes .0)
 
 pub sound-kept : (k : Call) (c : Core) (w : World) → Sized c → sound c ≡ true → sound (resultOf k c w .core) ≡ true
 sound-kept k c w sized s =
-    call-cases (λ (r : Result). sound (r .core) ≡ true) k c w (λ number first second v. s) (λ v f. taken-passes k c w sized v .1)
+    call-cases (λ (r : Result). sound (r .core) ≡ true) k c w (λ number first second v. s) (λ v f. taken-passes k c w sized s v .1)
     (λ v f. new-passes .1)

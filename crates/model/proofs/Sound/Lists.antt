@@ -31,7 +31,7 @@ use Rattle.model.proofs.Store.Accepted.{open-entry, commit-accepted, ab
 -- an event, allowed or not
 pub event-passes : (m : Machine) (e : Event) → Passing (m .core) → Passing (after m e .core)
 unfolding result
-event-passes m (call k) p = (sized-kept k (m .core) (m .world) (p .0), sound-kept k (m .core) (m .world) (p .0) (p .1))
+event-passes m (call k) p = (sized-kept k (m .core) (m .world) (p .0) (p .1), sound-kept k (m .core) (m .world) (p .0) (p .1))
 event-passes m (lent k w) p = p
 event-passes m (scramble pages work) p = p
 

@@ -18,7 +18,7 @@ use Rattle.model.specs.Transaction.{beginRows, updateRows, readRows, com
 use Rattle.model.specs.Abort.{abortRows}
 use Rattle.model.specs.Checkpoint.{checkpointBeginRows, checkpointStepRows, checkpointEndRows}
 use Rattle.model.specs.Restart.{restartBeginRows, restartStepRows, restartEndRows}
-use Rattle.model.specs.Call.{Call, format, begin, update, read, commit, abort, checkpointBegin, checkpointStep, checkpointEnd, restartBegin, restartStep, restartEnd, newState, rowsOf, resultOf}
+use Rattle.model.specs.Call.{Call, format, begin, update, look, read, commit, abort, checkpointBegin, checkpointStep, checkpointEnd, restartBegin, restartStep, restartEnd, newState, rowsOf, resultOf}
 use Rattle.model.specs.Reference.{taken}
 use Rattle.model.specs.Machine.{Machine, Event, call, lent, scramble, result, outcome, after, Run, follow, formatted}
 use Rattle.model.specs.Promise.{Always}
@@ -33,7 +33,7 @@ pub made-passes : {c : Core} → Made c → Passing c
 made-passes new = new-passes
 made-passes (by k w {c} made) =
     let p = made-passes made in
-    (sized-kept k c w (p .0), sound-kept k c w (p .0) (p .1))
+    (sized-kept k c w (p .0) (p .1), sound-kept k c w (p .0) (p .1))
 
 -- row 1 of a state that passes the test
 stage-alone : (allowed : Stage → Bool) (c : Core) → sound c ≡ true → stageForbids allowed c ≡ not (allowed (c .stage))
@@ -72,7 +72,7 @@ unfolding resultOf verdict finishes stores formatRows beginRows updateRows readR
 stage-answers (format s budget) c w ok = stage-first (format s budget) c w _ refl ok
 stage-answers begin c w ok = stage-first begin c w _ refl ok
 stage-answers (update number page slot value budget) c w ok = stage-first (update number page slot value budget) c w _ refl ok
-stage-answers (read reader page slot) c w ok = stage-first (read reader page slot) c w _ refl ok
+stage-answers (look (read reader page slot)) c w ok = stage-first (look (read reader page slot)) c w _ refl ok
 stage-answers (commit number budget) c w ok = stage-first (commit number budget) c w _ refl ok
 stage-answers (abort number budget) c w ok = stage-first (abort number budget) c w _ refl ok
 stage-answers checkpointBegin c w ok = stage-first checkpointBegin c w _ refl ok

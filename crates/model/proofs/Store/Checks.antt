@@ -27,7 +27,7 @@ use Rattle.model.specs.Transaction.{beginRows, updateRows, readRows, com
 use Rattle.model.specs.Abort.{abortFault, abortRows}
 use Rattle.model.specs.Checkpoint.{checkpointBeginRows, checkpointStepRows, checkpointEndRows}
 use Rattle.model.specs.Restart.{imageRows, restartBeginRows, positionOf, remaining, readDisk, fateFrom, nextRecord, fateFault, recordFault, stepFault, restartStepRows, restartEndRows}
-use Rattle.model.specs.Call.{Call, format, begin, update, read, commit, abort, checkpointBegin, checkpointStep, checkpointEnd, restartBegin, restartStep, restartEnd, newState, rowsOf, resultOf}
+use Rattle.model.specs.Call.{Call, format, begin, update, look, read, commit, abort, checkpointBegin, checkpointStep, checkpointEnd, restartBegin, restartStep, restartEnd, newState, rowsOf, resultOf}
 use Rattle.model.proofs.Below.{first-none}
 use Rattle.model.proofs.Storeless.{storeless-finishes}
 use Rattle.model.proofs.Scan.{scan-bad}
@@ -203,7 +203,7 @@ never-seven (format s budget) c w shut replaying serving e = true≢false (sym (
 never-seven begin c w shut replaying serving e = true≢false (sym (seven-row begin c w e))
 never-seven (update number page slot value budget) c w shut replaying serving e =
     true≢false (sym (seven-row (update number page slot value budget) c w e))
-never-seven (read reader page slot) c w shut replaying serving e = true≢false (sym (seven-row (read reader page slot) c w e))
+never-seven (look (read reader page slot)) c w shut replaying serving e = true≢false (sym (seven-row (look (read reader page slot)) c w e))
 never-seven (commit number budget) c w shut replaying serving e = true≢false (sym (seven-row (commit number budget) c w e))
 never-seven (abort number budget) c w shut replaying serving e =
     stage-first (abort number budget) c w whenServing _ refl (λ s. rw (serving s number)) e

@@ -10,7 +10,7 @@ use Rattle.model.specs.World.{World, perform, run, finishes}
 use Rattle.model.specs.State.{newCore}
 use Rattle.model.specs.Refusal.{Result, Task, verdict, accepted}
 use Rattle.model.specs.Call.{Call, rowsOf, taskOf, budgetOf}
-use Rattle.model.specs.Reference.{Reference, WriteSet, withSets, taken, outcomeOf, isBegin, afterTaken, heard, hear}
+use Rattle.model.specs.Reference.{Reference, WriteSet, withSets, taken, outcomeOf, isBegin, afterTaken, heardOf, hear}
 use Rattle.model.specs.Machine.{Machine, call, result, outcome, after, referred, Run}
 use Rattle.model.specs.History.{Told, also, putBy, toldBy, told}
 use Rattle.model.specs.Promise.{Stored, Replayed}
@@ -57,7 +57,7 @@ module _ (k : Call) (puts : Told) (m : Machine) (r : Reference) where
       → Holding (told x (call k) puts) (after m (call k)) (referred m (call k) r)
   unfolding result outcome hear newCore
   call-keeps h done cut =
-      call-cases (λ (y : Result). Holding (toldBy (outcomeOf (y .answer)) k x puts) (record { core = y .core; world = y .world }) (hear (heard k (y .answer)) r))
+      call-cases (λ (y : Result). Holding (toldBy (outcomeOf (y .answer)) k x puts) (record { core = y .core; world = y .world }) (hear (heardOf k (m .core) (m .world) (y .answer)) r))
       k (m .core) (m .world)
       (λ number first second v. h)
       (λ v f. rw (finished-run (budgetOf k) (task .actions) (m .world) f) (done v f))

@@ -19,7 +19,7 @@ use Rattle.model.specs.Refusal.{verdict, accepted}
 use Rattle.model.specs.Causes.{locked, slotMissing}
 use Rattle.model.specs.Transaction.{readRows, readWords, slotWords}
 use Rattle.model.specs.Reference.{Reference, Write, WriteSet, writesOf, plainTable, writesSlot, writtenByOther, slotIndex, wordsIn, hasSet}
-use Rattle.model.specs.Call.{read}
+use Rattle.model.specs.Call.{look, read}
 use Rattle.model.specs.Machine.{Machine, outcome, result}
 use Rattle.model.specs.History.{Told}
 use Rattle.model.specs.Promise.{PlainTable}
@@ -165,7 +165,7 @@ plain m r g =
     record {
       sizes = g .serving .safe .sizes;
       pages = pages-plain (g .serving);
-      reads = λ reader page slot o. read-value (g .serving) reader page slot (taken-call (read reader page slot) (m .core) (m .world) o .accepted);
+      reads = λ reader page slot o. read-value (g .serving) reader page slot (taken-call (look (read reader page slot)) (m .core) (m .world) o .accepted);
       opened = g .serving .sets .has;
       locks = λ number page slot p q. locked-written (g .serving) page slot p q number;
     }

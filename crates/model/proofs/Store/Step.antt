@@ -13,12 +13,12 @@ use Rattle.model.specs.World.{World, perform, finishes}
 use Rattle.model.specs.State.{newCore}
 use Rattle.model.specs.Refusal.{Row, row, verdict, accepted}
 use Rattle.model.specs.Causes.{whenShut, whenReplaying, whenOpen, whenCopying, whenServing, stageForbids, tailOn, retained}
-use Rattle.model.specs.Transaction.{beginRows, beginTask, updateRows, readTask, commitRows}
+use Rattle.model.specs.Transaction.{beginRows, beginTask, updateRows, commitRows}
 use Rattle.model.specs.Abort.{abortRows}
 use Rattle.model.specs.Checkpoint.{checkpointBeginRows, checkpointBeginTask, checkpointStepRows, checkpointEndRows}
 use Rattle.model.specs.Restart.{restartBeginRows, restartStepRows, restartEndRows}
 use Rattle.model.specs.Image.{retainedWords}
-use Rattle.model.specs.Call.{Call, format, begin, update, read, commit, abort, checkpointBegin, checkpointStep, checkpointEnd, restartBegin, restartStep, restartEnd, newState, rowsOf, taskOf, budgetOf, resultOf}
+use Rattle.model.specs.Call.{Call, format, begin, update, Look, look, lookTask, commit, abort, checkpointBegin, checkpointStep, checkpointEnd, restartBegin, restartStep, restartEnd, newState, rowsOf, taskOf, budgetOf, resultOf}
 use Rattle.model.specs.Reference.{Reference, taken, outcomeOf}
 use Rattle.model.specs.Machine.{Machine, call, result, outcome, isRefused, after, referred, allowedCall}
 use Rattle.model.specs.History.{Told, also, told}
@@ -135,10 +135,9 @@ module _ (puts : Told) (m : Machine) (r : Reference) (h : Holding puts m r) wher
       (λ v f. puts-none (serving (begin-serves (served h (row-one whenServing (m .core) _ v)) v)))
       (λ v f. never-cut begin m refl f)
 
-  step-read : (reader page slot : ℕ) → Holding (told (runAt (m .core) (m .world) r) (call (read reader page slot)) puts) (after m (call (read reader page slot))) (referred m (call (read reader page slot)) r)
-  unfolding readTask perform
-  step-read reader page slot =
-      call-keeps (read reader page slot) puts m r h (λ v f. puts-none h) (λ v f. never-cut (read reader page slot) m refl f)
+  step-look : (q : Look) → Holding (told (runAt (m .core) (m .world) r) (call (look q)) puts) (after m (call (look q))) (referred m (call (look q)) r)
+  unfolding lookTask perform
+  step-look q = call-keeps (look q) puts m r h (λ v f. puts-none h) (λ v f. never-cut (look q) m refl f)
 
   step-update : (number page slot : ℕ) (value : List ℕ) (budget : ℕ)
       → Holding (told (runAt (m .core) (m .world) r) (call (update number page slot value budget)) puts) (after m (call (update number page slot value budget))) (referred m (call (update number page slot value budget)) r)
@@ -249,7 +248,7 @@ pub step-call : (k : Call) (puts : Told) (m : Machine) (r : Reference) → Holdi
 step-call (format s budget) puts m r h e = step-format puts m r h s budget e
 step-call begin puts m r h e = step-begin puts m r h
 step-call (update number page slot value budget) puts m r h e = step-update puts m r h number page slot value budget
-step-call (read reader page slot) puts m r h e = step-read puts m r h reader page slot
+step-call (look q) puts m r h e = step-look puts m r h q
 step-call (commit number budget) puts m r h e = step-commit puts m r h number budget
 step-call (abort number budget) puts m r h e = step-abort puts m r h number budget
 step-call checkpointBegin puts m r h e = step-checkpoint-begin puts m r h

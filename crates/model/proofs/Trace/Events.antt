@@ -12,8 +12,8 @@ use Rattle.model.specs.declared.Answer.{Answer}
 use Rattle.model.specs.declared.Answer.the-variants.{Finished, Refused, Interrupted}
 use Rattle.model.specs.World.{World}
 use Rattle.model.specs.Refusal.{Result}
-use Rattle.model.specs.Call.{Call, format, begin, update, read, commit, abort, checkpointBegin, checkpointStep, checkpointEnd, restartBegin, restartStep, restartEnd, newState, resultOf, Gives}
-use Rattle.model.specs.Reference.{taken, refused, outcomeOf, Reference, blank, heard, hear}
+use Rattle.model.specs.Call.{Call, format, begin, update, look, commit, abort, checkpointBegin, checkpointStep, checkpointEnd, restartBegin, restartStep, restartEnd, newState, resultOf, Gives}
+use Rattle.model.specs.Reference.{taken, refused, outcomeOf, Reference, blank, heardOf, hear}
 use Rattle.model.specs.Machine.{Machine, Event, call, lent, scramble, result, outcome, isRefused, allowedCall, allowed, after, referred, Run, follow, allowedAll, formatted}
 use Rattle.model.specs.History.{Told, nothingTold, told, history}
 use Rattle.model.specs.Promise.{Always}
@@ -66,7 +66,7 @@ allowed-call : (m : Machine) (k : Call) → ((s : Sizes) (budget : ℕ) → k �
 allowed-call m (format s budget) f = ap isRefused (f s budget refl)
 allowed-call m begin f = refl
 allowed-call m (update number page slot value budget) f = refl
-allowed-call m (read reader page slot) f = refl
+allowed-call m (look q) f = refl
 allowed-call m (commit number budget) f = refl
 allowed-call m (abort number budget) f = refl
 allowed-call m checkpointBegin f = refl
@@ -92,7 +92,7 @@ unfolding eventOf
 step-next (callInCode o) x h =
     ap (λ (r : Result). record {
       machine = record { core = r .core; world = r .world };
-      reference = hear (heard (o .call) (r .answer)) (x .reference);
+      reference = hear (heardOf (o .call) (o .core) (o .entry) (r .answer)) (x .reference);
     }) (as-machine (x .machine) o (h .0))
 step-next (lentInCode o) x h =
     rw (turned-away o (h .contract) (h .turned) .0 ∙ h .core, sym (as-elsewhere (x .machine) o h))

@@ -10,7 +10,7 @@ use Rattle.model.specs.World.{World}
 use Rattle.model.specs.Refusal.{row, rejected, Result, numberOf}
 use Rattle.model.specs.Causes.{slotMissing, locked}
 use Rattle.model.specs.Transaction.{updateRows, readRows, readWords}
-use Rattle.model.specs.Call.{Call, update, read, rowsOf, resultOf}
+use Rattle.model.specs.Call.{Call, update, look, read, rowsOf, resultOf}
 use Rattle.model.specs.Reference.{outcomeOf, Reference, writtenByOther}
 use Rattle.model.specs.Machine.{Machine, result, outcome, isRefused}
 use Rattle.model.specs.Promise.{PlainTable, Table}
@@ -83,9 +83,9 @@ table-in-code =
       reads = λ o reader page slot words is on took e.
           e ∙ ap (λ (c : Core). readWords c (o .entry) reader page slot) (on .core)
           ∙ ap (λ (w : World). readWords (m .core) w reader page slot) (on .entry)
-          ∙ t .reads reader page slot (sym (gave-outcome m o (read reader page slot) is on) ∙ took);
+          ∙ t .reads reader page slot (sym (gave-outcome m o (look (read reader page slot)) is on) ∙ took);
       readLocks = λ o reader page slot is on.
-          guards m r t reader page slot (read reader page slot) (List·Memᴰ·tail (List·Memᴰ·tail (List·Memᴰ·tail (List·Memᴰ·head refl))))
+          guards m r t reader page slot (look (read reader page slot)) (List·Memᴰ·tail (List·Memᴰ·tail (List·Memᴰ·tail (List·Memᴰ·head refl))))
           (List·Memᴰ·tail (List·Memᴰ·tail (List·Memᴰ·tail (List·Memᴰ·tail (List·Memᴰ·tail (List·Memᴰ·head refl))))))
           (only-one (locked (m .core) (m .world) reader page slot)) o is on;
       updateLocks = λ o number page slot value budget is on.

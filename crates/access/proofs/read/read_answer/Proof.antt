@@ -3,8 +3,7 @@ use mathlib.Core.Path.{refl, _∙_}
 use native.Mathlib.Omega.{arith}
 use borrow.Author.Tests.{eq-eqb, ne-eqb}
 use Rattle.model.specs.World.{worldOf}
-use Rattle.model.specs.Transaction.{readTask}
-use Rattle.model.specs.Call.{read}
+use Rattle.model.specs.Call.{read, look, lookTask}
 use Rattle.frame.proofs.Verdicts.{refusal-given, task-given, task-storeless}
 use borrow.Author.Needs.{needs}
 use Rattle.access.proofs.read.read_answer.Statement.{statement}
@@ -17,17 +16,17 @@ returns : tie.Need-returns
 returns c =
     let x = c .before .before .before .before .before .before .before .args in
     let w = (worldOf (x .anchor .now) (x .pages .now) (x .backups .now) (x .logs .now) (x .work .now)) in
-    refusal-given (read (x .reader) (x .page) (x .slot)) (x .core) w (c .before .read-refusal .result) 0 0
+    refusal-given (look (read (x .reader) (x .page) (x .slot))) (x .core) w (c .before .read-refusal .result) 0 0
     (c .before .read-refusal .ensures ∙ rw (ne-eqb (c .before .read-refusal .result) 0 (c .if1 .taken)) refl)
 
 returns-2 : tie.Need-returns-2
-unfolding readTask
+unfolding lookTask
 returns-2 c =
     let x = c .before .before .before .before .before .before .before .args in
     let w = (worldOf (x .anchor .now) (x .pages .now) (x .backups .now) (x .logs .now) (x .work .now)) in
-    task-given (read (x .reader) (x .page) (x .slot)) (x .core) w w 0 _
+    task-given (look (read (x .reader) (x .page) (x .slot))) (x .core) w w 0 _
     (c .before .read-refusal .ensures ∙ rw (eq-eqb (c .before .read-refusal .result) 0 (omega (arith, c .if1 .left))) refl)
-    (task-storeless (readTask (x .core) w (x .reader) (x .page) (x .slot)) w refl)
+    (task-storeless (lookTask (x .core)) w refl)
 
 pub read-answer-spec : {M : Type 1} → statement M
 read-answer-spec = tie.close (tie.spec read-refusal-requires returns returns-2)
