@@ -29,7 +29,8 @@ use Rattle.model.proofs.Store.Steady.{kept-devices}
 use Rattle.model.proofs.Store.Checks.{shut-stage, restart-begin-answers, never-seven}
 use Rattle.model.proofs.Store.PlainTable.{plain}
 use Rattle.model.proofs.Store.Crash.{stored}
-use Rattle.model.proofs.Store.Truth.{buffered, truth}
+use Rattle.model.proofs.Store.Buffered.{buffered}
+use Rattle.model.proofs.Store.Truth.{truth}
 use Rattle.model.proofs.Store.AbortRows.{abort-never-bad}
 
 -- what the reference hears of a refused call changes nothing
@@ -117,13 +118,13 @@ log-holds {m = m} (replaying p k l n) d below =
     record {
       stored = l d below .stored;
       serving = λ e. true-false (sym (ap whenServing (p .stage)) ∙ e) refl;
-      replaying = λ e. l d below .replayed;
+      replaying = λ e. l d below .steps;
     }
 log-holds {puts} {m} {r} (serving g) d below =
     let inside = rw (g .serving .safe .devices .sizes) at below in
     record {
       stored = stored (g .serving .safe) d inside puts (g .serving .told d inside);
-      serving = λ e. buffered m r g d inside;
+      serving = λ e. buffered (g .serving) d inside;
       replaying = λ e. true-false (sym (ap whenServing e) ∙ g .serving .stage) refl;
     }
 

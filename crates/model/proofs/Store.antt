@@ -23,7 +23,10 @@ pub mod Anchor
 pub mod Fresh
 pub mod Format
 pub mod End
--- Transactions.
+-- Transactions: the plain table, and what they put.
+pub mod PlainTable
+pub mod Left
+pub mod Told
 pub mod BeginTable
 pub mod Begin
 pub mod UpdateRoom
@@ -37,7 +40,6 @@ pub mod Put
 pub mod Compensation
 pub mod Compensate
 pub mod Undo
-pub mod Left
 pub mod CloseAbort
 pub mod Abort
 pub mod AbortRows
@@ -46,11 +48,12 @@ pub mod Page
 pub mod Copy
 pub mod FlushAll
 pub mod Starts
+pub mod Later
 pub mod NewStarts
 pub mod Switch
 pub mod CheckpointEnd
 -- All of them.
-pub mod PlainTable
 pub mod Truth
+pub mod Buffered
 pub mod Holding
 pub mod Step

@@ -20,12 +20,13 @@ use Rattle.model.specs.Refusal.{numberOf, verdict, accepted}
 use Rattle.model.specs.Causes.{whenServing, tailOn, retained, locked}
 use Rattle.model.specs.Append.{storeLog}
 use Rattle.model.specs.Transaction.{diskOf, readWords, commitRows, commitTask}
+use Rattle.model.specs.Abort.{abortScan, updatesLeft}
 use Rattle.model.specs.Restart.{positionOf, remaining, readDisk, fateFrom, nextRecord}
 use Rattle.model.specs.Call.{Call, format, look, read, restartBegin, restartStep, restartEnd}
 use Rattle.model.specs.Image.{Image, retainedWords, imageOf, logOf, restarted}
 use Rattle.model.specs.Reference.{Reference, taken, slotIndex, wordsIn, plainTable, hasSet, writtenByOther}
 use Rattle.model.specs.Machine.{Machine, Event, call, outcome, result, after, follow, allowedAll, formatted, afterSteps}
-use Rattle.model.specs.History.{Told, nothingTold, history, recordsOn}
+use Rattle.model.specs.History.{Told, nothingTold, history, recordsOn, updatesPut}
 
 -- P holds of every machine and reference that is reached so: format any machine, and let the format finish. Then let any events
 -- happen: calls taken, refused or cut at any store, also inside a restart, whichever sources its steps name in whichever order;
@@ -82,11 +83,11 @@ pub record PlainTable (m : Machine) (r : Reference) : Type 0 where
 unfoldable pub Table : Type 0
 Table = Always λ m r. whenServing (m .core .stage) ≡ true → PlainTable m r
 
--- The log. Each disk holds the records that the calls put there (specs/History.antt: an update's difference is before XOR after,
--- 000's definition 1), "and the log's reader finds the records that its writer put there, and no others". In every stage, so also
--- after lost power: of the records put on a disk since its log began, the words from the start to the tail are those of a stretch, the
--- start lies behind the words of those before it, and restart begin and the pages' definition read that stretch, each record at its
--- position.
+-- The log: "The log's reader finds the records that its writer put there, and no others." What the calls put is told in
+-- specs/History.antt. In every stage, so also after lost power: of the records put on a disk since its log began, some are old, then
+-- comes a stretch that is kept, then the rest. The start lies behind the words of the old ones and the tail behind those of the stretch,
+-- whose words stand between; and the reader of restart begin (`finds`), as the one that the restarted pages are defined by (`reads`),
+-- finds the stretch, each record at its position, and no others. The rest is in the buffer, or lost with it.
 pub record Stored (t : Told) (w : World) (disk : ℕ) : Type 0 where
   pub old : List Record
   pub kept : List Record
@@ -98,20 +99,33 @@ pub record Stored (t : Told) (w : World) (disk : ℕ) : Type 0 where
   pub finds : retained (sizesOn (w .anchor)) w disk ≡ placed (startOn (w .anchor) disk) kept
   pub reads : logOf (imageOf w) disk ≡ placed (startOn (w .anchor) disk) kept
 
--- While the store is open or copying nothing is lost: what comes after the stretch is in the buffer, and the log from the start to
--- the end, the buffer included, reads as all records put since the start.
+-- the log from the start to the end, the buffer included
 unfoldable pub logScan : Core → World → ℕ → Scan
 logScan c w disk =
     scan (c .sizes) (readLog (c .sizes) (w .logs) disk (tailOf (c .logs) disk) (bufferOf (c .sizes) (w .work) disk (fillOf (c .logs) disk)))
     (endOf (c .logs) disk) (startOf (c .logs) disk)
 
-pub record Buffered (c : Core) (w : World) (disk : ℕ) (kept rest : List Record) : Type 0 where
+-- An abort reads the records from its transaction's first on, and no others.
+pub record AbortReads (c : Core) (w : World) (disk number : ℕ) (records : List Record) : Type 0 where
+  pub before : List Record
+  pub from : List Record
+  pub parts : records ≡ before ++ from
+  pub first : firstAt (c .table) (placeOf (c .table) number) ≡ startOf (c .logs) disk + length (encodeAll before)
+  pub reads : abortScan c w number ≡ placed (firstAt (c .table) (placeOf (c .table) number)) from
+
+-- While the store is open or copying nothing is lost: the rest is in the buffer, and the log from the start to the end reads as all
+-- records put since the start. What an abort takes back are the updates that were put under its number.
+pub record Buffered (t : Told) (c : Core) (w : World) (disk : ℕ) (kept rest : List Record) : Type 0 where
   pub buffer : bufferOf (c .sizes) (w .work) disk (fillOf (c .logs) disk) ≡ encodeAll rest
   pub reads : logScan c w disk ≡ placed (startOf (c .logs) disk) (kept ++ rest)
+  pub aborts : (number : ℕ) → isOpen (c .table) number ≡ true → diskOf c number ≡ disk
+      → hasUpdate (c .table) (placeOf (c .table) number) ≡ true → AbortReads c w disk number (kept ++ rest)
+  pub undoes : (number : ℕ) → isOpen (c .table) number ≡ true → diskOf c number ≡ disk → updatesLeft c w number ≡ updatesPut t disk number
 
--- While it replays, the steps have taken the first records of the stretch and the others are left: from its position on the log step's
--- reader reads these, the record that it takes next is the first of them, with its difference, and its search ahead is in those after it.
-pub record Replayed (c : Core) (w : World) (disk : ℕ) (kept : List Record) : Type 0 where
+-- While it replays, the steps have taken the first records of the stretch and the others are left. From its position on a log step's
+-- reader finds these and no others: the record that the step takes is the first of them, with its difference, and it looks for a
+-- closing record among those after it.
+pub record StepReads (c : Core) (w : World) (disk : ℕ) (kept : List Record) : Type 0 where
   pub done : List Record
   pub left : List Record
   pub parts : kept ≡ done ++ left
@@ -126,8 +140,8 @@ pub record Replayed (c : Core) (w : World) (disk : ℕ) (kept : List Record) : T
 
 pub record LogOf (m : Machine) (t : Told) (disk : ℕ) : Type 0 where
   pub stored : Stored t (m .world) disk
-  pub serving : whenServing (m .core .stage) ≡ true → Buffered (m .core) (m .world) disk (stored .kept) (stored .rest)
-  pub replaying : m .core .stage ≡ Replaying → Replayed (m .core) (m .world) disk (stored .kept)
+  pub serving : whenServing (m .core .stage) ≡ true → Buffered t (m .core) (m .world) disk (stored .kept) (stored .rest)
+  pub replaying : m .core .stage ≡ Replaying → StepReads (m .core) (m .world) disk (stored .kept)
 
 unfoldable pub LogKept : Type 0
 LogKept =

@@ -21,7 +21,7 @@ use Rattle.model.specs.World.{World}
 use Rattle.model.specs.State.{withReplay, startOf, tailOf}
 use Rattle.model.specs.Restart.{positionOf, remaining, readDisk, fateFrom, nextRecord, movedTo, recordStep, backupStep, restartBeginTask, restartStepTask}
 use Rattle.model.specs.History.{Told}
-use Rattle.model.specs.Promise.{Stored, Replayed}
+use Rattle.model.specs.Promise.{Stored, StepReads}
 use Rattle.model.proofs.Decode.{found-change, found-close}
 use Rattle.model.proofs.Scan.{scan-change, scan-close, scan-bad}
 use Rattle.model.proofs.Reading.{Reads, scan-reads}
@@ -88,7 +88,7 @@ module _ (s : Sizes) (read : ℕ → ℕ) (stop p : ℕ) where
 module _ (c now : Core) {w v : World} (sizes : now .sizes ≡ c .sizes) (logs : now .logs ≡ c .logs) (devices : SameDevices v w) (d : ℕ) where
   pub replayed-at : {kept : List Record} (done left : List Record) (q : ℕ) → kept ≡ done ++ left → positionOf now d ≡ q
       → q ≡ startOn (w .anchor) d + length (encodeAll done) → scan (c .sizes) (readDisk c w d) (tailOf (c .logs) d) q ≡ placed q left
-      → Replayed now v d kept
+      → StepReads now v d kept
   unfolding readDisk fateFrom nextRecord positionOf
   replayed-at done left q parts here position reads =
       let anchor = devices .anchor in
@@ -111,7 +111,7 @@ unfolding positionOf startOf restartBeginTask
 begun-positions w d = refl
 
 pub begun-replayed : {c : Core} {w : World} → Progress c w → (d : ℕ) → positionOf c d ≡ startOf (c .logs) d → {puts : Told} → (k : Stored puts w d)
-    → d < sizesOn (w .anchor) .disks → Replayed c w d (k .kept)
+    → d < sizesOn (w .anchor) .disks → StepReads c w d (k .kept)
 unfolding logLeft encodeAll
 begun-replayed {c} {w} p d first k below =
     let inside : d < c .sizes .disks = rw (p .sizes) below in
@@ -122,11 +122,11 @@ begun-replayed {c} {w} p d first k below =
 -- A step takes the next record of its log, and nothing of the others.
 module _ {c : Core} {w : World} (p : Progress c w) where
   unmoved : (now : Core) {v : World} → SameDevices v w → now .sizes ≡ c .sizes → now .logs ≡ c .logs → (d : ℕ) {kept : List Record} → positionOf now d ≡ positionOf c d
-      → Replayed c w d kept → Replayed now v d kept
+      → StepReads c w d kept → StepReads now v d kept
   unmoved now same sizes logs d here k = replayed-at c now sizes logs same d (k .done) (k .left) (positionOf c d) (k .parts) here (k .position) (k .reads)
 
-  moved : {v : World} → SameDevices v w → (d : ℕ) → d < c .sizes .disks → positionOf c d < tailOf (c .logs) d → {kept : List Record} → Replayed c w d kept
-      → Replayed (recordStep c w d (nextRecord c w d) .core) v d kept
+  moved : {v : World} → SameDevices v w → (d : ℕ) → d < c .sizes .disks → positionOf c d < tailOf (c .logs) d → {kept : List Record} → StepReads c w d kept
+      → StepReads (recordStep c w d (nextRecord c w d) .core) v d kept
   unfolding encode encodeAll movedTo withReplay positionOf
   moved {v} same d below some {kept} k = go (k .left) refl
     where
@@ -134,7 +134,7 @@ module _ {c : Core} {w : World} (p : Progress c w) where
       step (change kind page slot number copy diff) = ap (movedTo c d) (omega arith)
       step (close kind number) = refl
 
-      go : (l : List Record) → k .left ≡ l → Replayed (recordStep c w d (nextRecord c w d) .core) v d kept
+      go : (l : List Record) → k .left ≡ l → StepReads (recordStep c w d (nextRecord c w d) .core) v d kept
       go [] e = absurd (omega (arith, none-found (c .sizes) (readDisk c w d) (tailOf (c .logs) d) (positionOf c d) (rw e at (k .reads))))
       go (r ∷ more) e =
           let f = first-found (c .sizes) (readDisk c w d) (tailOf (c .logs) d) (positionOf c d) r more (rw e at (k .reads)) in
@@ -145,8 +145,8 @@ module _ {c : Core} {w : World} (p : Progress c w) where
           (getD-set-same (c .replay .positions) d (positionOf c d + length (encode r)) 0 (omega (arith, p .room)))
           (omega (arith, k .position, long, ap length (append-nil (encode r)))) (f .ahead))
 
-  others-unmoved : {v : World} → SameDevices v w → (r : Decoded) (source d : ℕ) → (d ≡ source → ⊥) → {kept : List Record} → Replayed c w d kept
-      → Replayed (recordStep c w source r .core) v d kept
+  others-unmoved : {v : World} → SameDevices v w → (r : Decoded) (source d : ℕ) → (d ≡ source → ⊥) → {kept : List Record} → StepReads c w d kept
+      → StepReads (recordStep c w source r .core) v d kept
   unfolding movedTo withReplay positionOf
   others-unmoved same (Change kind page slot number copy width next) source d ne k =
       unmoved (movedTo c source next) same refl refl d (getD-set-other (c .replay .positions) source d next 0 ne) k
@@ -154,13 +154,13 @@ module _ {c : Core} {w : World} (p : Progress c w) where
       unmoved (movedTo c source next) same refl refl d (getD-set-other (c .replay .positions) source d next 0 ne) k
   others-unmoved same Malformed source d ne k = unmoved c same refl refl d refl k
 
-  pub step-replayed : {v : World} → SameDevices v w → (source : ℕ) → (source ≤ c .sizes .disks) × (remaining c source ≡ 0 → ⊥) → (d : ℕ) → {kept : List Record} → Replayed c w d kept
-      → d < c .sizes .disks → Replayed (restartStepTask c w source .core) v d kept
+  pub step-replayed : {v : World} → SameDevices v w → (source : ℕ) → (source ≤ c .sizes .disks) × (remaining c source ≡ 0 → ⊥) → (d : ℕ) → {kept : List Record} → StepReads c w d kept
+      → d < c .sizes .disks → StepReads (restartStepTask c w source .core) v d kept
   unfolding restartStepTask backupStep withReplay positionOf
   step-replayed {v} same source found d {kept} k below = go (ltb source (c .sizes .disks)) refl (ℕ-discrete d source)
     where
       go : (b : Bool) → ltb source (c .sizes .disks) ≡ b → Dec (d ≡ source)
-          → Replayed (cond b (recordStep c w source (nextRecord c w source)) (backupStep c w) .core) v d kept
+          → StepReads (cond b (recordStep c w source (nextRecord c w source)) (backupStep c w) .core) v d kept
       go true e (yes here) =
           let log = remaining-log c d below in
           let some : remaining c d ≡ 0 → ⊥ = λ z. found .1 (ap (remaining c) (sym here) ∙ z) in

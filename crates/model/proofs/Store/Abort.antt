@@ -30,6 +30,7 @@ use Rattle.model.proofs.Link.Abort.{sumUpdates}
 use Rattle.model.proofs.Store.View.{Kept, Serving, Served, runAt}
 use Rattle.model.proofs.Store.Compensate.{Compensated}
 use Rattle.model.proofs.Store.Undo.{compensations, none-undone, undone}
+use Rattle.model.proofs.Store.Told.{updates-told}
 use Rattle.model.proofs.Store.Left.{MayAbort, may-abort, none-left, none-logged, left-slotted, left-sum}
 use Rattle.model.proofs.Store.CloseAbort.{closing, closed, closing-cut}
 use Rattle.model.proofs.Store.Steady.{kept-lost}
@@ -134,7 +135,7 @@ module _ {home : ℕ → ℕ} {puts : Told} {c : Core} {w : World} {r : Referenc
   abort-served : Served (also puts (putBy (abort t 0) (runAt c w r) puts)) (abortTask c w t .core) (perform (abortTask c w t .actions) w) (afterTaken (abort t 0) 0 r)
   unfolding abortTask withLog diskOf
   abort-served =
-      rw (perform-append (undo .actions) _ w, ← append-assoc (puts .puts) (compensations c w t us) _)
+      rw (updates-told g t (may .opened) (may .below), perform-append (undo .actions) _ w, ← append-assoc (puts .puts) (compensations c w t us) _)
       (closed (work .serving) (may .opened) (may .below) (work .small) room in-limit cancels)
 
   abort-kept : (budget : ℕ) → budget < stores (abortTask c w t .actions) → Kept (also puts (compensations c w t us)) (run budget (abortTask c w t .actions) w) r
@@ -163,5 +164,6 @@ pub abort-cut : {puts : Told} {c : Core} {w : World} {r : Reference} → Served 
     → Kept (also puts (putBy (abort number budget) (runAt c w r) puts)) (run budget (abortTask c w number .actions) w) r
 unfolding finishes
 abort-cut {puts} {c = c} {w = w} g number budget v f =
-    rw (← append-assoc (puts .puts) (compensations c w number (updatesLeft c w number)) _)
+    let may = may-abort c w number v in
+    rw (updates-told (g .serving) number (may .opened) (may .below), ← append-assoc (puts .puts) (compensations c w number (updatesLeft c w number)) _)
     (kept-lost (abort-kept (g .serving) number (may-abort c w number v) budget (leb-false _ _ f)) _)

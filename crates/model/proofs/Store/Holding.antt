@@ -1,28 +1,33 @@
 -- What holds between any two events, and how a call that is refused, taken or cut keeps it.
-use mathlib.Core.Path.{_≡_, refl}
+use mathlib.Core.Path.{_≡_, refl, ap}
 use mathlib.Core.List.{List, []}
 use mathlib.Core.Bool.{true, false, cond}
 use Prim.Native.Nat.{ℕ, _<_}
 use Rattle.model.specs.declared.Stage.the-variants.{Shut}
 use Rattle.model.specs.declared.Core.{Core}
-use Rattle.model.specs.Anchor.{sizesOn}
+use Rattle.model.specs.Anchor.{sizesOn, startOn}
+use Rattle.model.specs.Record.{Record}
 use Rattle.model.specs.World.{World, perform, run, finishes}
 use Rattle.model.specs.State.{newCore}
 use Rattle.model.specs.Refusal.{Result, Task, verdict, accepted}
+use Rattle.model.specs.Causes.{tailOn, retained}
+use Rattle.model.specs.Image.{retainedWords}
 use Rattle.model.specs.Call.{Call, rowsOf, taskOf, budgetOf}
 use Rattle.model.specs.Reference.{Reference, WriteSet, withSets, taken, outcomeOf, isBegin, afterTaken, heardOf, hear}
 use Rattle.model.specs.Machine.{Machine, call, result, outcome, after, referred, Run}
 use Rattle.model.specs.History.{Told, also, putBy, toldBy, told}
-use Rattle.model.specs.Promise.{Stored, Replayed}
+use Rattle.model.specs.Promise.{Stored, StepReads}
 use Rattle.model.proofs.Run.{finished-run}
+use Rattle.model.proofs.Restart.Image.{SameDevices, image-devices}
 use Rattle.model.proofs.Restart.Progress.{Progress}
 use Rattle.model.proofs.Store.View.{Kept, Served}
+use Rattle.model.proofs.Store.Crash.{stored-same}
 use Rattle.model.proofs.Store.Cases.{call-cases}
 
 -- What the log of a disk holds of what was put, and how far the steps of a restart have come in it.
 pub record Going (puts : Told) (c : Core) (w : World) (d : ℕ) : Type 0 where
   pub stored : Stored puts w d
-  pub replayed : Replayed c w d (stored .kept)
+  pub steps : StepReads c w d (stored .kept)
 
 -- A shut store has devices that restart to the committed contents, a replaying one too, and how far it got; an open one serves.
 pub data Holding (puts : Told) (m : Machine) (r : Reference) : Type 0 where
@@ -31,9 +36,28 @@ pub data Holding (puts : Told) (m : Machine) (r : Reference) : Type 0 where
       → ((d : ℕ) → d < sizesOn (m .world .anchor) .disks → Going puts (m .core) (m .world) d) → r .writeSets ≡ [] → Holding puts m r
   serving : Served puts (m .core) (m .world) r → Holding puts m r
 
+-- a restart goes on: the logs hold what they held, and the steps have come further in them
+pub going-on : {puts : Told} {c now : Core} {v w : World} → SameDevices v w
+    → ((d : ℕ) → d < sizesOn (w .anchor) .disks → (l : List Record) → StepReads c w d l → StepReads now v d l)
+    → ((d : ℕ) → d < sizesOn (w .anchor) .disks → Going puts c w d) → (d : ℕ) → d < sizesOn (v .anchor) .disks → Going puts now v d
+unfolding stored-same tailOn retained retainedWords
+going-on {v = v} {w = w} same further was d l =
+    let inside = rw (same .anchor) at l in
+    let start = ap (λ (a : List ℕ). startOn a d) (same .anchor) in
+    let image = image-devices same in
+    record {
+      stored = stored-same (ap sizesOn (same .anchor)) start (rw (same .logs)) (rw (same .logs, start)) (rw (same .logs, start)) image (was d inside .stored);
+      steps = further d inside (was d inside .stored .kept) (was d inside .steps);
+    }
+
 -- the committed contents do not hang on the write sets
 pub kept-sets : {puts : Told} {w : World} {r : Reference} → Kept puts w r → (sets : List WriteSet) → Kept puts w (withSets r sets)
 kept-sets k sets = record { sizes = k .sizes; shaped = k .shaped; image = k .image; logs = k .logs; sound = k .sound }
+
+-- A call keeps what holds.
+abbrev pub CallKeeps : Call → Told → Machine → Reference → Type 0
+CallKeeps k puts m r =
+    Holding (told (record { machine = m; reference = r }) (call k) puts) (after m (call k)) (referred m (call k) r)
 
 module _ (k : Call) (puts : Told) (m : Machine) (r : Reference) where
   abbrev task : Task
@@ -54,7 +78,7 @@ module _ (k : Call) (puts : Told) (m : Machine) (r : Reference) where
       → Holding (toldBy taken k x puts) takenMachine (afterTaken k heardNumber r))
       → (verdict (rowsOf k (m .core) (m .world)) ≡ accepted → finishes (budgetOf k) (task .actions) ≡ false
       → Kept (also puts (putBy k x puts)) (run (budgetOf k) (task .actions) (m .world)) r)
-      → Holding (told x (call k) puts) (after m (call k)) (referred m (call k) r)
+      → CallKeeps k puts m r
   unfolding result outcome hear newCore
   call-keeps h done cut =
       call-cases (λ (y : Result). Holding (toldBy (outcomeOf (y .answer)) k x puts) (record { core = y .core; world = y .world }) (hear (heardOf k (m .core) (m .world) (y .answer)) r))

@@ -94,7 +94,7 @@ module _ {home : ℕ → ℕ} {puts : Told} {c : Core} {w : World} {r : Referenc
       (λ i h. page-word i (rw long at h) ∙ sym (rw (g .safe .sizes) (laid-word s (r .writeSets) (r .committed) (g .safe .shaped) (g .sets .fits) i)))
 
   -- a slot's words are its value in the table
-  slot-value : (page slot : ℕ) → page < s .pages → slot < slotsIn s page → slotWords c w page slot ≡ getD (plainTable r) (slotIndex (r .sizes) page slot) []
+  pub slot-value : (page slot : ℕ) → page < s .pages → slot < slotsIn s page → slotWords c w page slot ≡ getD (plainTable r) (slotIndex (r .sizes) page slot) []
   unfolding slotWords
   slot-value page slot p q =
       rw pages-plain

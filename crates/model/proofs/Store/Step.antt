@@ -7,33 +7,29 @@ use Rattle.model.specs.declared.Stage.{Stage}
 use Rattle.model.specs.declared.Stage.the-variants.{Shut, Replaying, Open, Copying}
 use Rattle.model.specs.declared.Sizes.{Sizes}
 use Rattle.model.specs.declared.Core.{Core}
-use Rattle.model.specs.Anchor.{sizesOn, startOn}
-use Rattle.model.specs.Record.{Record}
-use Rattle.model.specs.World.{World, perform, finishes}
+use Rattle.model.specs.Anchor.{sizesOn}
+use Rattle.model.specs.World.{perform, finishes}
 use Rattle.model.specs.State.{newCore}
 use Rattle.model.specs.Refusal.{Row, row, verdict, accepted}
-use Rattle.model.specs.Causes.{whenShut, whenReplaying, whenOpen, whenCopying, whenServing, stageForbids, tailOn, retained}
+use Rattle.model.specs.Causes.{whenShut, whenReplaying, whenOpen, whenCopying, whenServing, stageForbids}
 use Rattle.model.specs.Transaction.{beginRows, beginTask, updateRows, commitRows}
 use Rattle.model.specs.Abort.{abortRows}
 use Rattle.model.specs.Checkpoint.{checkpointBeginRows, checkpointBeginTask, checkpointStepRows, checkpointEndRows}
 use Rattle.model.specs.Restart.{restartBeginRows, restartStepRows, restartEndRows}
-use Rattle.model.specs.Image.{retainedWords}
 use Rattle.model.specs.Call.{Call, format, begin, update, Look, look, lookTask, commit, abort, checkpointBegin, checkpointStep, checkpointEnd, restartBegin, restartStep, restartEnd, newState, rowsOf, taskOf, budgetOf, resultOf}
 use Rattle.model.specs.Reference.{Reference, taken, outcomeOf}
-use Rattle.model.specs.Machine.{Machine, call, result, outcome, isRefused, after, referred, allowedCall}
-use Rattle.model.specs.History.{Told, also, told}
-use Rattle.model.specs.Promise.{Replayed}
+use Rattle.model.specs.Machine.{Machine, call, result, outcome, isRefused, allowedCall}
+use Rattle.model.specs.History.{Told, also}
 use Rattle.model.proofs.Storeless.{storesNothing, storeless-finishes}
 use Rattle.model.proofs.Run.{perform-lengths}
-use Rattle.model.proofs.Restart.Image.{SameDevices, image-devices}
 use Rattle.model.proofs.Restart.Taken.{taken-call}
 use Rattle.model.proofs.Restart.Progress.{Progress, begin-progress}
 use Rattle.model.proofs.Restart.Steps.{step-source, step-progress}
 use Rattle.model.proofs.Restart.Records.{begun-positions, begun-replayed, step-replayed}
 use Rattle.model.proofs.Restart.End.{end-gives}
-use Rattle.model.proofs.Store.View.{Kept, Served, runAt}
+use Rattle.model.proofs.Store.View.{Kept, Served}
 use Rattle.model.proofs.Store.Rows.{stage-row, open-serving, copying-serving}
-use Rattle.model.proofs.Store.Crash.{kept, stored-same}
+use Rattle.model.proofs.Store.Crash.{kept}
 use Rattle.model.proofs.Store.Steady.{kept-devices, kept-lost}
 use Rattle.model.proofs.Store.Begin.{begin-serves}
 use Rattle.model.proofs.Store.Copy.{checkpoint-begin-serves, checkpoint-step-serves, checkpoint-step-cut}
@@ -42,7 +38,7 @@ use Rattle.model.proofs.Store.Update.{update-serves, update-cut}
 use Rattle.model.proofs.Store.Commit.{commit-serves, commit-cut}
 use Rattle.model.proofs.Store.CheckpointEnd.{checkpoint-end-serves, checkpoint-end-cut}
 use Rattle.model.proofs.Store.Abort.{abort-serves, abort-cut}
-use Rattle.model.proofs.Store.Holding.{Going, Holding, shut, replaying, serving, kept-sets, call-keeps}
+use Rattle.model.proofs.Store.Holding.{Going, Holding, CallKeeps, shut, replaying, serving, going-on, kept-sets, call-keeps}
 use Rattle.model.proofs.Booleans.{true-false}
 use Rattle.model.proofs.Verdict.{row-passed}
 
@@ -113,80 +109,66 @@ accepted-goes k m v false f = rw (v, f)
 puts-none : {puts : Told} {m : Machine} {r : Reference} → Holding puts m r → Holding (also puts []) m r
 puts-none {puts} h = rw (append-nil (puts .puts)) h
 
--- a restart goes on: the logs hold what they held, and the steps have come further in them
-going-on : {puts : Told} {c now : Core} {v w : World} → SameDevices v w
-    → ((d : ℕ) → d < sizesOn (w .anchor) .disks → (l : List Record) → Replayed c w d l → Replayed now v d l)
-    → ((d : ℕ) → d < sizesOn (w .anchor) .disks → Going puts c w d) → (d : ℕ) → d < sizesOn (v .anchor) .disks → Going puts now v d
-unfolding stored-same tailOn retained retainedWords
-going-on {v = v} {w = w} same further was d l =
-    let inside = rw (same .anchor) at l in
-    let start = ap (λ (a : List ℕ). startOn a d) (same .anchor) in
-    let image = image-devices same in
-    record {
-      stored = stored-same (ap sizesOn (same .anchor)) start (rw (same .logs)) (rw (same .logs, start)) (rw (same .logs, start)) image (was d inside .stored);
-      replayed = further d inside (was d inside .stored .kept) (was d inside .replayed);
-    }
-
 module _ (puts : Told) (m : Machine) (r : Reference) (h : Holding puts m r) where
-  step-begin : Holding (told (runAt (m .core) (m .world) r) (call begin) puts) (after m (call begin)) (referred m (call begin) r)
+  step-begin : CallKeeps begin puts m r
   unfolding beginTask beginRows perform
   step-begin =
       call-keeps begin puts m r h
       (λ v f. puts-none (serving (begin-serves (served h (row-one whenServing (m .core) _ v)) v)))
       (λ v f. never-cut begin m refl f)
 
-  step-look : (q : Look) → Holding (told (runAt (m .core) (m .world) r) (call (look q)) puts) (after m (call (look q))) (referred m (call (look q)) r)
+  step-look : (q : Look) → CallKeeps (look q) puts m r
   unfolding lookTask perform
   step-look q = call-keeps (look q) puts m r h (λ v f. puts-none h) (λ v f. never-cut (look q) m refl f)
 
   step-update : (number page slot : ℕ) (value : List ℕ) (budget : ℕ)
-      → Holding (told (runAt (m .core) (m .world) r) (call (update number page slot value budget)) puts) (after m (call (update number page slot value budget))) (referred m (call (update number page slot value budget)) r)
+      → CallKeeps (update number page slot value budget) puts m r
   unfolding updateRows
   step-update number page slot value budget =
       call-keeps (update number page slot value budget) puts m r h
       (λ v f. serving (update-serves (served h (row-one whenServing (m .core) _ v)) number page slot value budget 0 v))
       (λ v f. update-cut (served h (row-one whenServing (m .core) _ v)) number page slot value budget v f)
 
-  step-commit : (number budget : ℕ) → Holding (told (runAt (m .core) (m .world) r) (call (commit number budget)) puts) (after m (call (commit number budget))) (referred m (call (commit number budget)) r)
+  step-commit : (number budget : ℕ) → CallKeeps (commit number budget) puts m r
   unfolding commitRows
   step-commit number budget =
       call-keeps (commit number budget) puts m r h
       (λ v f. serving (commit-serves (served h (row-one whenServing (m .core) _ v)) number budget 0 v))
       (λ v f. commit-cut (served h (row-one whenServing (m .core) _ v)) number budget v f)
 
-  step-abort : (number budget : ℕ) → Holding (told (runAt (m .core) (m .world) r) (call (abort number budget)) puts) (after m (call (abort number budget))) (referred m (call (abort number budget)) r)
+  step-abort : (number budget : ℕ) → CallKeeps (abort number budget) puts m r
   unfolding abortRows
   step-abort number budget =
       call-keeps (abort number budget) puts m r h
       (λ v f. serving (abort-serves (served h (row-one whenServing (m .core) _ v)) number budget 0 v))
       (λ v f. abort-cut (served h (row-one whenServing (m .core) _ v)) number budget v f)
 
-  step-checkpoint-begin : Holding (told (runAt (m .core) (m .world) r) (call checkpointBegin) puts) (after m (call checkpointBegin)) (referred m (call checkpointBegin) r)
+  step-checkpoint-begin : CallKeeps checkpointBegin puts m r
   unfolding checkpointBeginRows checkpointBeginTask perform
   step-checkpoint-begin =
       call-keeps checkpointBegin puts m r h
       (λ v f. puts-none (serving (checkpoint-begin-serves (served h (open-serving (m .core) (row-one whenOpen (m .core) _ v))) v)))
       (λ v f. never-cut checkpointBegin m refl f)
 
-  step-checkpoint-step : (budget : ℕ) → Holding (told (runAt (m .core) (m .world) r) (call (checkpointStep budget)) puts) (after m (call (checkpointStep budget))) (referred m (call (checkpointStep budget)) r)
+  step-checkpoint-step : (budget : ℕ) → CallKeeps (checkpointStep budget) puts m r
   unfolding checkpointStepRows
   step-checkpoint-step budget =
       call-keeps (checkpointStep budget) puts m r h
       (λ v f. puts-none (serving (checkpoint-step-serves (served h (copying-serving (m .core) (row-one whenCopying (m .core) _ v))) v)))
       (λ v f. kept-lost (checkpoint-step-cut budget (served h (copying-serving (m .core) (row-one whenCopying (m .core) _ v))) v (holding-kept h) f) [])
 
-  step-checkpoint-end : (budget : ℕ) → Holding (told (runAt (m .core) (m .world) r) (call (checkpointEnd budget)) puts) (after m (call (checkpointEnd budget))) (referred m (call (checkpointEnd budget)) r)
+  step-checkpoint-end : (budget : ℕ) → CallKeeps (checkpointEnd budget) puts m r
   unfolding checkpointEndRows
   step-checkpoint-end budget =
       call-keeps (checkpointEnd budget) puts m r h
       (λ v f. puts-none (serving (checkpoint-end-serves (served h (copying-serving (m .core) (row-one whenCopying (m .core) _ v))) v)))
       (λ v f. kept-lost (checkpoint-end-cut (served h (copying-serving (m .core) (row-one whenCopying (m .core) _ v))) v budget f) [])
 
-  step-new : Holding (told (runAt (m .core) (m .world) r) (call newState) puts) (after m (call newState)) (referred m (call newState) r)
+  step-new : CallKeeps newState puts m r
   unfolding perform newCore
   step-new = call-keeps newState puts m r h (λ v f. puts-none (shut refl (kept-sets (holding-kept h) []) refl)) (λ v f. never-cut newState m refl f)
 
-  step-restart-begin : Holding (told (runAt (m .core) (m .world) r) (call restartBegin) puts) (after m (call restartBegin)) (referred m (call restartBegin) r)
+  step-restart-begin : CallKeeps restartBegin puts m r
   unfolding restartBeginRows
   step-restart-begin =
       call-keeps restartBegin puts m r h
@@ -196,10 +178,12 @@ module _ (puts : Told) (m : Machine) (r : Reference) (h : Holding puts m r) wher
       let p = rw (t .core, t .world) at (begin-progress (m .core) (m .world) o) in
       let s = stopped h (row-one whenShut (m .core) _ v) in
       let k = kept-devices (p .1) (perform-lengths _ (m .world)) (s .0) in
-      puts-none {puts = puts} (replaying (p .0) k (λ d l. record { stored = k .logs d l; replayed = begun-replayed (p .0) d (begun-positions (m .world) d) (k .logs d l) l }) (s .1)))
+      puts-none {puts = puts}
+      (replaying (p .0) k
+      (λ d l. record { stored = k .logs d l; steps = begun-replayed (p .0) d (begun-positions (m .world) d) (k .logs d l) l }) (s .1)))
       (λ v f. never-cut restartBegin m refl f)
 
-  step-restart-step : (source : ℕ) → Holding (told (runAt (m .core) (m .world) r) (call (restartStep source)) puts) (after m (call (restartStep source))) (referred m (call (restartStep source)) r)
+  step-restart-step : (source : ℕ) → CallKeeps (restartStep source) puts m r
   unfolding restartStepRows
   step-restart-step source =
       call-keeps (restartStep source) puts m r h
@@ -214,7 +198,7 @@ module _ (puts : Told) (m : Machine) (r : Reference) (h : Holding puts m r) wher
       (going-on (p .1) (λ d l kept g. step-replayed (s .progress) (p .1) source found d g (rw (s .progress .sizes) l)) (s .going)) (s .none)))
       (λ v f. never-cut (restartStep source) m refl f)
 
-  step-restart-end : (budget : ℕ) → Holding (told (runAt (m .core) (m .world) r) (call (restartEnd budget)) puts) (after m (call (restartEnd budget))) (referred m (call (restartEnd budget)) r)
+  step-restart-end : (budget : ℕ) → CallKeeps (restartEnd budget) puts m r
   unfolding restartEndRows
   step-restart-end budget =
       call-keeps (restartEnd budget) puts m r h
@@ -236,7 +220,7 @@ module _ (puts : Told) (m : Machine) (r : Reference) (h : Holding puts m r) wher
             none = s .none;
           }
 
-  step-format : (s : Sizes) (budget : ℕ) → isRefused (outcome m (format s budget)) ≡ true → Holding (told (runAt (m .core) (m .world) r) (call (format s budget)) puts) (after m (call (format s budget))) (referred m (call (format s budget)) r)
+  step-format : (s : Sizes) (budget : ℕ) → isRefused (outcome m (format s budget)) ≡ true → CallKeeps (format s budget) puts m r
   step-format s budget e =
       call-keeps (format s budget) puts m r h
       (λ v f. true-false e (accepted-goes (format s budget) m v true f))
@@ -244,7 +228,7 @@ module _ (puts : Told) (m : Machine) (r : Reference) (h : Holding puts m r) wher
 
 -- every call that is allowed
 pub step-call : (k : Call) (puts : Told) (m : Machine) (r : Reference) → Holding puts m r → allowedCall m k ≡ true
-    → Holding (told (runAt (m .core) (m .world) r) (call k) puts) (after m (call k)) (referred m (call k) r)
+    → CallKeeps k puts m r
 step-call (format s budget) puts m r h e = step-format puts m r h s budget e
 step-call begin puts m r h e = step-begin puts m r h
 step-call (update number page slot value budget) puts m r h e = step-update puts m r h number page slot value budget

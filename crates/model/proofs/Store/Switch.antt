@@ -35,7 +35,8 @@ use Rattle.model.proofs.Link.Words.{Link}
 use Rattle.model.proofs.Store.View.{view, Devices, Safe, Accounts, Copies, SinceOn, Serving, before}
 use Rattle.model.proofs.Store.Same.{sets-same, owners-same}
 use Rattle.model.proofs.Store.Flush.{lengths-same}
-use Rattle.model.proofs.Store.NewStarts.{firstOf, boundary-later, since-later, first-boundary, new-boundary, start-early, first-stays, reserved-stays, placed, page-copied, may, live-kept}
+use Rattle.model.proofs.Store.NewStarts.{firstOf, boundary-later, first-boundary, new-boundary, start-early, first-stays, reserved-stays, placed, page-copied, may, live-kept}
+use Rattle.model.proofs.Store.Later.{since-later}
 use Rattle.model.proofs.Store.Starts.{Moved, backup-back}
 use Rattle.model.proofs.Booleans.{true-false}
 use Rattle.model.proofs.PerDisk.{getD-per-disk, length-per-disk}

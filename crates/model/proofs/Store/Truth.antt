@@ -1,27 +1,26 @@
 -- While the store is open its logs hold what the calls put there, and its state says what is true.
 use mathlib.Core.Path.{_≡_, refl, sym, ap, _∙_}
-use mathlib.Core.List.{List, [], _∷_, _++_, map, append-nil, map-append}
+use mathlib.Core.List.{List, [], _∷_, _++_, append-nil}
 use mathlib.Core.Bool.{Bool, true, false, cond, _&&_, _||_, and-false, and-eq-true-iff}
 use Prim.Native.Nat.{ℕ, _+_, _≤_, _<_}
 use native.Mathlib.Omega.{arith}
 use lib.Dec.{leb, eqb}
 use borrow.Author.Tests.{le-leb, eqb-true, eqb-false, eq-eqb, ne-eqb}
 use Rattle.model.specs.declared.Core.{Core}
-use Rattle.model.specs.Scan.{Scan, Update, placed, updatesIn, updateWords, oldest}
+use Rattle.model.specs.Scan.{Scan, Update, updatesIn, updateWords, oldest}
 use Rattle.model.specs.World.{World}
 use Rattle.model.specs.State.{startOf, isOpen, placeOf, firstAt, hasUpdate, reservedAt}
 use Rattle.model.specs.Transaction.{diskOf}
 use Rattle.model.specs.Reference.{Reference}
 use Rattle.model.specs.Machine.{Machine}
 use Rattle.model.specs.History.{Told}
-use Rattle.model.specs.Promise.{logScan, Buffered, Truth}
+use Rattle.model.specs.Promise.{logScan, Truth}
 use Rattle.model.proofs.Ledger.Entry.{Entry, recordOf, isClose, some, All, pick, onDisk}
-use Rattle.model.proofs.Ledger.Order.{on, sizeOf, wordsOf, Laid, entriesScan}
+use Rattle.model.proofs.Ledger.Order.{on, sizeOf, Laid, entriesScan}
 use Rattle.model.proofs.Ledger.Sums.{all-map, all-append, all-right}
 use Rattle.model.proofs.Ledger.Picks.{all-pick}
 use Rattle.model.proofs.Ledger.Lists.{all-left, pick-whole, on-append, some-pick}
 use Rattle.model.proofs.Ledger.Positions.{size-ge, laid-from, boundary-start}
-use Rattle.model.proofs.Link.Words.{placed-entries}
 use Rattle.model.proofs.Link.Abort.{scan-from}
 use Rattle.model.proofs.Store.View.{wordsFor, Serving, Served, open-used}
 use Rattle.model.proofs.Places.{open-place}
@@ -47,21 +46,6 @@ module _ {home : ℕ → ℕ} {puts : Told} {c : Core} {w : World} {r : Referenc
   log-entries =
       scan-from (g .safe .link) d below (startOf (c .logs) d) (g .safe .fit) laid (boundary-start (startOf (c .logs) d) entries)
       ∙ ap entriesScan from-start
-
--- the promise of the log: what is buffered comes after what is stored
-pub buffered : {puts : Told} (m : Machine) (r : Reference) (g : Served puts (m .core) (m .world) r) (d : ℕ) → d < m .core .sizes .disks
-    → Buffered (m .core) (m .world) d (map recordOf (on d (g .flushed))) (map recordOf (on d (g .buffered)))
-unfolding wordsOf
-buffered m r g d below =
-    let s = g .serving in
-    let F = on d (g .flushed) in
-    let B = on d (g .buffered) in
-    record {
-      buffer = s .safe .link .buffer d below;
-      reads =
-          log-entries s d below ∙ sym (placed-entries (startOf (m .core .logs) d) (F ++ B) (s .safe .ordered .laid d below))
-          ∙ ap (placed (startOf (m .core .logs) d)) (map-append recordOf F B);
-    }
 
 -- the position of a transaction's first entry
 firstIn : ℕ → List Entry → ℕ

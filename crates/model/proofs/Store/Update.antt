@@ -24,6 +24,7 @@ use Rattle.model.proofs.Run.{perform-append, perform-pages, run-cut, st
 use Rattle.model.proofs.Counts.{append-fits}
 use Rattle.model.proofs.Ledger.Entry.{Entry, recordOf, isClose}
 use Rattle.model.proofs.Ledger.Order.{sizeOf}
+use Rattle.model.proofs.Store.Told.{update-told}
 use Rattle.model.proofs.Store.View.{Kept, Serving, Served, runAt}
 use Rattle.model.proofs.Store.Rows.{serving-sound}
 use Rattle.model.proofs.Store.Ready.{Ready, ready}
@@ -199,7 +200,9 @@ module _ {puts : Told} {c : Core} {w : World} {r : Reference} (g : Served puts c
   pub update-serves : (number page slot : ℕ) (value : List ℕ) (budget n : ℕ) → verdict (updateRows c w number page slot value) ≡ accepted
       → Served (also puts (putBy (update number page slot value budget) (runAt c w r) puts)) (updateTask c w number page slot value .core) (perform (updateTask c w number page slot value .actions) w)
       (afterTaken (update number page slot value budget) n r)
-  update-serves number page slot value budget n ok = update-served (g .serving) number page slot value ok
+  update-serves number page slot value budget n ok =
+      let may = update-accepted c w number page slot value ok in
+      rw (update-told (g .serving) number page slot value (may .page-lt) (may .slot-lt)) (update-served (g .serving) number page slot value ok)
 
   -- cut, it leaves devices that restart to what was committed
   pub update-cut : (number page slot : ℕ) (value : List ℕ) (budget : ℕ) → verdict (updateRows c w number page slot value) ≡ accepted
