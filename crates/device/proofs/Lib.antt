@@ -2,4 +2,5 @@
 pub mod Below
 pub mod Memory
 pub mod Ran
+pub mod Ring
 pub mod Runs

@@ -4,23 +4,15 @@ use mathlib.Core.List.{List, [], _∷_}
 use mathlib.Core.Bool.{Bool, true, false}
 use Prim.Native.Nat.{ℕ, zero, suc, _+_, _-_, _≤_, _<_, min}
 use native.Mathlib.Omega.{arith}
-use lib.Dec.{leb, eqb}
+use lib.Dec.{leb}
 use lib.ListN.{length, take, drop, set, replicate, length-replicate}
 use lib.Seq.{sets, take-take, take-all}
-use borrow.Author.Tests.{le-leb, lt-leb, leb-true, leb-false, eq-eqb, ne-eqb}
+use borrow.Author.Tests.{le-leb, leb-true, leb-false}
 use Rattle.model.specs.Word.{part}
 use Rattle.model.specs.World.{World, Device, Action, cost, store, anchor, backups, logs, act, perform, covered, run, made, finishes, each}
 use Rattle.model.proofs.Run.{stores-stored, covered-each, perform-anchor, perform-backups, perform-logs}
 use Rattle.model.proofs.Parts.{length-part}
-use Rattle.device.specs.Ran.{Ran, Stored, withAnchor, withBackups, withSlices}
-
--- of n words a budget covers the lesser number, and that is all of them when the budget is no less
-min-all : (budget n : ℕ) → eqb (min budget n) n ≡ leb n budget
-min-all budget n = go (leb n budget) refl
-  where
-    go : (b : Bool) → leb n budget ≡ b → eqb (min budget n) n ≡ b
-    go true e = eq-eqb (min budget n) n (omega (arith, leb-true n budget e))
-    go false e = ne-eqb (min budget n) n (λ same. omega (arith, leb-false n budget e, same))
+use Rattle.device.specs.Ran.{Ran, Stored, setsRing, StoredRing, withAnchor, withBackups, withSlices}
 
 take-least : (budget n : ℕ) (words : List ℕ) → take budget (take n words) ≡ take (min budget n) words
 take-least budget n words = go (leb budget n) refl
@@ -44,27 +36,44 @@ take-same (suc budget) zero value = let least : min (suc budget) 0 ≡ 0 = omega
 take-same (suc budget) (suc n) value =
     let least : min (suc budget) (suc n) ≡ suc (min budget n) = omega arith in rw (least, ← take-same budget n value) refl
 
--- what `store_copy`, `store_fill` and `store_word` do
-pub stored-copy : (budget from n : ℕ) (source : List ℕ) {rest at m : ℕ} {before after : List ℕ} → from + n ≤ length source
-    → m ≡ min budget n → rest ≡ budget - min budget n → after ≡ sets before at (part from m source)
-    → Stored budget rest at (part from n source) before after (eqb m n)
+-- What the functions store: of n words the lesser number of n and the budget.
+pub stored-copy : (budget from n : ℕ) (source : List ℕ) {rest at m : ℕ} {before after : List ℕ} {whole : Bool} → from + n ≤ length source
+    → m ≡ min budget n → rest ≡ budget - m → after ≡ sets before at (part from m source) → whole ≡ leb n budget
+    → Stored budget rest at (part from n source) before after whole
 unfolding part
-stored-copy budget from n source fits least left same =
+stored-copy budget from n source fits least left same all =
     record {
       device = rw (same, least, take-least budget n (drop from source));
-      left = rw (length-part from n source fits) left;
-      finished = rw (length-part from n source fits, least) (min-all budget n);
+      left = rw (length-part from n source fits) (omega arith);
+      finished = rw (length-part from n source fits) all;
     }
 
-pub stored-fill : (budget n value : ℕ) {rest at m : ℕ} {before after : List ℕ}
-    → m ≡ min budget n → rest ≡ budget - min budget n → after ≡ sets before at (replicate m value)
-    → Stored budget rest at (replicate n value) before after (eqb m n)
-stored-fill budget n value least left same =
+pub stored-fill : (budget n value : ℕ) {rest at m : ℕ} {before after : List ℕ} {whole : Bool}
+    → m ≡ min budget n → rest ≡ budget - m → after ≡ sets before at (replicate m value) → whole ≡ leb n budget
+    → Stored budget rest at (replicate n value) before after whole
+stored-fill budget n value least left same all =
     record {
       device = rw (same, least, take-same budget n value);
-      left = rw (length-replicate n value) left;
-      finished = rw (length-replicate n value, least) (min-all budget n);
+      left = rw (length-replicate n value) (omega arith);
+      finished = rw (length-replicate n value) all;
     }
+
+pub stored-ring : (first ring budget tail from n : ℕ) (source : List ℕ) {rest m : ℕ} {before after : List ℕ} {whole : Bool}
+    → from + n ≤ length source → m ≡ min budget n → rest ≡ budget - m
+    → after ≡ setsRing first ring before tail (part from m source) → whole ≡ leb n budget
+    → StoredRing first ring budget rest tail (part from n source) before after whole
+unfolding part
+stored-ring first ring budget tail from n source fits least left same all =
+    record {
+      device = rw (same, least, take-least budget n (drop from source));
+      left = rw (length-part from n source fits) (omega arith);
+      finished = rw (length-part from n source fits) all;
+    }
+
+-- one word
+take-one : (budget value : ℕ) → take (suc budget) (value ∷ []) ≡ value ∷ []
+take-one zero value = refl
+take-one (suc budget) value = refl
 
 pub stored-none : (at value : ℕ) (device : List ℕ) → Stored 0 0 at (value ∷ []) device device false
 stored-none at value device = record { device = refl; left = refl; finished = refl }
@@ -73,11 +82,22 @@ pub stored-one : (budget at value : ℕ) (device : List ℕ) → 0 < budget
     → Stored budget (budget - 1) at (value ∷ []) device (set device at value) true
 stored-one zero at value device h = absurd (omega arith)
 stored-one (suc budget) at value device h =
-    record { device = rw (take-suc-one budget value) refl; left = omega arith; finished = sym (le-leb 1 (suc budget) (omega arith)) }
-  where
-    take-suc-one : (budget value : ℕ) → take (suc budget) (value ∷ []) ≡ value ∷ []
-    take-suc-one zero value = refl
-    take-suc-one (suc budget) value = refl
+    record { device = rw (take-one budget value) refl; left = omega arith; finished = sym (le-leb 1 (suc budget) (omega arith)) }
+
+-- what a loop learns of a word that it stored, and of one that it could not
+module _ {budget rest at value : ℕ} {before after : List ℕ} {whole : Bool} (did : Stored budget rest at (value ∷ []) before after whole) where
+  pub word-made : whole ≡ true → (budget ≡ rest + 1) × (after ≡ set before at value)
+  word-made e = go budget (leb-true 1 budget (sym (sym e ∙ did .finished))) (did .left) (did .device)
+    where
+      go : (b : ℕ) → 1 ≤ b → rest ≡ b - min b 1 → after ≡ sets before at (take b (value ∷ []))
+          → (b ≡ rest + 1) × (after ≡ set before at value)
+      go zero h left same = absurd (omega arith)
+      go (suc b) h left same = (omega arith, same ∙ rw (take-one b value))
+
+  pub word-cut : whole ≡ false → (budget ≡ 0) × (rest ≡ 0) × (after ≡ before)
+  word-cut e =
+      let none : budget ≡ 0 = omega (arith, leb-false 1 budget (sym (sym e ∙ did .finished))) in
+      (none, omega (arith, did .left), rw none at (did .device))
 
 costs-one : (device : Device) (i x : ℕ) → cost (store device i x) ≡ 1
 unfolding cost

@@ -6,13 +6,12 @@ use Prim.Native.Nat.{ℕ, _+_, _-_, _*_, _≤_, _<_, _^_}
 use lib.ListN.{length, set}
 use Rattle.model.specs.declared.Sizes.{Sizes}
 use Rattle.model.specs.declared.Logs.{Logs}
-use Rattle.model.specs.Sizes.{ringOf, diskAt}
 use Rattle.model.specs.Record.{Record, change}
-use Rattle.model.specs.World.{World, perform, each}
+use Rattle.model.specs.World.{World}
 use Rattle.model.specs.Memory.{bufferAt}
 use Rattle.model.specs.State.{tailOf, fillOf}
-use Rattle.model.specs.Append.{storeLog, append}
-use Rattle.device.specs.Ran.{Ran, withSlices}
+use Rattle.model.specs.Append.{append}
+use Rattle.device.specs.Ran.{Ran}
 use Rattle.log.specs.declared.write.Head.{Head}
 use Rattle.log.specs.declared.write.Logged.{Logged}
 
@@ -42,12 +41,6 @@ pub record Lent (s : Sizes) (l : Logs) (w : World) (disk ring buffer tail fill :
   pub same-fill : fillOf l disk ≡ fill
   pub same-logs : w .logs ≡ logs
   pub same-work : w .work ≡ work
-
--- Words stored one after the other, the first at position `tail` of the ring whose word 0 is at index `first`.
-unfoldable pub Laid : ℕ → ℕ → ℕ → List ℕ → List ℕ → List ℕ → Type 0
-Laid first ring tail words before after =
-    (s : Sizes) (disk : ℕ) (w : World) → diskAt s disk + 1 ≡ first → ringOf s disk ≡ ring → w .logs ≡ before
-    → perform (each (storeLog s disk) tail words) w ≡ withSlices w after (w .work)
 
 -- The answer of an append: on a cut the log ends as before; else n words further on.
 pub record Ends (tail fill n : ℕ) (r : Logged) : Type 0 where

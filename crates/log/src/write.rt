@@ -1,8 +1,10 @@
 // Writing: a record's words into a disk's buffer, and a buffer's words into the ring.
+use device::store_ring;
+use device::store_word;
 use words::copy_words;
 ghost use mathlib.Core.Path.{_≡_};
 ghost use mathlib.Core.List.{[], _∷_};
-ghost use Prim.Native.Nat.{_+_, _*_, _%_, _≤_, _<_};
+ghost use Prim.Native.Nat.{_+_, _≤_};
 ghost use lib.ListN.{length, take};
 ghost use lib.Seq.{sets};
 ghost use Rattle.model.specs.declared.Sizes.{Sizes};
@@ -12,40 +14,7 @@ ghost use Rattle.model.specs.Record.{close, header, encode};
 ghost use Rattle.model.specs.World.{World};
 ghost use Rattle.model.specs.Append.{flush};
 ghost use Rattle.device.specs.Ran.{Ran, withSlices};
-ghost use Rattle.log.specs.Write.{Within, Encodable, changeOf, Lent, Laid, Ends, Appends};
-
-// The index in the ring after `at`.
-fn next_in_ring(at: u64, ring: u64) -> u64
-    requires { ⌜ at < ring ⌝ }
-    ensures { λ r. ⌜ r ≡ (at + 1) % ring ⌝ }
-{
-    if at + 1 == ring { 0 } else { at + 1 }
-}
-
-// Stores n words of the buffer in the ring whose word 0 is at `first`, from position `tail` on.
-fn store_words(
-    logs: &mut [u64],
-    first: u64,
-    ring: u64,
-    tail: u64,
-    work: &[u64],
-    buffer: u64,
-    n: u64,
-)
-    requires { ⌜ 0 < ring ⌝ }
-    requires { ⌜ first + ring ≤ length (now logs) ⌝ }
-    requires { ⌜ buffer + n ≤ length (now work) ⌝ }
-    ensures { λ _. ⌜ Laid first ring tail (part buffer n (now (work .entry)))
-        (now (logs .entry)) (now (logs .exit)) ⌝ }
-{
-    let mut at = tail % ring;
-    let mut i: u64 = 0;
-    while i < n {
-        logs[(first + at) as usize] = work[(buffer + i) as usize];
-        at = next_in_ring(at, ring);
-        i += 1;
-    }
-}
+ghost use Rattle.log.specs.Write.{Within, Encodable, changeOf, Lent, Ends, Appends};
 
 // Stores a disk's buffered words at the tail and onward, then the new tail, as far as the budget goes; true if all are stored.
 pub fn flush_disk(
@@ -65,17 +34,20 @@ pub fn flush_disk(
     if fill == 0 {
         return true;
     }
-    let place = disk * (ring + 1);
-    let left = *budget;
-    if left <= fill {
-        store_words(logs, place + 1, ring, tail, work, buffer, left);
-        *budget = 0;
+    let place = (disk * (ring + 1)) as usize;
+    if !store_ring(
+        logs,
+        place + 1,
+        ring as usize,
+        tail as usize,
+        work,
+        buffer as usize,
+        fill as usize,
+        budget,
+    ) {
         return false;
     }
-    store_words(logs, place + 1, ring, tail, work, buffer, fill);
-    logs[place as usize] = tail + fill;
-    *budget = left - fill - 1;
-    true
+    store_word(logs, place, tail + fill, budget)
 }
 
 // What a change says beside its difference. `copy` is 01's copy number.

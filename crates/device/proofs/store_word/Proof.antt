@@ -10,21 +10,9 @@ returns : tie.Need-returns
 returns c =
     let none : c .before .before .args .budget .now ≡ 0 = omega arith in rw none (stored-none _ _ _)
 
-mul-device : tie.Need-mul-device
-mul-device c = search needs
-
-slice-write-device : tie.Need-slice-write-device
-slice-write-device c = search needs
-
-sub-budget : tie.Need-sub-budget
-sub-budget c = search needs
-
-same-length : tie.Need-same-length
-same-length c = search needs
-
 returns-2 : tie.Need-returns-2
 returns-2 c = stored-one _ _ _ _ (omega arith)
 
 pub store-word-spec : {M : Type 1} → statement M
 store-word-spec =
-    tie.close (tie.spec returns mul-device slice-write-device sub-budget same-length returns-2)
+    tie.close (tie.spec returns (λ c. search needs) (λ c. search needs) (λ c. search needs) (λ c. search needs) returns-2)
