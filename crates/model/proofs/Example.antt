@@ -5,15 +5,17 @@ use mathlib.Core.List.{List, [], _∷_, _++_, map}
 use mathlib.Core.Bool.{true}
 use lib.ListN.{replicate}
 use Rattle.model.specs.declared.Sizes.{Sizes}
-use Rattle.model.specs.Call.{format, begin, update, commit, abort, checkpointBegin, checkpointStep, checkpointEnd, restartBegin, restartStep, restartEnd}
+use Rattle.model.specs.Call.{format, begin, update, commit, abort, checkpointBegin, checkpointStep, checkpointEnd, restartBegin, restartStep, restartEnd, newState}
 use Rattle.model.specs.Reference.{taken}
 use Rattle.model.specs.Machine.{Machine, Event, call, scramble, outcome, result, follow, allowedAll, formatted}
+use Rattle.model.specs.Record.{change, close, updateKind, compensationKind, commitKind, abortKind}
+use Rattle.model.specs.History.{nothingTold, history}
 use Rattle.model.proofs.Everything.{everything}
 use Rattle.model.proofs.Play.{unformatted}
 use Rattle.model.proofs.Positions.{plenty, small}
 
 -- lost power leaves anything in the memories; the backup is replayed before the log, and a step too many is refused
-restart : ℕ → List Event
+pub restart : ℕ → List Event
 restart steps = scramble (9 ∷ 9 ∷ []) (replicate 130 9) ∷ map call (restartBegin ∷ restartStep 1 ∷ replicate steps (restartStep 0))
 
 -- a transaction of n updates of slot 0
@@ -32,8 +34,12 @@ events =
 pub start : Machine
 start = unformatted (small 1)
 
+-- a committed update and one that is taken back
+pub few : List Event
+few = map call (begin ∷ update 1 0 0 (2 ∷ []) plenty ∷ commit 1 plenty ∷ begin ∷ update 2 0 0 (12 ∷ []) plenty ∷ abort 2 plenty ∷ [])
+
 opens : ℕ
-unfolding everything unformatted small restart writing events start
+unfolding everything unformatted small restart writing events start few
 opens = 0
 
 -- the format finishes, the events are allowed, and the last restart end is taken
@@ -46,3 +52,16 @@ pub record Reaches (m : Machine) (s : Sizes) (budget : ℕ) (es : List Event) (l
 pub example-reaches : Reaches start (small 1) plenty events plenty 2
 unfolding opens
 example-reaches = record { formats = refl; allows = refl; ends = refl; gives = refl }
+
+-- what is told of the few: an update and its commit, an update, its compensation and its abort record
+pub example-puts : history few (formatted start (small 1) plenty) nothingTold .puts
+    ≡ map (λ r. record { disk = 0; content = r })
+    (change updateKind 0 0 1 1 (2 ∷ []) ∷ close commitKind 1 ∷ change updateKind 0 0 2 1 (14 ∷ [])
+    ∷ change compensationKind 0 0 2 1 (14 ∷ []) ∷ close abortKind 2 ∷ [])
+unfolding opens
+example-puts = refl
+
+-- after the next restart end nothing, and the log begins behind the six words that the commit stored
+pub example-base : history (few ++ call newState ∷ [] ++ restart 2 ++ call (restartEnd plenty) ∷ []) (formatted start (small 1) plenty) nothingTold .base 0 ≡ 6
+unfolding opens
+example-base = refl

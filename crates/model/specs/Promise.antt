@@ -8,10 +8,11 @@ use lib.Dec.{ltb, eqb}
 use Rattle.model.specs.declared.Stage.the-variants.{Shut, Replaying}
 use Rattle.model.specs.declared.Sizes.{Sizes}
 use Rattle.model.specs.declared.Core.{Core}
-use Rattle.model.specs.Sizes.{slotsIn, total, ringOf, tailWord}
+use Rattle.model.specs.declared.Fate.{Fate}
+use Rattle.model.specs.Sizes.{slotsIn, slotBase, total, ringOf, tailWord}
 use Rattle.model.specs.Anchor.{epochOn, sizesOn, startOn}
 use Rattle.model.specs.Record.{Record, change, close, commitKind, encode, encodeAll}
-use Rattle.model.specs.Decode.{readLog, span, decoded}
+use Rattle.model.specs.Decode.{readLog, decoded}
 use Rattle.model.specs.Scan.{Scan, scan, placed, fateIn, updatesIn, updateWords, oldest}
 use Rattle.model.specs.World.{World, Action, store, write, anchor, backups, logs, each}
 use Rattle.model.specs.Memory.{bufferOf, copyOf}
@@ -20,8 +21,8 @@ use Rattle.model.specs.Refusal.{numberOf, verdict, accepted}
 use Rattle.model.specs.Causes.{whenServing, tailOn, retained, locked}
 use Rattle.model.specs.Append.{storeLog}
 use Rattle.model.specs.Transaction.{diskOf, readWords, commitRows, commitTask}
-use Rattle.model.specs.Abort.{abortScan, updatesLeft}
-use Rattle.model.specs.Restart.{positionOf, remaining, readDisk, fateFrom, nextRecord}
+use Rattle.model.specs.Abort.{abortScan, updatesLeft, xorIn}
+use Rattle.model.specs.Restart.{positionOf, remaining, replays, readDisk, fateFrom, nextRecord, restartStepTask}
 use Rattle.model.specs.Call.{Call, format, look, read, restartBegin, restartStep, restartEnd}
 use Rattle.model.specs.Image.{Image, retainedWords, imageOf, logOf, restarted}
 use Rattle.model.specs.Reference.{Reference, taken, slotIndex, wordsIn, plainTable, hasSet, writtenByOther}
@@ -123,8 +124,8 @@ pub record Buffered (t : Told) (c : Core) (w : World) (disk : ℕ) (kept rest : 
   pub undoes : (number : ℕ) → isOpen (c .table) number ≡ true → diskOf c number ≡ disk → updatesLeft c w number ≡ updatesPut t disk number
 
 -- While it replays, the steps have taken the first records of the stretch and the others are left. From its position on a log step's
--- reader finds these and no others: the record that the step takes is the first of them, with its difference, and it looks for a
--- closing record among those after it.
+-- reader finds these and no others: the record that the step takes is the first of them, and it looks for a closing record among those
+-- after it. "Each replay step changes the pages by the item it took": by that record's difference, or by nothing.
 pub record StepReads (c : Core) (w : World) (disk : ℕ) (kept : List Record) : Type 0 where
   pub done : List Record
   pub left : List Record
@@ -132,11 +133,13 @@ pub record StepReads (c : Core) (w : World) (disk : ℕ) (kept : List Record) : 
   pub position : positionOf c disk ≡ startOn (w .anchor) disk + length (encodeAll done)
   pub reads : scan (c .sizes) (readDisk c w disk) (tailOf (c .logs) disk) (positionOf c disk) ≡ placed (positionOf c disk) left
   pub takes : (r : Record) (more : List Record) → left ≡ r ∷ more → nextRecord c w disk ≡ decoded (positionOf c disk) r
-  pub diffs : (kind page slot number copy : ℕ) (diff : List ℕ) (more : List Record) → left ≡ change kind page slot number copy diff ∷ more
-      → span (readDisk c w disk) (positionOf c disk + 3) (length diff) ≡ diff
   pub ahead : (r : Record) (more : List Record) → left ≡ r ∷ more → (number : ℕ)
       → let next : ℕ = positionOf c disk + length (encode r) in
       fateFrom c w disk number next ≡ fateIn number (placed next more)
+  pub changes : (kind page slot number copy : ℕ) (diff : List ℕ) (more : List Record) → left ≡ change kind page slot number copy diff ∷ more
+      → let fate : Fate = fateIn number (placed (positionOf c disk + (3 + length diff)) more) in
+      restartStepTask c w disk .actions ≡ cond (replays (c .epoch) fate copy) (xorIn (slotBase (c .sizes) page slot) diff (w .pages)) []
+  pub closes : (kind number : ℕ) (more : List Record) → left ≡ close kind number ∷ more → restartStepTask c w disk .actions ≡ []
 
 pub record LogOf (m : Machine) (t : Told) (disk : ℕ) : Type 0 where
   pub stored : Stored t (m .world) disk
