@@ -12,7 +12,7 @@ use lib.Seq.{getD-set-same, getD-set-other}
 use borrow.Author.Tests.{leb-true}
 use Rattle.model.specs.declared.Sizes.{Sizes}
 use Rattle.model.specs.declared.Logs.{Logs}
-use Rattle.model.specs.State.{startOf, tailOf, fillOf, endOf, withFill, flushed, emptyLogs}
+use Rattle.model.specs.State.{startOf, keptOf, tailOf, fillOf, endOf, withFill, flushed, emptyLogs}
 use Rattle.model.specs.Append.{appendIf, append}
 
 -- a number for each of eight disks
@@ -35,11 +35,24 @@ pub tail-end : (l : Logs) (d : ℕ) → tailOf l d ≤ endOf l d
 unfolding endOf
 tail-end l d = omega arith
 
+-- The ring is kept from the log's start on. What rests on this cites the first law, or only the second, which is enough where words
+-- before the start may be kept too.
+pub kept-start : (l : Logs) (d : ℕ) → keptOf l d ≡ startOf l d
+unfolding keptOf
+kept-start l d = refl
+
+pub kept-le : (l : Logs) (d : ℕ) → keptOf l d ≤ startOf l d
+kept-le l d = omega (arith, kept-start l d)
+
 -- A flush: the disk's tail moves to its end and its buffer is empty; the others stay.
 module _ (l : Logs) (d : ℕ) where
   pub start-flushed : (e : ℕ) → startOf (flushed l d) e ≡ startOf l e
   unfolding startOf flushed
   start-flushed e = refl
+
+  pub kept-flushed : (e : ℕ) → keptOf (flushed l d) e ≡ keptOf l e
+  unfolding keptOf startOf flushed
+  kept-flushed e = refl
 
   pub tail-flushed-other : (e : ℕ) → (e ≡ d → ⊥) → tailOf (flushed l d) e ≡ tailOf l e
   unfolding tailOf flushed
@@ -83,6 +96,7 @@ fill-set-other l d n e ne = getD-set-other (l .fills) d e n 0 ne
 -- The starts stay, the tails move up at most, the end of disk d moves up by n words and the other disks stay.
 pub record Longer (s : Sizes) (d n : ℕ) (before after : Logs) : Type 0 where
   pub start-same : (e : ℕ) → startOf after e ≡ startOf before e
+  pub kept-same : (e : ℕ) → keptOf after e ≡ keptOf before e
   pub tail-up : (e : ℕ) → tailOf before e ≤ tailOf after e
   pub tail-same : (e : ℕ) → (e ≡ d → ⊥) → tailOf after e ≡ tailOf before e
   pub fill-same : (e : ℕ) → (e ≡ d → ⊥) → fillOf after e ≡ fillOf before e
@@ -95,6 +109,7 @@ module _ {s : Sizes} {d : ℕ} where
   longer-none l sized small =
       record {
         start-same = λ e. refl;
+        kept-same = λ e. refl;
         tail-up = λ e. omega arith;
         tail-same = λ e ne. refl;
         fill-same = λ e ne. refl;
@@ -108,6 +123,7 @@ module _ {s : Sizes} {d : ℕ} where
   longer-then g h =
       record {
         start-same = λ e. h .start-same e ∙ g .start-same e;
+        kept-same = λ e. h .kept-same e ∙ g .kept-same e;
         tail-up = λ e. omega (arith, g .tail-up e, h .tail-up e);
         tail-same = λ e ne. h .tail-same e ne ∙ g .tail-same e ne;
         fill-same = λ e ne. h .fill-same e ne ∙ g .fill-same e ne;
@@ -125,6 +141,7 @@ module _ (s : Sizes) (l : Logs) (d : ℕ) (sized : SizedLogs l) (small : Small s
   flush-longer =
       record {
         start-same = start-flushed l d;
+        kept-same = kept-flushed l d;
         tail-up = λ e. tails e (ℕ-discrete e d);
         tail-same = tail-flushed-other l d;
         fill-same = fill-flushed-other l d;
@@ -143,10 +160,11 @@ module _ (s : Sizes) (l : Logs) (d : ℕ) (sized : SizedLogs l) (small : Small s
 
   -- n words put into the buffer, which has m then
   pub put-longer : (m n : ℕ) → m ≡ fillOf l d + n → m ≤ 64 → Longer s d n l (withFill l d m)
-  unfolding withFill endOf startOf tailOf
+  unfolding withFill endOf keptOf startOf tailOf
   put-longer m n e fits =
       record {
         start-same = λ e. refl;
+        kept-same = λ e. refl;
         tail-up = λ e. omega arith;
         tail-same = λ e ne. refl;
         fill-same = fill-set-other l d m;

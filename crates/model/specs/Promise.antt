@@ -16,7 +16,7 @@ use Rattle.model.specs.Decode.{readLog, decoded}
 use Rattle.model.specs.Scan.{Scan, scan, placed, fateIn, updatesIn, updateWords, oldest}
 use Rattle.model.specs.World.{World, Action, store, write, anchor, backups, logs, each}
 use Rattle.model.specs.Memory.{bufferOf, copyOf}
-use Rattle.model.specs.State.{limit, startOf, tailOf, fillOf, endOf, isOpen, placeOf, firstAt, reservedAt, hasUpdate}
+use Rattle.model.specs.State.{limit, startOf, keptOf, tailOf, fillOf, endOf, isOpen, placeOf, firstAt, reservedAt, hasUpdate}
 use Rattle.model.specs.Refusal.{numberOf, verdict, accepted}
 use Rattle.model.specs.Causes.{whenServing, tailOn, retained, locked}
 use Rattle.model.specs.Append.{storeLog}
@@ -186,7 +186,7 @@ StateTrue = Always λ m r. whenServing (m .core .stage) ≡ true → Truth m
 -- its closing record and a compensation for each of its updates.
 pub record Closable (c : Core) (t : ℕ) : Type 0 where
   pub closing : 2 ≤ reservedAt (c .table) (placeOf (c .table) t)
-  pub ring : endOf (c .logs) (diskOf c t) - startOf (c .logs) (diskOf c t) + reservedAt (c .table) (placeOf (c .table) t) ≤ ringOf (c .sizes) (diskOf c t)
+  pub ring : endOf (c .logs) (diskOf c t) - keptOf (c .logs) (diskOf c t) + reservedAt (c .table) (placeOf (c .table) t) ≤ ringOf (c .sizes) (diskOf c t)
   pub positions : endOf (c .logs) (diskOf c t) + reservedAt (c .table) (placeOf (c .table) t) ≤ limit
 
 unfoldable pub ClosingFits : Type 0

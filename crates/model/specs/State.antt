@@ -92,6 +92,10 @@ withLog c logs table =
 unfoldable pub startOf : Logs → ℕ → ℕ
 startOf l disk = getD (l .starts) disk 0
 
+-- where a disk's ring is kept from: room is counted from here, and no word from here to the end is overwritten; today the log's start
+unfoldable pub keptOf : Logs → ℕ → ℕ
+keptOf l disk = startOf l disk
+
 unfoldable pub tailOf : Logs → ℕ → ℕ
 tailOf l disk = getD (l .tails) disk 0
 
@@ -161,7 +165,7 @@ reservedOn t disk = sumBelow (λ i. cond (servedBy t disk i) (reservedAt t i) 0)
 unfoldable pub diskSound : Core → ℕ → Bool
 diskSound c disk =
     leb (fillOf (c .logs) disk) 64 && leb (startOf (c .logs) disk) (tailOf (c .logs) disk)
-    && leb (endOf (c .logs) disk - startOf (c .logs) disk + reservedOn (c .table) disk) (ringOf (c .sizes) disk)
+    && leb (endOf (c .logs) disk - keptOf (c .logs) disk + reservedOn (c .table) disk) (ringOf (c .sizes) disk)
     && leb (endOf (c .logs) disk + reservedOn (c .table) disk) limit
 
 unfoldable pub placeSound : Core → ℕ → Bool

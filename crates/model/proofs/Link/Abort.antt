@@ -17,7 +17,7 @@ use Rattle.model.specs.Decode.{readLog}
 use Rattle.model.specs.Scan.{end, scan, ringThenBuffer, Update, updatesIn}
 use Rattle.model.specs.World.{World}
 use Rattle.model.specs.Memory.{bufferOf}
-use Rattle.model.specs.State.{startOf, tailOf, fillOf, endOf, isOpen, hasUpdate, firstAt, placeOf}
+use Rattle.model.specs.State.{keptOf, tailOf, fillOf, endOf, isOpen, hasUpdate, firstAt, placeOf}
 use Rattle.model.specs.Transaction.{diskOf}
 use Rattle.model.specs.Abort.{abortScan}
 use Rattle.model.proofs.Xor.{⊕-comm, ⊕-zero-l, ⊕-zero-r}
@@ -57,19 +57,19 @@ module _ {s : Sizes} {l : Logs} {w : World} {F B : List Entry} (k : Link s l w F
   abbrev reader : ℕ → ℕ
   reader = readLog s (w .logs) d (tailOf l d) (bufferOf s (w .work) d (fillOf l d))
 
-  pub log-holds : Holds reader (startOf l d) (wordsOf (on d F ++ on d B))
+  pub log-holds : Holds reader (keptOf l d) (wordsOf (on d F ++ on d B))
   log-holds =
       rw (k .buffer d below, words-append)
-      (read-holds s (w .logs) d (tailOf l d) (wordsOf (on d B)) (startOf l d) (wordsOf (on d F)) (k .tail d below) (k .held d below))
+      (read-holds s (w .logs) d (tailOf l d) (wordsOf (on d B)) (keptOf l d) (wordsOf (on d F)) (k .tail d below) (k .held d below))
 
-  module _ (first : ℕ) (fit : All (Fit s) (F ++ B)) (laid : Laid (startOf l d) (on d F ++ on d B))
-      (edge : boundary first (startOf l d) (on d F ++ on d B) ≡ true) where
+  module _ (first : ℕ) (fit : All (Fit s) (F ++ B)) (laid : Laid (keptOf l d) (on d F ++ on d B))
+      (edge : boundary first (keptOf l d) (on d F ++ on d B) ≡ true) where
     flushed-fit : All (Fit s) (on d F)
     flushed-fit = fit-on s d F (all-left (Fit s) F B fit)
 
     pub scan-from : scan s reader (endOf l d) first ≡ entriesScan (pick (λ r. leb first (r .position)) (on d F ++ on d B))
     scan-from =
-        entries-from s reader (startOf l d) (endOf l d) first (on d F ++ on d B)
+        entries-from s reader (keptOf l d) (endOf l d) first (on d F ++ on d B)
         (all-append (Fit s) (on d F) (on d B) flushed-fit (fit-on s d B (all-right (Fit s) F B fit))) laid log-holds (log-end k d below) edge
 
     -- no flushed entry ends past the tail
@@ -79,9 +79,9 @@ module _ {s : Sizes} {l : Logs} {w : World} {F B : List Entry} (k : Link s l w F
       where
         go : Dec (first < tailOf l d) → ending (scan s reader (tailOf l d) first) ≡ end
         go (yes low) =
-            rw (entries-from s reader (startOf l d) (tailOf l d) first (on d F) flushed-fit (laid-append (startOf l d) (on d F) (on d B) laid .0)
-            (holds-append reader (startOf l d) (wordsOf (on d F)) (wordsOf (on d B)) (rw words-append at log-holds) .0) (k .tail d below)
-            (boundary-left first (startOf l d) (on d F) (on d B) (omega (arith, k .tail d below)) edge))
+            rw (entries-from s reader (keptOf l d) (tailOf l d) first (on d F) flushed-fit (laid-append (keptOf l d) (on d F) (on d B) laid .0)
+            (holds-append reader (keptOf l d) (wordsOf (on d F)) (wordsOf (on d B)) (rw words-append at log-holds) .0) (k .tail d below)
+            (boundary-left first (keptOf l d) (on d F) (on d B) (omega (arith, k .tail d below)) edge))
             (ending-entries _)
         go (no high) = rw (scan-end s reader (tailOf l d) first (omega arith)) refl
 
@@ -94,8 +94,8 @@ module _ {s : Sizes} {l : Logs} {w : World} {F B : List Entry} (k : Link s l w F
 pub abort-scan : (c : Core) (w : World) {F B : List Entry} (number d first : ℕ) → Link (c .sizes) (c .logs) w F B
     → isOpen (c .table) number ≡ true → hasUpdate (c .table) (placeOf (c .table) number) ≡ true
     → diskOf c number ≡ d → firstAt (c .table) (placeOf (c .table) number) ≡ first → d < c .sizes .disks
-    → All (Fit (c .sizes)) (F ++ B) → Laid (startOf (c .logs) d) (on d F ++ on d B)
-    → boundary first (startOf (c .logs) d) (on d F ++ on d B) ≡ true
+    → All (Fit (c .sizes)) (F ++ B) → Laid (keptOf (c .logs) d) (on d F ++ on d B)
+    → boundary first (keptOf (c .logs) d) (on d F ++ on d B) ≡ true
     → abortScan c w number ≡ entriesScan (pick (λ r. leb first (r .position)) (on d F ++ on d B))
 unfolding abortScan
 abort-scan c w number d first k is-open has there from below fit laid edge =

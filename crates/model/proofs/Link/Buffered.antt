@@ -13,7 +13,7 @@ use Rattle.model.specs.Sizes.{total}
 use Rattle.model.specs.Record.{encode}
 use Rattle.model.specs.World.{World, work, perform}
 use Rattle.model.specs.Memory.{bufferAt, bufferOf, copyAt, workWords}
-use Rattle.model.specs.State.{startOf, tailOf, fillOf, withFill}
+use Rattle.model.specs.State.{startOf, keptOf, tailOf, fillOf, withFill}
 use Rattle.model.specs.Causes.{tailOn}
 use Rattle.model.specs.Append.{buffered}
 use Rattle.model.proofs.Run.{perform-work}
@@ -122,7 +122,7 @@ module _ {s : Sizes} {l : Logs} {w : World} {F B : List Entry} (k : Link s l w F
       go (no ne) = rw (fill-set-other l d m e ne, on-less e B r (λ x. ne (sym x ∙ here))) (k .fill e h)
 
   pub put-link : Link s (withFill l d m) (perform (buffered s d n words) w) F (B ++ r ∷ [])
-  unfolding buffered tailOn startOf tailOf withFill
+  unfolding buffered tailOn keptOf startOf tailOf withFill
   put-link =
       rw (perform-work (bufferAt s d + n) words w)
       (record { held = k .held; tail = k .tail; stored = k .stored; buffer = buffer-put; fill = fill-put })

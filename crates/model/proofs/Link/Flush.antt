@@ -13,7 +13,7 @@ use Rattle.model.specs.Word.{part}
 use Rattle.model.specs.Sizes.{ringOf, diskAt, tailWord, ringWord}
 use Rattle.model.specs.World.{World, Action, store, logs, cost, perform, stores, covered, run, each}
 use Rattle.model.specs.Memory.{bufferOf}
-use Rattle.model.specs.State.{startOf, tailOf, fillOf, endOf, flushed}
+use Rattle.model.specs.State.{startOf, keptOf, tailOf, fillOf, endOf, flushed}
 use Rattle.model.specs.Causes.{tailOn}
 use Rattle.model.specs.Append.{storeLog, storeAll, flush}
 use Rattle.model.proofs.Run.{stores-append, stores-each}
@@ -65,7 +65,7 @@ module _ (s : Sizes) (l : Logs) (w : World) (d : ℕ) where
       (lay-only s d (tailOf l d) (take n (bufferOf s (w .work) d (fillOf l d))) w)
 
 module _ {s : Sizes} {l : Logs} {w : World} {F B : List Entry} (k : Link s l w F B) (right : Lengths s w) (a : Arrays s l)
-    (d : ℕ) (below : d < s .disks) (room : endOf l d ≤ startOf l d + ringOf s d) where
+    (d : ℕ) (below : d < s .disks) (room : endOf l d ≤ keptOf l d + ringOf s d) where
   fits : diskAt s d + ringOf s d + 1 ≤ length (w .logs)
   fits = omega (arith, disk-within s d below, right .logs)
 
@@ -83,17 +83,17 @@ module _ {s : Sizes} {l : Logs} {w : World} {F B : List Entry} (k : Link s l w F
   after = perform (storeAll s d (tailOf l d) (wordsOf (on d B))) w
 
   held-after : (e : ℕ) → e < s .disks
-      → Holds (λ q. getD (after .logs) (ringWord s e q) 0) (startOf l e) (wordsOf (on e (F ++ on d B)))
+      → Holds (λ q. getD (after .logs) (ringWord s e q) 0) (keptOf l e) (wordsOf (on e (F ++ on d B)))
   held-after e h = go (ℕ-discrete e d)
     where
-      go : Dec (e ≡ d) → Holds (λ q. getD (after .logs) (ringWord s e q) 0) (startOf l e) (wordsOf (on e (F ++ on d B)))
+      go : Dec (e ≡ d) → Holds (λ q. getD (after .logs) (ringWord s e q) 0) (keptOf l e) (wordsOf (on e (F ++ on d B)))
       go (yes same) =
           rw (same, on-flushed d F B, words-append)
-          (flush-holds s d (startOf l d) (tailOf l d) (wordsOf (on d F)) (wordsOf (on d B)) w fits (k .tail d below) together
+          (flush-holds s d (keptOf l d) (tailOf l d) (wordsOf (on d F)) (wordsOf (on d B)) w fits (k .tail d below) together
           (k .held d below))
       go (no ne) =
           rw (on-other-flushed d F B e ne)
-          (holds-agree _ _ (startOf l e) (wordsOf (on e F))
+          (holds-agree _ _ (keptOf l e) (wordsOf (on e F))
           (λ q x y. flush-keeps-rings s d (tailOf l d) (wordsOf (on d B)) w e q ne (ring-positive s d (a .ring)) (ring-positive s e (a .ring)))
           (k .held e h))
 
@@ -101,10 +101,10 @@ module _ {s : Sizes} {l : Logs} {w : World} {F B : List Entry} (k : Link s l w F
   unfolding endOf
   end-long = rw (k .fill d below)
 
-  tail-after : (e : ℕ) → e < s .disks → tailOf (flushed l d) e ≡ startOf l e + length (wordsOf (on e (F ++ on d B)))
+  tail-after : (e : ℕ) → e < s .disks → tailOf (flushed l d) e ≡ keptOf l e + length (wordsOf (on e (F ++ on d B)))
   tail-after e h = go (ℕ-discrete e d)
     where
-      go : Dec (e ≡ d) → tailOf (flushed l d) e ≡ startOf l e + length (wordsOf (on e (F ++ on d B)))
+      go : Dec (e ≡ d) → tailOf (flushed l d) e ≡ keptOf l e + length (wordsOf (on e (F ++ on d B)))
       go (yes same) =
           rw (same, on-flushed d F B)
           (omega (arith, tail-flushed l d (a .sized) (below-eight a below), end-long, k .tail d below, length-words-append (on d F) (on d B)))
@@ -140,7 +140,7 @@ module _ {s : Sizes} {l : Logs} {w : World} {F B : List Entry} (k : Link s l w F
 
   -- the buffered entries of the disk are flushed ones after it
   pub flush-link : Link s (flushed l d) (perform (flush s l (w .work) d) w) (F ++ on d B) (pick (λ r. not (onDisk d r)) B)
-  unfolding startOf flushed
+  unfolding keptOf startOf flushed
   flush-link =
       let same = flush-only-logs s d (tailOf l d) (wordsOf (on d B)) w .work-same in
       rw flush-words
@@ -160,18 +160,18 @@ module _ {s : Sizes} {l : Logs} {w : World} {F B : List Entry} (k : Link s l w F
     run-words : run n (flush s l (w .work) d) w ≡ part-way
     run-words = rw flush-words (run-store-all s d (tailOf l d) (wordsOf (on d B)) n w (rw flush-words at cut))
 
-    held-cut : (e : ℕ) → e < s .disks → Holds (λ q. getD (part-way .logs) (ringWord s e q) 0) (startOf l e) (wordsOf (on e F))
+    held-cut : (e : ℕ) → e < s .disks → Holds (λ q. getD (part-way .logs) (ringWord s e q) 0) (keptOf l e) (wordsOf (on e F))
     held-cut e h = go (ℕ-discrete e d)
       where
-        go : Dec (e ≡ d) → Holds (λ q. getD (part-way .logs) (ringWord s e q) 0) (startOf l e) (wordsOf (on e F))
+        go : Dec (e ≡ d) → Holds (λ q. getD (part-way .logs) (ringWord s e q) 0) (keptOf l e) (wordsOf (on e F))
         go (yes same) =
             rw same
-            (holds-agree _ _ (startOf l d) (wordsOf (on d F))
+            (holds-agree _ _ (keptOf l d) (wordsOf (on d F))
             (λ q x y. lay-keeps s d (tailOf l d) (take n (wordsOf (on d B))) w q (omega (arith, k .tail d below))
             (omega (arith, k .tail d below, together, length-take n (wordsOf (on d B)))))
             (k .held d below))
         go (no ne) =
-            holds-agree _ _ (startOf l e) (wordsOf (on e F))
+            holds-agree _ _ (keptOf l e) (wordsOf (on e F))
             (λ q x y. lay-keeps-rings s d (tailOf l d) (take n (wordsOf (on d B))) w e q ne (ring-positive s d (a .ring)) (ring-positive s e (a .ring)))
             (k .held e h)
 

@@ -15,7 +15,7 @@ use Rattle.model.specs.Decode.{readLog}
 use Rattle.model.specs.Scan.{Scan, item, scan, placed}
 use Rattle.model.specs.World.{World, Action, perform}
 use Rattle.model.specs.Memory.{bufferOf}
-use Rattle.model.specs.State.{startOf, tailOf, fillOf, flushed, endOf}
+use Rattle.model.specs.State.{keptOf, tailOf, fillOf, flushed, endOf}
 use Rattle.model.specs.Causes.{tailOn, retained as retainedScan}
 use Rattle.model.specs.Image.{retainedWords, imageOf, logOf}
 use Rattle.model.proofs.Below.{getD-list}
@@ -51,15 +51,15 @@ arrays-longer a more = record { sized = more .sized; disks = a .disks; ring = a 
 
 -- F are the flushed entries, B the buffered ones.
 pub record Link (s : Sizes) (l : Logs) (w : World) (F B : List Entry) : Type 0 where
-  pub held : (d : ℕ) → d < s .disks → Holds (λ q. getD (w .logs) (ringWord s d q) 0) (startOf l d) (wordsOf (on d F))
-  pub tail : (d : ℕ) → d < s .disks → tailOf l d ≡ startOf l d + length (wordsOf (on d F))
+  pub held : (d : ℕ) → d < s .disks → Holds (λ q. getD (w .logs) (ringWord s d q) 0) (keptOf l d) (wordsOf (on d F))
+  pub tail : (d : ℕ) → d < s .disks → tailOf l d ≡ keptOf l d + length (wordsOf (on d F))
   pub stored : (d : ℕ) → d < s .disks → tailOn s w d ≡ tailOf l d
   pub buffer : (d : ℕ) → d < s .disks → bufferOf s (w .work) d (fillOf l d) ≡ wordsOf (on d B)
   pub fill : (d : ℕ) → d < s .disks → fillOf l d ≡ length (wordsOf (on d B))
 
 -- the end of a disk's log is the end of its entries
 pub log-end : {s : Sizes} {l : Logs} {w : World} {F B : List Entry} → Link s l w F B → (d : ℕ) → d < s .disks
-    → endOf l d ≡ startOf l d + length (wordsOf (on d F ++ on d B))
+    → endOf l d ≡ keptOf l d + length (wordsOf (on d F ++ on d B))
 unfolding endOf
 log-end {F = F} {B = B} k d below = omega (arith, k .tail d below, k .fill d below, length-words-append (on d F) (on d B))
 
@@ -103,33 +103,33 @@ scan-entries s read stop p l fit laid h e =
 
 module _ {s : Sizes} {l : Logs} {w : World} {F B : List Entry} (k : Link s l w F B) (d : ℕ) (below : d < s .disks) where
   -- below the tail a log reads as the ring
-  pub retained-holds : Holds (readLog s (w .logs) d (tailOn s w d) []) (startOf l d) (wordsOf (on d F))
+  pub retained-holds : Holds (readLog s (w .logs) d (tailOn s w d) []) (keptOf l d) (wordsOf (on d F))
   retained-holds =
-      holds-agree _ _ (startOf l d) (wordsOf (on d F))
+      holds-agree _ _ (keptOf l d) (wordsOf (on d F))
       (λ q h m. read-ring s (w .logs) d (tailOn s w d) [] q (omega (arith, k .tail d below, k .stored d below)))
       (k .held d below)
 
   -- the words of the retained log are those of the flushed records
-  pub retained : startOn (w .anchor) d ≡ startOf l d → retainedWords s w d ≡ wordsOf (on d F)
+  pub retained : startOn (w .anchor) d ≡ keptOf l d → retainedWords s w d ≡ wordsOf (on d F)
   unfolding retainedWords
   retained e =
-      let long : tailOn s w d - startOf l d ≡ length (wordsOf (on d F)) = omega (arith, k .tail d below, k .stored d below) in
-      rw (e, long) (span-holds _ (startOf l d) (wordsOf (on d F)) retained-holds)
+      let long : tailOn s w d - keptOf l d ≡ length (wordsOf (on d F)) = omega (arith, k .tail d below, k .stored d below) in
+      rw (e, long) (span-holds _ (keptOf l d) (wordsOf (on d F)) retained-holds)
 
   -- its scan is these records
-  pub scans : All (Fit s) F → Laid (startOf l d) (on d F)
-      → scan s (readLog s (w .logs) d (tailOn s w d) []) (tailOn s w d) (startOf l d) ≡ entriesScan (on d F)
+  pub scans : All (Fit s) F → Laid (keptOf l d) (on d F)
+      → scan s (readLog s (w .logs) d (tailOn s w d) []) (tailOn s w d) (keptOf l d) ≡ entriesScan (on d F)
   scans fit laid =
-      scan-entries s _ (tailOn s w d) (startOf l d) (on d F) (fit-on s d F fit) laid retained-holds
+      scan-entries s _ (tailOn s w d) (keptOf l d) (on d F) (fit-on s d F fit) laid retained-holds
       (k .stored d below ∙ k .tail d below)
 
-  pub retained-scan : startOn (w .anchor) d ≡ startOf l d → All (Fit s) F → Laid (startOf l d) (on d F)
+  pub retained-scan : startOn (w .anchor) d ≡ keptOf l d → All (Fit s) F → Laid (keptOf l d) (on d F)
       → retainedScan s w d ≡ entriesScan (on d F)
   unfolding retainedScan
   retained-scan e fit laid = rw e (scans fit laid)
 
   -- and so is the log of the image, where the anchor has the sizes and the start
-  pub image-log : sizesOn (w .anchor) ≡ s → startOn (w .anchor) d ≡ startOf l d → All (Fit s) F → Laid (startOf l d) (on d F)
+  pub image-log : sizesOn (w .anchor) ≡ s → startOn (w .anchor) d ≡ keptOf l d → All (Fit s) F → Laid (keptOf l d) (on d F)
       → logOf (imageOf w) d ≡ entriesScan (on d F)
   unfolding logOf imageOf
   image-log same e fit laid =
@@ -140,4 +140,4 @@ module _ {s : Sizes} {l : Logs} {w : World} {F B : List Entry} (k : Link s l w F
         retained e,
         e,
       )
-      (scan-entries s _ _ (startOf l d) (on d F) (fit-on s d F fit) laid (holds-from _ (startOf l d) (wordsOf (on d F)) (λ q h m. refl)) refl)
+      (scan-entries s _ _ (keptOf l d) (on d F) (fit-on s d F fit) laid (holds-from _ (keptOf l d) (wordsOf (on d F)) (λ q h m. refl)) refl)

@@ -18,7 +18,7 @@ use Rattle.model.proofs.Meaning.{Holds, new-start}
 use Rattle.model.proofs.PerDisk.{getD-per-disk, length-per-disk}
 use Rattle.model.proofs.Store.Rows.{stage-row, open-serving, copying-serving, serving-sound, sizes-sound, disk-sound, place-sound, checkpoint-sound}
 use Rattle.model.proofs.Sound.Test.{Sized, Passing, serving-test, copying-test}
-use Rattle.model.proofs.Growth.{tail-end}
+use Rattle.model.proofs.Growth.{tail-end, kept-start, kept-le}
 use Rattle.model.proofs.Verdict.{row-passed}
 use Rattle.model.proofs.Places.{served-is, served-here}
 use Rattle.model.proofs.Store.Accepted.{disks-max}
@@ -117,7 +117,7 @@ module _ (c : Core) (w : World) (copying : whenCopying (c .stage) ≡ true) (s :
       record {
         fill = omega (arith, fill-after d h);
         ordered = omega (arith, start-after d h, tail-after d h, start-to d h);
-        room = omega (arith, start-after d h, end-after d h, start-from d h, old .room);
+        room = omega (arith, kept-start after d, start-after d h, end-after d h, start-from d h, kept-le (c .logs) d, old .room);
         limit = omega (arith, end-after d h, old .limit);
       })
       (λ i h some.

@@ -17,7 +17,7 @@ use Rattle.model.specs.Below.{sumBelow}
 use Rattle.model.specs.Sizes.{sizesInBounds}
 use Rattle.model.specs.Anchor.{sizesOn, startOn}
 use Rattle.model.specs.World.{World}
-use Rattle.model.specs.State.{withReplay, places, limit, noTable, openCore, startOf, tailOf, endOf, numberAt, servedBy, reservedOn, servingSound, sound}
+use Rattle.model.specs.State.{withReplay, places, limit, noTable, emptyLogs, openCore, startOf, tailOf, endOf, numberAt, servedBy, reservedOn, servingSound, sound}
 use Rattle.model.specs.Refusal.{accepted, verdict}
 use Rattle.model.specs.Causes.{whenReplaying, sizesWrong, tailOn, tailWrong, wrongTail, sourceMissing, spent}
 use Rattle.model.specs.Format.{formatRows, formatTask}
@@ -30,7 +30,7 @@ use Rattle.model.proofs.Sound.Test.{Sized, Passing, serving-test, Repla
 use Rattle.model.proofs.Booleans.{or-none}
 use Rattle.model.proofs.Verdict.{row-passed}
 use Rattle.model.proofs.PerDisk.{getD-per-disk, length-per-disk}
-use Rattle.model.proofs.Growth.{none-buffered}
+use Rattle.model.proofs.Growth.{none-buffered, kept-start}
 
 -- An open state with no transaction and empty logs.
 none-reserved : (d : ℕ) → reservedOn noTable d ≡ 0
@@ -48,7 +48,7 @@ module _ (s : Sizes) (epoch : ℕ) (tails : List ℕ) (bounds : sizesInBounds s 
       record {
         fill = omega arith;
         ordered = omega arith;
-        room = omega (arith, none-reserved d);
+        room = omega (arith, kept-start (emptyLogs tails) d, none-reserved d);
         limit = omega (arith, none-reserved d, top d h);
       })
       (λ i h some. absurd (some (getD-replicate places i 0 0 h)))

@@ -16,7 +16,7 @@ use Rattle.model.proofs.Store.Rows.{serving-sound, sizes-sound, DiskSou
 use Rattle.model.proofs.SetPlace.{put-number, put-disk, put-first, put-reserved, other-same}
 use Rattle.model.proofs.Sound.Test.{Sized, serving-test, checkpoint-test}
 use Rattle.model.proofs.Reserved.{reservedBy, free-by, other-by, reserved-changed}
-use Rattle.model.proofs.Growth.{tail-end, Longer, other-ends}
+use Rattle.model.proofs.Growth.{tail-end, kept-le, Longer, other-ends}
 use Rattle.model.proofs.Booleans.{true-false}
 use Rattle.model.proofs.Store.Accepted.{Room, room-none}
 
@@ -80,7 +80,7 @@ module _ (c : Core) (serving : whenServing (c .stage) ≡ true) (s : sound c ≡
       record {
         fill = g .small e h;
         ordered = omega (arith, g .start-same e, g .tail-up e);
-        room = omega (arith, g .start-same e, ends e, tail-end (c .logs) e, room .ring);
+        room = omega (arith, g .kept-same e, kept-le (c .logs) e, ends e, tail-end (c .logs) e, room .ring);
         limit = omega (arith, room .top);
       }
 

@@ -11,7 +11,7 @@ use Rattle.model.specs.Word.{_⊕_}
 use Rattle.model.specs.Sizes.{ringOf}
 use Rattle.model.specs.Scan.{Update, updateWords}
 use Rattle.model.specs.World.{World, perform, stores, run, finishes}
-use Rattle.model.specs.State.{limit, startOf, endOf, withLog, placeOf, hasUpdate}
+use Rattle.model.specs.State.{limit, keptOf, endOf, withLog, placeOf, hasUpdate}
 use Rattle.model.specs.Refusal.{accepted, verdict}
 use Rattle.model.specs.Append.{Appended}
 use Rattle.model.specs.Transaction.{diskOf}
@@ -124,9 +124,9 @@ module _ {home : ℕ → ℕ} {puts : Told} {c : Core} {w : World} {r : Referenc
   abbrev c1 : Core
   c1 = withLog c (undo .logs) (c .table)
 
-  room : endOf (c1 .logs) d + 2 ≤ startOf (c1 .logs) d + ringOf (c1 .sizes) d
+  room : endOf (c1 .logs) d + 2 ≤ keptOf (c1 .logs) d + ringOf (c1 .sizes) d
   unfolding withLog
-  room = omega (arith, work .ends, work .starts d, may .room)
+  room = omega (arith, work .ends, work .kept d, may .room)
 
   in-limit : endOf (c1 .logs) d + 2 ≤ limit
   unfolding withLog

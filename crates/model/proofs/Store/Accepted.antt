@@ -12,7 +12,7 @@ use Rattle.model.specs.Sizes.{slotsIn, widthIn, ringOf}
 use Rattle.model.specs.Record.{wordsOf, updateKind}
 use Rattle.model.specs.Scan.{updateWords}
 use Rattle.model.specs.World.{World}
-use Rattle.model.specs.State.{places, limit, startOf, endOf, numberAt, diskAtPlace, placeOf, reservedAt, isOpen, reservedOn, servingSound, sound}
+use Rattle.model.specs.State.{places, limit, keptOf, endOf, numberAt, diskAtPlace, placeOf, reservedAt, isOpen, reservedOn, servingSound, sound}
 use Rattle.model.specs.Room.{hasRoom, loadOf, idlest}
 use Rattle.model.specs.Refusal.{accepted, verdict}
 use Rattle.model.specs.Causes.{whenServing, tableFull, slotMissing, notOpen, valueWrong, locked}
@@ -30,14 +30,14 @@ use Rattle.model.proofs.Store.Rows.{serving-row, serving-sound, sizes-s
 
 -- Room for k words more on a disk, beside those that are reserved.
 pub record Room (c : Core) (d k : ℕ) : Type 0 where
-  pub ring : endOf (c .logs) d - startOf (c .logs) d + reservedOn (c .table) d + k ≤ ringOf (c .sizes) d
+  pub ring : endOf (c .logs) d - keptOf (c .logs) d + reservedOn (c .table) d + k ≤ ringOf (c .sizes) d
   pub top : endOf (c .logs) d + reservedOn (c .table) d + k ≤ limit
 
 pub room-found : (c : Core) (k d : ℕ) → hasRoom c k d ≡ true → Room c d k
 unfolding hasRoom
 room-found c k d e =
     let t =
-    both (leb (endOf (c .logs) d - startOf (c .logs) d + reservedOn (c .table) d + k) (ringOf (c .sizes) d))
+    both (leb (endOf (c .logs) d - keptOf (c .logs) d + reservedOn (c .table) d + k) (ringOf (c .sizes) d))
     (leb (endOf (c .logs) d + reservedOn (c .table) d + k) limit) e in
     record { ring = leb-true _ _ (t .0); top = leb-true _ _ (t .1) }
 
@@ -80,7 +80,7 @@ module _ (c : Core) (number : ℕ) (ok : servingSound c ≡ true) (o : isOpen (c
 
   -- words that are reserved for it fit the ring and the bound of positions
   pub own-room : (k : ℕ) → k ≤ reservedAt (c .table) (placeOf (c .table) number)
-      → (endOf (c .logs) (diskOf c number) + k ≤ startOf (c .logs) (diskOf c number) + ringOf (c .sizes) (diskOf c number))
+      → (endOf (c .logs) (diskOf c number) + k ≤ keptOf (c .logs) (diskOf c number) + ringOf (c .sizes) (diskOf c number))
       × (endOf (c .logs) (diskOf c number) + k ≤ limit)
   unfolding endOf
   own-room k h =

@@ -11,7 +11,7 @@ use Rattle.model.specs.declared.Core.{Core}
 use Rattle.model.specs.Sizes.{total}
 use Rattle.model.specs.World.{World}
 use Rattle.model.specs.Memory.{ownerOf}
-use Rattle.model.specs.State.{startOf, diskAtPlace, firstAt, reservedAt, placeOf, isOpen}
+use Rattle.model.specs.State.{keptOf, diskAtPlace, firstAt, reservedAt, placeOf, isOpen}
 use Rattle.model.specs.Room.{idlest}
 use Rattle.model.specs.Refusal.{accepted, verdict}
 use Rattle.model.specs.Transaction.{diskOf, beginRows, begun, beginTask}
@@ -102,7 +102,7 @@ module _ {home : ℕ → ℕ} {puts : Told} {c : Core} {w : World} {r : Referenc
             (λ p. all-map (λ e h n. still t p e (h n)) (F ++ B) (v .accounts .own t p));
         firsts =
             λ t o u.
-            newly ok v t (boundary (firstAt T (placeOf T t)) (startOf (c .logs) (diskAtPlace T (placeOf T t))) (on (diskAtPlace T (placeOf T t)) F ++ on (diskAtPlace T (placeOf T t)) B) ≡ true) o
+            newly ok v t (boundary (firstAt T (placeOf T t)) (keptOf (c .logs) (diskAtPlace T (placeOf T t))) (on (diskAtPlace T (placeOf T t)) F ++ on (diskAtPlace T (placeOf T t)) B) ≡ true) o
             (λ q. true-false u (rw q (no-update ok v)))
             (λ p. rw (same-first ok v t p, same-disk ok v t p) (v .accounts .firsts t p (sym (same-update ok v t p) ∙ u)));
         disks =

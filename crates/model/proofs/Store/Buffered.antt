@@ -13,7 +13,8 @@ use Rattle.model.specs.Reference.{Reference}
 use Rattle.model.specs.History.{Told, updatesPut}
 use Rattle.model.specs.Promise.{AbortReads, Buffered}
 use Rattle.model.proofs.Ledger.Entry.{Entry, recordOf, pick}
-use Rattle.model.proofs.Ledger.Order.{wordsOf, on}
+use Rattle.model.proofs.Growth.{kept-start}
+use Rattle.model.proofs.Ledger.Order.{wordsOf, on, Laid, boundary}
 use Rattle.model.proofs.Ledger.Positions.{boundary-suffix}
 use Rattle.model.proofs.Link.Words.{placed-entries}
 use Rattle.model.proofs.Store.View.{Serving}
@@ -33,8 +34,8 @@ module _ {home : ℕ → ℕ} {puts : Told} {c : Core} {w : World} {r : Referenc
       let first : ℕ = firstAt (c .table) (placeOf (c .table) t) in
       let entries : List Entry = on d F ++ on d B in
       let from : List Entry = pick (λ q. leb first (q .position)) entries in
-      let laid = g .safe .ordered .laid d below in
-      let edge = g .accounts .firsts t opened has in
+      let laid : Laid (startOf (c .logs) d) entries = rw (kept-start (c .logs) d) at (g .safe .ordered .laid d below) in
+      let edge : boundary first (startOf (c .logs) d) entries ≡ true = rw (kept-start (c .logs) d) at (g .accounts .firsts t opened has) in
       let s = split-at (startOf (c .logs) d) first entries laid edge in
       record {
         before = map recordOf (s .gone);
@@ -50,7 +51,7 @@ module _ {home : ℕ → ℕ} {puts : Told} {c : Core} {w : World} {r : Referenc
       record {
         buffer = g .safe .link .buffer d below;
         reads =
-            log-entries g d below ∙ sym (placed-entries (startOf (c .logs) d) (on d F ++ on d B) (g .safe .ordered .laid d below))
+            log-entries g d below ∙ sym (placed-entries (startOf (c .logs) d) (on d F ++ on d B) (rw (kept-start (c .logs) d) at (g .safe .ordered .laid d below)))
             ∙ ap (placed (startOf (c .logs) d)) (map-append recordOf (on d F) (on d B));
         aborts = λ t opened here has.
             subst (λ (n : ℕ). AbortReads c w n t (map recordOf (on n F) ++ map recordOf (on n B))) here (abort-reads t opened has);

@@ -11,7 +11,7 @@ use Rattle.model.specs.Sizes.{total, ringOf}
 use Rattle.model.specs.Record.{close, encode, abortKind}
 use Rattle.model.specs.World.{World, perform, stores, run}
 use Rattle.model.specs.Memory.{copyAt, copyOf}
-use Rattle.model.specs.State.{limit, startOf, endOf, withLog, isOpen, without}
+use Rattle.model.specs.State.{limit, keptOf, endOf, withLog, isOpen, without}
 use Rattle.model.specs.Append.{Appended, append}
 use Rattle.model.specs.Transaction.{diskOf}
 use Rattle.model.specs.Reference.{Reference, removed, withSets}
@@ -40,7 +40,7 @@ use Rattle.model.proofs.Store.WordsFor.{words-for-other}
 
 module _ {t : ℕ} {home : ℕ → ℕ} {puts : Told} {c : Core} {w : World} {r : Reference} {F B : List Entry} (g : Serving t home puts c w r F B)
     (opened : isOpen (c .table) t ≡ true) (below : diskOf c t < c .sizes .disks) (small : Small (c .sizes) (c .logs))
-    (room : endOf (c .logs) (diskOf c t) + 2 ≤ startOf (c .logs) (diskOf c t) + ringOf (c .sizes) (diskOf c t))
+    (room : endOf (c .logs) (diskOf c t) + 2 ≤ keptOf (c .logs) (diskOf c t) + ringOf (c .sizes) (diskOf c t))
     (in-limit : endOf (c .logs) (diskOf c t) + 2 ≤ limit)
     (cancels : (i : ℕ) → ofTxn i t (F ++ B) ≡ 0) where
   abbrev s : Sizes
@@ -128,7 +128,7 @@ module _ {t : ℕ} {home : ℕ → ℕ} {puts : Told} {c : Core} {w : World} {r 
   unfolding recordOf isClose
   accounts =
       accounts-closed (made-accounts g e may) e F' B' opened closes (λ u ne o. ne) (λ P h p. all-more P F' (B1 g e may) e h p) closed-now
-      (λ q p k h. boundary-logged q p k F' (B1 g e may) e h) (closing .logs) (put-longer g e may .start-same)
+      (λ q p k h. boundary-logged q p k F' (B1 g e may) e h) (closing .logs) (put-longer g e may .kept-same)
       (open-used (g .safe) t opened .1) (found-more F' (B1 g e may) e) (words-for-other F' (B1 g e may) e)
 
   pub closed : Served (also puts (record { disk = diskOf c t; content = close abortKind t } ∷ [])) (withLog c (closing .logs) (without (c .table) t)) (perform (closing .actions) w) (withSets r (removed t (r .writeSets)))

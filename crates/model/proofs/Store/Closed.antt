@@ -13,7 +13,7 @@ use Rattle.model.specs.declared.Core.{Core}
 use Rattle.model.specs.Sizes.{total, slotsIn, slotBase}
 use Rattle.model.specs.World.{World}
 use Rattle.model.specs.Memory.{ownerAt, ownerOf}
-use Rattle.model.specs.State.{startOf, reservedAt, placeOf, diskAtPlace, firstAt, hasUpdate, isOpen, without, withLog}
+use Rattle.model.specs.State.{keptOf, reservedAt, placeOf, diskAtPlace, firstAt, hasUpdate, isOpen, without, withLog}
 use Rattle.model.specs.Transaction.{diskOf}
 use Rattle.model.specs.Reference.{Reference, Write, WriteSet, writesOf, writesSlot, removed, hasSet}
 use Rattle.model.specs.History.{Put, recordsOn}
@@ -122,7 +122,7 @@ module _ {x : ℕ} {home : ℕ → ℕ} {c : Core} {F B : List Entry} (a : Accou
     (moved : (P : Entry → Type 0) → All P (F ++ B) → P e → All P (L ++ M))
     (closed : (t : ℕ) → closedIn (L ++ M) t ≡ (closedIn (F ++ B) t || eqb (e .number) t))
     (bounds : (q p d : ℕ) → boundary q p (on d F ++ on d B) ≡ true → boundary q p (on d L ++ on d M) ≡ true)
-    (l : Logs) (start-same : (d : ℕ) → startOf l d ≡ startOf (c .logs) d) (known : e .number < c .next)
+    (l : Logs) (kept-same : (d : ℕ) → keptOf l d ≡ keptOf (c .logs) d) (known : e .number < c .next)
     (found : (p : Entry → Bool) → some p (F ++ B) ≡ true → some p (L ++ M) ≡ true)
     (words : (t : ℕ) → (t ≡ e .number → ⊥) → wordsFor t (L ++ M) ≡ wordsFor t (F ++ B)) where
   abbrev table : Table
@@ -168,7 +168,7 @@ module _ {x : ℕ} {home : ℕ → ℕ} {c : Core} {F B : List Entry} (a : Accou
             (a .own u (open-before u o .0)))
             (λ n. absurd (open-before u o .1 (sym n)));
         firsts =
-            λ u o h. rw (first-same u o, disk-same u o, start-same)
+            λ u o h. rw (first-same u o, disk-same u o, kept-same)
             (bounds _ _ (diskOf c u) (a .firsts u (open-before u o .0) (sym (has-same u o) ∙ h)));
         disks = λ u o. rw (disk-same u o) (a .disks u (open-before u o .0));
         started = λ u o h. rw (first-same u o) (found _ (a .started u (open-before u o .0) (sym (has-same u o) ∙ h)));

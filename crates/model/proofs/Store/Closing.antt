@@ -14,7 +14,7 @@ use Rattle.model.specs.Record.{encode}
 use Rattle.model.specs.Anchor.{backupAt}
 use Rattle.model.specs.World.{World, Action, perform, stores, run}
 use Rattle.model.specs.Memory.{bufferAt, copyAt, copyOf}
-use Rattle.model.specs.State.{limit, startOf, endOf, flushed, withLog, without, isOpen}
+use Rattle.model.specs.State.{limit, keptOf, endOf, flushed, withLog, without, isOpen}
 use Rattle.model.specs.Append.{Appended, append, flush}
 use Rattle.model.specs.Reference.{Reference, writesOf, removed, applied, wordsIn}
 use Rattle.model.specs.History.{Told, also}
@@ -41,7 +41,7 @@ use Rattle.model.proofs.Store.Logged.{longer, in-buffer, link-logged, o
 use Rattle.model.proofs.Store.Linked.{kept-linked}
 use Rattle.model.proofs.Store.OneMore.{since-still}
 use Rattle.model.proofs.Store.Closed.{all-writes, sets-closed, owners-closed, accounts-closed, committedLog, lists, moved, closed, bounds, found, words, told, was-open}
-use Rattle.model.proofs.Growth.{start-flushed, ends-flushed, Longer}
+use Rattle.model.proofs.Growth.{start-flushed, kept-flushed, ends-flushed, Longer}
 use Rattle.model.proofs.Booleans.{true-false}
 
 -- the reference after the commit of a transaction
@@ -94,8 +94,8 @@ module _ {home : ℕ → ℕ} {puts : Told} {c : Core} {w : World} {r : Referenc
   right : Lengths (c .sizes) addedWorld
   right = lengths-perform (added .actions) (lengths-right (c .sizes) w (g .safe .devices .lengths))
 
-  ring-room : endOf (added .logs) (e .disk) ≤ startOf (added .logs) (e .disk) + ringOf (c .sizes) (e .disk)
-  ring-room = rw (more .start-same (e .disk), more .end-longer) (may .in-ring)
+  ring-room : endOf (added .logs) (e .disk) ≤ keptOf (added .logs) (e .disk) + ringOf (c .sizes) (e .disk)
+  ring-room = rw (more .kept-same (e .disk), more .end-longer) (may .in-ring)
 
   only : OnlyLogs addedWorld doneWorld
   only = flush-only (c .sizes) (added .logs) addedWorld (e .disk)
@@ -110,25 +110,25 @@ module _ {home : ℕ → ℕ} {puts : Told} {c : Core} {w : World} {r : Referenc
       let part-way = cut-only (c .sizes) (added .logs) addedWorld (e .disk) k h in
       kept-linked (g .safe) (flush-cut linked right arrays (e .disk) below ring-room k h)
       (part-way .anchor-same ∙ buffer .anchor-same) (part-way .backups-same ∙ buffer .backups-same)
-      (same-lengths-trans (run-lengths k flushing addedWorld) (perform-lengths (added .actions) w)) (more .start-same) puts (g .told)
+      (same-lengths-trans (run-lengths k flushing addedWorld) (perform-lengths (added .actions) w)) (more .kept-same) puts (g .told)
 
   lengths : SameLengths doneWorld w
   lengths = same-lengths-trans (perform-lengths flushing addedWorld) (perform-lengths (added .actions) w)
 
-  start-same : (d : ℕ) → startOf (flushed (added .logs) (e .disk)) d ≡ startOf (c .logs) d
-  start-same d = start-flushed (added .logs) (e .disk) d ∙ more .start-same d
+  kept-same : (d : ℕ) → keptOf (flushed (added .logs) (e .disk)) d ≡ keptOf (c .logs) d
+  kept-same d = kept-flushed (added .logs) (e .disk) d ∙ more .kept-same d
 
   devices : Devices doneCore doneWorld
   devices =
-      devices-kept (g .safe .devices) (flushed (added .logs) (e .disk)) (without (c .table) (e .number)) doneWorld start-same
+      devices-kept (g .safe .devices) (flushed (added .logs) (e .disk)) (without (c .table) (e .number)) doneWorld (λ d. start-flushed (added .logs) (e .disk) d ∙ more .start-same d)
       (arrays-flushed (e .disk) arrays) (only .anchor-same ∙ buffer .anchor-same) lengths
 
   -- each log's end is where it was, on the commit's disk behind the closing record
   ends : (d : ℕ) → d < c .sizes .disks → Dec (d ≡ e .disk)
-      → (endOf (added .logs) d ≤ startOf (added .logs) d + ringOf (c .sizes) d) × (endOf (added .logs) d ≤ limit)
+      → (endOf (added .logs) d ≤ keptOf (added .logs) d + ringOf (c .sizes) d) × (endOf (added .logs) d ≤ limit)
   unfolding endOf
   ends d h (yes at) = rw at (ring-room, omega (arith, more .end-longer, may .in-limit))
-  ends d h (no ne) = rw (more .start-same d, more .tail-same d ne, more .fill-same d ne) (g .safe .ends d h)
+  ends d h (no ne) = rw (more .kept-same d, more .tail-same d ne, more .fill-same d ne) (g .safe .ends d h)
 
   -- the owners and the copy numbers stay
   owner-same : (i : ℕ) → i < total (c .sizes) → getD (doneWorld .work) i 0 ≡ getD (w .work) i 0
@@ -183,11 +183,11 @@ module _ {home : ℕ → ℕ} {puts : Told} {c : Core} {w : World} {r : Referenc
             (flush-link linked right arrays (e .disk) below ring-room);
         ordered =
             subst (λ (start : ℕ → ℕ). Ordered (c .sizes .disks) start home gone rest)
-            (fun-ext (λ d. sym (start-flushed (added .logs) (e .disk) d)))
+            (fun-ext (λ d. sym (kept-flushed (added .logs) (e .disk) d)))
             (ordered-commit B e (ordered-logged (g .safe) e may));
         fit = moved F B e (Fit (c .sizes)) (g .safe .fit) (may .fit);
         ends =
-            λ d h. rw (start-flushed (added .logs) (e .disk) d, ends-flushed (added .logs) (e .disk) (more .sized) (below-eight arrays below) d)
+            λ d h. rw (kept-flushed (added .logs) (e .disk) d, ends-flushed (added .logs) (e .disk) (more .sized) (below-eight arrays below) d)
             (ends d h (ℕ-discrete d (e .disk)));
         sizes = g .safe .sizes;
         shaped =
@@ -199,7 +199,7 @@ module _ {home : ℕ → ℕ} {puts : Told} {c : Core} {w : World} {r : Referenc
   accounts : Accounts 0 home doneCore gone rest
   accounts =
       accounts-closed (g .accounts) e gone rest opened closes (λ u ne o z. open-place (c .table) u o .0 z) (moved F B e) (closed F B e closes) (bounds F B e)
-      (flushed (added .logs) (e .disk)) start-same (open-used (g .safe) (e .number) opened .1) (found F B e) (words F B e)
+      (flushed (added .logs) (e .disk)) kept-same (open-used (g .safe) (e .number) opened .1) (found F B e) (words F B e)
 
   not-change : {X : Type 0} → isClose e ≡ false → X
   not-change o = true-false closes o
@@ -212,7 +212,7 @@ module _ {home : ℕ → ℕ} {puts : Told} {c : Core} {w : World} {r : Referenc
         pages = λ p h. epoch-same p ∙ g .copies .pages p h;
         capped = moved F B e _ (g .copies .capped) not-change;
         early = moved F B e _ (g .copies .early) (λ b. not-change);
-        ends = λ o d h. rw (start-same d) (bounds F B e _ _ d (g .copies .ends o d h));
+        ends = λ o d h. rw (kept-same d) (bounds F B e _ _ d (g .copies .ends o d h));
       }
 
   -- whole, the transaction is committed
@@ -228,5 +228,5 @@ module _ {home : ℕ → ℕ} {puts : Told} {c : Core} {w : World} {r : Referenc
         owners =
             owners-closed (g .accounts .tabled) (e .number) opened (g .safe .devices .bounds) (g .owners) owner-same
             (flushed (added .logs) (e .disk)) doneReference refl;
-        told = λ d h. since-still (start-same d) (λ t y l. was-open (c .table) (g .accounts .tabled) (e .number) opened t (y l) .0) (told F B e (puts .puts) d (g .told d h));
+        told = λ d h. since-still (kept-same d) (λ t y l. was-open (c .table) (g .accounts .tabled) (e .number) opened t (y l) .0) (told F B e (puts .puts) d (g .told d h));
       }

@@ -11,7 +11,7 @@ use Rattle.model.specs.declared.Core.{Core}
 use Rattle.model.specs.Sizes.{ringOf}
 use Rattle.model.specs.Record.{encode, close, commitKind}
 use Rattle.model.specs.World.{World, Action, perform, stores, run, finishes}
-use Rattle.model.specs.State.{limit, startOf, endOf, flushed, withLog, without, isOpen}
+use Rattle.model.specs.State.{limit, keptOf, endOf, flushed, withLog, without, isOpen}
 use Rattle.model.specs.Refusal.{accepted, verdict}
 use Rattle.model.specs.Append.{Appended, append, flush}
 use Rattle.model.specs.Transaction.{diskOf, commitRows, commitTask}
@@ -36,7 +36,7 @@ record Allowed (c : Core) (n : ℕ) : Type 0 where
   opened : isOpen (c .table) n ≡ true
   below : diskOf c n < c .sizes .disks
   small : Small (c .sizes) (c .logs)
-  space : endOf (c .logs) (diskOf c n) + 2 ≤ startOf (c .logs) (diskOf c n) + ringOf (c .sizes) (diskOf c n)
+  space : endOf (c .logs) (diskOf c n) + 2 ≤ keptOf (c .logs) (diskOf c n) + ringOf (c .sizes) (diskOf c n)
   in-limit : endOf (c .logs) (diskOf c n) + 2 ≤ limit
 
 allowed : (c : Core) (w : World) (n : ℕ) → verdict (commitRows c w n) ≡ accepted → Allowed c n
@@ -106,7 +106,7 @@ module _ {puts : Told} {c : Core} {w : World} {r : Reference} (g : Served puts c
         at-end = refl;
         unclosed = start .serving .safe .good .unclosed n (a .opened);
         fit = closing-fit commitKind (diskOf c n) (endOf (start .logs) (diskOf c n)) n refl (c .sizes) (omega arith) (open-used (g .serving .safe) n (a .opened) .0);
-        in-ring = omega (arith, start .ends, start .starts (diskOf c n), a .space, size);
+        in-ring = omega (arith, start .ends, start .kept (diskOf c n), a .space, size);
         in-limit = omega (arith, start .ends, a .in-limit, size);
       }
 

@@ -14,7 +14,7 @@ use Rattle.model.specs.Sizes.{slotBase, total}
 use Rattle.model.specs.Scan.{Update}
 use Rattle.model.specs.World.{World, Action, pages, perform, stores, run}
 use Rattle.model.specs.Memory.{copyAt, copyOf}
-use Rattle.model.specs.State.{startOf, endOf, withLog}
+use Rattle.model.specs.State.{keptOf, endOf, withLog}
 use Rattle.model.specs.Append.{Appended}
 use Rattle.model.specs.Transaction.{diskOf}
 use Rattle.model.specs.Abort.{xorIn, compensate}
@@ -48,7 +48,7 @@ pub record Compensated (t : ℕ) (home : ℕ → ℕ) (after : Told) (c : Core) 
   pub buffered : List Entry
   pub serving : Serving t home after (withLog c (done .logs) (c .table)) (perform (done .actions) w) r flushed buffered
   pub sums : (i : ℕ) → ofTxn i t (flushed ++ buffered) ≡ ofTxn i t (F ++ B) ⊕ more i
-  pub starts : (e : ℕ) → startOf (done .logs) e ≡ startOf (c .logs) e
+  pub kept : (e : ℕ) → keptOf (done .logs) e ≡ keptOf (c .logs) e
   pub ends : endOf (done .logs) d ≡ endOf (c .logs) d + n
   pub small : Small (c .sizes) (done .logs)
   pub copies : (page : ℕ) → copyOf (c .sizes) (perform (done .actions) w .work) page ≡ copyOf (c .sizes) (w .work) page
@@ -191,7 +191,7 @@ module _ {t : ℕ} {home : ℕ → ℕ} {puts : Told} {c : Core} {w : World} {r 
         buffered = B';
         serving = rw world serving;
         sums = sums;
-        starts = put-longer g e may .start-same;
+        kept = put-longer g e may .kept-same;
         ends = put-longer g e may .end-longer ∙ ap (λ (n : ℕ). endOf (c .logs) d + n) (compensation-size c w t u);
         small = put-longer g e may .small;
         copies = λ page. rw world (sym (copies-after page));

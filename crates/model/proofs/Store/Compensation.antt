@@ -11,7 +11,7 @@ use Rattle.model.specs.Record.{encode, compensationKind}
 use Rattle.model.specs.Scan.{Update}
 use Rattle.model.specs.World.{World, pages}
 use Rattle.model.specs.Memory.{copyOf}
-use Rattle.model.specs.State.{limit, startOf, endOf, isOpen, placeOf, hasUpdate}
+use Rattle.model.specs.State.{limit, keptOf, endOf, isOpen, placeOf, hasUpdate}
 use Rattle.model.specs.Transaction.{diskOf}
 use Rattle.model.specs.History.{compensation}
 use Rattle.model.proofs.Geometry.{slot-in}
@@ -35,7 +35,7 @@ pub record MayCompensate (c : Core) (t : ℕ) (u : Update) : Type 0 where
   pub below : diskOf c t < c .sizes .disks
   pub small : Small (c .sizes) (c .logs)
   pub slotted : Slotted (c .sizes) u
-  pub room : endOf (c .logs) (diskOf c t) + (3 + length (u .diff)) ≤ startOf (c .logs) (diskOf c t) + ringOf (c .sizes) (diskOf c t)
+  pub room : endOf (c .logs) (diskOf c t) + (3 + length (u .diff)) ≤ keptOf (c .logs) (diskOf c t) + ringOf (c .sizes) (diskOf c t)
   pub in-limit : endOf (c .logs) (diskOf c t) + (3 + length (u .diff)) ≤ limit
 
 -- the entry of its record, at the end of its transaction's disk

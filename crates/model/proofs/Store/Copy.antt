@@ -13,7 +13,7 @@ use Rattle.model.specs.declared.Core.{Core}
 use Rattle.model.specs.Sizes.{pageBase, pageWords, total}
 use Rattle.model.specs.World.{World, backups, work, store, write, perform, run, finishes, each}
 use Rattle.model.specs.Memory.{copyAt, copyOf, lengthsRight}
-use Rattle.model.specs.State.{startOf, fillOf, endOf}
+use Rattle.model.specs.State.{keptOf, fillOf, endOf}
 use Rattle.model.specs.Refusal.{accepted, verdict}
 use Rattle.model.specs.Causes.{whenOpen, tailOn}
 use Rattle.model.specs.Checkpoint.{checkpointBeginRows, checkpointBeginTask, lowestToCopy, checkpointStepRows, copyPage, checkpointStepTask}
@@ -57,7 +57,7 @@ module _ {home : ℕ → ℕ} {puts : Told} {c : Core} {w : World} {r : Referenc
         early = all-map (λ e h b. h (rw opened refl)) (F ++ B) (v .copies .early);
         ends = λ e d h.
             rw (getD-per-disk (c .sizes) (endOf (c .logs)) d (v .safe .devices .bounds .disks-max) h, log-end (v .safe .link) d h)
-            (boundary-end (startOf (c .logs) d) (on d F ++ on d B));
+            (boundary-end (keptOf (c .logs) d) (on d F ++ on d B));
       }
 
   begin-serving : Serving 0 home puts (checkpointBeginTask c w .core) w r F B

@@ -13,7 +13,7 @@ use Rattle.model.specs.Anchor.{sizesOn, startOn, backupAt}
 use Rattle.model.specs.Record.{Record, encodeAll}
 use Rattle.model.specs.World.{World}
 use Rattle.model.specs.Scan.{end}
-use Rattle.model.specs.State.{limit, startOf, tailOf, endOf}
+use Rattle.model.specs.State.{limit, keptOf, tailOf, endOf}
 use Rattle.model.specs.Causes.{tailOn, retained as retainedScan}
 use Rattle.model.specs.Image.{Image, imageOf, retainedWords, logOf, restarted}
 use Rattle.model.specs.Reference.{Reference, wordsIn}
@@ -35,7 +35,7 @@ use Rattle.model.proofs.Restart.Words.{xor-below-cong}
 use Rattle.model.proofs.Restart.Gain.{gain, gains, restarted-word, length-restarted}
 use Rattle.model.proofs.Restart.Image.{length-backup}
 use Rattle.model.proofs.Restart.Entries.{gain-entries, sum-by-disk}
-use Rattle.model.proofs.Store.View.{Kept, Restartable, view, Safe, SinceOn, flushed-laid}
+use Rattle.model.proofs.Store.View.{Kept, Restartable, view, Safe, SinceOn, anchor-kept, flushed-laid}
 use Rattle.model.proofs.Parts.{getD-part}
 
 -- entries are read to their end
@@ -76,7 +76,7 @@ module _ {x : ℕ} {home : ℕ → ℕ} {c : Core} {w : World} {r : Reference} {
 
   pub log : (d : ℕ) → d < s .disks → logOf (imageOf w) d ≡ entriesScan (on d F)
   log d h =
-      image-log (g .link) d h (g .devices .sizes) (g .devices .starts d h) fit (flushed-laid g d h)
+      image-log (g .link) d h (g .devices .sizes) (anchor-kept (g .devices) d h) fit (flushed-laid g d h)
 
   log-gain : (i d : ℕ) → d < s .disks → gain s (c .epoch) (logOf (imageOf w) d) i ≡ sum (part-of i) (on d F)
   unfolding part-of on
@@ -117,7 +117,7 @@ module _ {x : ℕ} {home : ℕ → ℕ} {c : Core} {w : World} {r : Reference} {
 
   -- and no check of a restart applies
   within-ring : (d : ℕ) → d < s .disks
-      → (startOf (c .logs) d ≤ tailOf (c .logs) d) × (tailOf (c .logs) d ≤ startOf (c .logs) d + ringOf s d) × (tailOf (c .logs) d ≤ limit)
+      → (keptOf (c .logs) d ≤ tailOf (c .logs) d) × (tailOf (c .logs) d ≤ keptOf (c .logs) d + ringOf s d) × (tailOf (c .logs) d ≤ limit)
   unfolding endOf
   within-ring d h =
       let e = g .ends d h in
@@ -130,16 +130,16 @@ module _ {x : ℕ} {home : ℕ → ℕ} {c : Core} {w : World} {r : Reference} {
         bounds = rw (g .devices .sizes) (in-bounds s (g .devices .bounds));
         lengths = rw (g .devices .sizes) (g .devices .lengths);
         formatted = rw (g .devices .epoch) (g .devices .formatted);
-        tails = λ d. rw (g .devices .sizes) (λ h. rw (g .devices .starts d h, g .link .stored d h) (within-ring d h));
-        clean = λ d. rw (g .devices .sizes) (λ h. rw (retained-scan (g .link) d h (g .devices .starts d h) fit (flushed-laid g d h)) (entries-end (on d F)));
+        tails = λ d. rw (g .devices .sizes) (λ h. rw (anchor-kept (g .devices) d h, g .link .stored d h) (within-ring d h));
+        clean = λ d. rw (g .devices .sizes) (λ h. rw (retained-scan (g .link) d h (anchor-kept (g .devices) d h) fit (flushed-laid g d h)) (entries-end (on d F)));
       }
 
   -- the logs of the image are the flushed entries; what is buffered would be lost
   unfoldable pub stored : (d : ℕ) → d < s .disks → (puts : Told) → SinceOn puts c d (on d F ++ on d B) → Stored puts w d
   unfolding wordsOf
   stored d h puts told =
-      let start = g .devices .starts d h in
-      let laid = sym (placed-entries (startOf (c .logs) d) (on d F) (flushed-laid g d h)) in
+      let start = anchor-kept (g .devices) d h in
+      let laid = sym (placed-entries (keptOf (c .logs) d) (on d F) (flushed-laid g d h)) in
       let long = ap length (encode-append (told .old) (map recordOf (on d F))) ∙ length-append (encodeAll (told .old)) (encodeAll (map recordOf (on d F))) in
       record {
         old = told .old;

@@ -11,7 +11,7 @@ use Rattle.model.specs.declared.Logs.{Logs}
 use Rattle.model.specs.declared.Table.{Table}
 use Rattle.model.specs.declared.Core.{Core}
 use Rattle.model.specs.World.{World}
-use Rattle.model.specs.State.{startOf, withLog, placeOf, isOpen, firstAt, reservedAt, hasUpdate, diskAtPlace}
+use Rattle.model.specs.State.{keptOf, withLog, placeOf, isOpen, firstAt, reservedAt, hasUpdate, diskAtPlace}
 use Rattle.model.specs.Transaction.{diskOf}
 use Rattle.model.specs.Reference.{Reference}
 use Rattle.model.proofs.Places.{Tabled}
@@ -30,8 +30,8 @@ module _ {x : ℕ} {home : ℕ → ℕ} {c : Core} {w : World} {r : Reference} {
   abbrev logs : Logs
   logs = logged g e may .logs
 
-  start-same : (d : ℕ) → startOf logs d ≡ startOf (c .logs) d
-  start-same = longer g e may .start-same
+  kept-same : (d : ℕ) → keptOf logs d ≡ keptOf (c .logs) d
+  kept-same = longer g e may .kept-same
 
   -- The table with one entry more of an open transaction: others stand as they did, its own first record is no later.
   pub record Entered (t : Table) : Type 0 where
@@ -45,7 +45,7 @@ module _ {x : ℕ} {home : ℕ → ℕ} {c : Core} {w : World} {r : Reference} {
     pub has : hasUpdate t (placeOf t (e .number)) ≡ true
     pub first : firstAt t (placeOf t (e .number)) ≤ e .position
     pub firsts : All (λ q. q .number ≡ e .number → firstAt t (placeOf t (e .number)) ≤ q .position) (F ++ B)
-    pub at : boundary (firstAt t (placeOf t (e .number))) (startOf (c .logs) (e .disk)) (on (e .disk) F ++ on (e .disk) (B ++ e ∷ [])) ≡ true
+    pub at : boundary (firstAt t (placeOf t (e .number))) (keptOf (c .logs) (e .disk)) (on (e .disk) F ++ on (e .disk) (B ++ e ∷ [])) ≡ true
     pub started : some (λ q. eqb (q .number) (e .number) && eqb (q .position) (firstAt t (placeOf t (e .number)))) (F ++ (B ++ e ∷ [])) ≡ true
     pub reserved : (e .number ≡ x → ⊥) → reservedAt t (placeOf t (e .number)) ≡ 2 + (wordsFor (e .number) (F ++ B) + sizeOf e)
     pub kind : (e .number ≡ x → ⊥) → e .kind ≡ 0
@@ -88,11 +88,11 @@ module _ {x : ℕ} {home : ℕ → ℕ} {c : Core} {w : World} {r : Reference} {
       there = k .disks (e .number) (k .open?) ∙ sym (a .homes (e .number) (k .open?)) ∙ sym (may .here)
 
       at : (u : ℕ) → isOpen (c .table) u ≡ true → hasUpdate t (placeOf t u) ≡ true → Dec (u ≡ e .number)
-          → boundary (firstAt t (placeOf t u)) (startOf (logs) (diskAtPlace t (placeOf t u)))
+          → boundary (firstAt t (placeOf t u)) (keptOf (logs) (diskAtPlace t (placeOf t u)))
           (on (diskAtPlace t (placeOf t u)) F ++ on (diskAtPlace t (placeOf t u)) (B ++ e ∷ [])) ≡ true
-      at u o h (yes same) = rw (same, there, start-same) (k .at)
+      at u o h (yes same) = rw (same, there, kept-same) (k .at)
       at u o h (no ne) =
-          rw (k .others u o ne .1, k .disks u o, start-same)
+          rw (k .others u o ne .1, k .disks u o, kept-same)
           (boundary-logged _ _ (diskOf c u) F B e (a .firsts u o (sym (k .others u o ne .0) ∙ h)))
 
       begun : (u : ℕ) → isOpen (c .table) u ≡ true → hasUpdate t (placeOf t u) ≡ true → Dec (u ≡ e .number)

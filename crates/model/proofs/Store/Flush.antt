@@ -11,7 +11,7 @@ use Rattle.model.specs.declared.Core.{Core}
 use Rattle.model.specs.Sizes.{total, ringOf}
 use Rattle.model.specs.World.{World, perform, run, stores}
 use Rattle.model.specs.Memory.{copyOf, lengthsRight}
-use Rattle.model.specs.State.{startOf, endOf, flushed, withLog, placeOf, firstAt}
+use Rattle.model.specs.State.{startOf, keptOf, endOf, flushed, withLog, placeOf, firstAt}
 use Rattle.model.specs.Anchor.{sizesOn, epochOn, startOn}
 use Rattle.model.specs.Append.{flush}
 use Rattle.model.specs.Transaction.{diskOf}
@@ -69,7 +69,7 @@ module _ {x : ℕ} {home : ℕ → ℕ} {c : Core} {w : World} {r : Reference} {
   abbrev pub flushedWorld : World
   flushedWorld = perform (flush (c .sizes) (c .logs) (w .work) d) w
 
-  room : endOf (c .logs) d ≤ startOf (c .logs) d + ringOf (c .sizes) d
+  room : endOf (c .logs) d ≤ keptOf (c .logs) d + ringOf (c .sizes) d
   room = g .ends d below .0
 
   right : Lengths (c .sizes) w
@@ -97,7 +97,7 @@ module _ {x : ℕ} {home : ℕ → ℕ} {c : Core} {w : World} {r : Reference} {
       }
 
   pub flush-safe : Safe x home (flushedCore c d) flushedWorld r (F ++ on d B) (left d B)
-  unfolding withLog view flushed startOf on
+  unfolding withLog view flushed keptOf startOf on
   flush-safe =
       record {
         devices =
@@ -162,7 +162,7 @@ module _ {x : ℕ} {home : ℕ → ℕ} {puts : Told} {c : Core} {w : World} {r 
   moved P h = all-flush P (onDisk d) F B h
 
   accounts : Accounts x home (flushedCore c d) (F ++ on d B) (left d B)
-  unfolding withLog on flushed startOf diskOf
+  unfolding withLog on flushed keptOf startOf diskOf
   accounts =
       record {
         tabled = g .accounts .tabled;
@@ -177,7 +177,7 @@ module _ {x : ℕ} {home : ℕ → ℕ} {puts : Told} {c : Core} {w : World} {r 
       }
 
   copies : Copies (flushedCore c d) (flushedWorld (g .safe) d below) (F ++ on d B) (left d B)
-  unfolding withLog on flushed startOf before copyOf
+  unfolding withLog on flushed keptOf startOf before copyOf
   copies =
       record {
         copied = g .copies .copied;
@@ -188,7 +188,7 @@ module _ {x : ℕ} {home : ℕ → ℕ} {puts : Told} {c : Core} {w : World} {r 
       }
 
   pub flush-serving : Serving x home puts (flushedCore c d) (flushedWorld (g .safe) d below) r (F ++ on d B) (left d B)
-  unfolding withLog flushed startOf
+  unfolding withLog flushed keptOf startOf
   flush-serving =
       record {
         stage = g .stage;

@@ -14,7 +14,7 @@ use Rattle.model.specs.Anchor.{anchorWords, epochOn, sizesOn, startOn, b
 use Rattle.model.specs.Record.{encodeAll}
 use Rattle.model.specs.World.{World}
 use Rattle.model.specs.Memory.{ownerAt, ownerOf, bufferOf, copyOf, lengthsRight}
-use Rattle.model.specs.State.{limit, places, noTable, emptyLogs, openCore, startOf, tailOf, fillOf, endOf, numberAt, placeOf, isOpen}
+use Rattle.model.specs.State.{limit, places, noTable, emptyLogs, openCore, startOf, keptOf, tailOf, fillOf, endOf, numberAt, placeOf, isOpen}
 use Rattle.model.specs.Causes.{tailOn}
 use Rattle.model.specs.Reference.{Reference, wordsIn, hasSet}
 use Rattle.model.specs.Record.{encodeAll}
@@ -31,7 +31,7 @@ use Rattle.model.proofs.Ledger.Good.{Good, fresh-good, good-same}
 use Rattle.model.proofs.Link.Words.{Link}
 use Rattle.model.proofs.Store.View.{view, Devices, Safe, Accounts, Copies, Sets, Owners, Served}
 use Rattle.model.proofs.Store.Same.{slot-lt}
-use Rattle.model.proofs.Growth.{none-buffered}
+use Rattle.model.proofs.Growth.{none-buffered, kept-start}
 
 -- What the devices, the memories and the reference are, where the store is openCore s n tails.
 pub record Freshly (s : Sizes) (n : ℕ) (tails : List ℕ) (v : World) (r : Reference) : Type 0 where
@@ -125,20 +125,20 @@ module _ {s : Sizes} {n : ℕ} {tails : List ℕ} {v : World} {r : Reference} (f
   fresh-link =
       record {
         held = λ d h. tt;
-        tail = λ d h. omega arith;
+        tail = λ d h. omega (arith, kept-start (emptyLogs tails) d);
         stored = f .stored;
         buffer = λ d h. rw (none-buffered tails d (omega (arith, f .bounds .disks-max)));
         fill = λ d h. none-buffered tails d (omega (arith, f .bounds .disks-max));
       }
 
   fresh-ends : (d : ℕ) → d < s .disks
-      → (endOf (emptyLogs tails) d ≤ startOf (emptyLogs tails) d + ringOf s d) × (endOf (emptyLogs tails) d ≤ limit)
+      → (endOf (emptyLogs tails) d ≤ keptOf (emptyLogs tails) d + ringOf s d) × (endOf (emptyLogs tails) d ≤ limit)
   unfolding endOf tailOf startOf
   fresh-ends d h =
       let none : fillOf (emptyLogs tails) d ≡ 0 = none-buffered tails d (omega (arith, f .bounds .disks-max)) in
-      (omega arith, omega (arith, f .short d h))
+      (omega (arith, kept-start (emptyLogs tails) d), omega (arith, f .short d h))
 
-  fresh-ordered : Ordered (s .disks) (startOf (emptyLogs tails)) (λ t. 0) [] []
+  fresh-ordered : Ordered (s .disks) (keptOf (emptyLogs tails)) (λ t. 0) [] []
   unfolding on pick
   fresh-ordered = record { laid = λ d h. tt; inside = tt; homed = tt; last = tt }
 
@@ -215,6 +215,6 @@ module _ {s : Sizes} {n : ℕ} {tails : List ℕ} {v : World} {r : Reference} (f
               copies = fresh-copies;
               sets = fresh-sets;
               owners = fresh-owners;
-              told = λ d h. record { old = []; all = refl; from = omega (arith, there d h); past = λ t y. refl };
+              told = λ d h. record { old = []; all = refl; from = omega (arith, kept-start (emptyLogs tails) d, there d h); past = λ t y. refl };
             };
       }

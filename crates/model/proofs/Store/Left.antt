@@ -12,7 +12,7 @@ use Rattle.model.specs.Sizes.{ringOf}
 use Rattle.model.specs.Record.{Record, change, close, updateKind}
 use Rattle.model.specs.Scan.{Scan, item, updatesIn, updateWords}
 use Rattle.model.specs.World.{World}
-use Rattle.model.specs.State.{limit, startOf, endOf, isOpen, placeOf, firstAt, hasUpdate}
+use Rattle.model.specs.State.{limit, keptOf, endOf, isOpen, placeOf, firstAt, hasUpdate}
 use Rattle.model.specs.Refusal.{accepted, verdict}
 use Rattle.model.specs.Transaction.{diskOf}
 use Rattle.model.specs.Abort.{abortScan, updatesLeft, abortRows}
@@ -146,7 +146,7 @@ pub record MayAbort (c : Core) (w : World) (t : ℕ) : Type 0 where
   pub below : diskOf c t < c .sizes .disks
   pub small : Small (c .sizes) (c .logs)
   -- the compensations and the closing record fit the ring and the bound of positions
-  pub room : endOf (c .logs) (diskOf c t) + (updateWords (updatesLeft c w t) + 2) ≤ startOf (c .logs) (diskOf c t) + ringOf (c .sizes) (diskOf c t)
+  pub room : endOf (c .logs) (diskOf c t) + (updateWords (updatesLeft c w t) + 2) ≤ keptOf (c .logs) (diskOf c t) + ringOf (c .sizes) (diskOf c t)
   pub in-limit : endOf (c .logs) (diskOf c t) + (updateWords (updatesLeft c w t) + 2) ≤ limit
 
 pub may-abort : (c : Core) (w : World) (t : ℕ) → verdict (abortRows c w t) ≡ accepted → MayAbort c w t

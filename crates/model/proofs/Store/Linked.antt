@@ -10,7 +10,7 @@ use Rattle.model.specs.Word.{part}
 use Rattle.model.specs.Sizes.{total}
 use Rattle.model.specs.Anchor.{sizesOn, epochOn, startOn, backupAt}
 use Rattle.model.specs.World.{World}
-use Rattle.model.specs.State.{startOf}
+use Rattle.model.specs.State.{keptOf}
 use Rattle.model.specs.Causes.{tailOn, retained as retainedScan}
 use Rattle.model.specs.Image.{imageOf, retainedWords, restarted}
 use Rattle.model.specs.Reference.{Reference}
@@ -22,25 +22,25 @@ use Rattle.model.proofs.Ledger.Order.{on}
 use Rattle.model.proofs.Ledger.Lists.{all-left}
 use Rattle.model.proofs.Link.Words.{Fit, Link, retained, retained-scan}
 use Rattle.model.proofs.Restart.Image.{image-same}
-use Rattle.model.proofs.Store.View.{Restartable, Kept, Safe, SinceOn, flushed-laid}
+use Rattle.model.proofs.Store.View.{Restartable, Kept, Safe, SinceOn, anchor-kept, flushed-laid}
 use Rattle.model.proofs.Store.Crash.{kept, stored, stored-same}
 use Rattle.model.proofs.Store.Flush.{lengths-same}
 
 -- w is the world of an open store, v another one with its flushed entries, its anchor and its backups.
 module _ {x : ℕ} {home : ℕ → ℕ} {c : Core} {m : Logs} {w v : World} {r : Reference} {F B D : List Entry} (g : Safe x home c w r F B)
     (j : Link (c .sizes) m v F D) (anchor : v .anchor ≡ w .anchor) (backups : v .backups ≡ w .backups) (lengths : SameLengths v w)
-    (same : (d : ℕ) → startOf m d ≡ startOf (c .logs) d) where
+    (same : (d : ℕ) → keptOf m d ≡ keptOf (c .logs) d) where
   abbrev s : Sizes
   s = c .sizes
 
   sizes : sizesOn (v .anchor) ≡ s
   sizes = ap sizesOn anchor ∙ g .devices .sizes
 
-  start : (d : ℕ) → d < s .disks → startOn (v .anchor) d ≡ startOf m d
-  start d h = ap (λ (a : List ℕ). startOn a d) anchor ∙ g .devices .starts d h ∙ sym (same d)
+  start : (d : ℕ) → d < s .disks → startOn (v .anchor) d ≡ keptOf m d
+  start d h = ap (λ (a : List ℕ). startOn a d) anchor ∙ anchor-kept (g .devices) d h ∙ sym (same d)
 
   words : (d : ℕ) → d < s .disks → retainedWords s v d ≡ retainedWords s w d
-  words d h = retained j d h (start d h) ∙ sym (retained (g .link) d h (g .devices .starts d h))
+  words d h = retained j d h (start d h) ∙ sym (retained (g .link) d h (anchor-kept (g .devices) d h))
 
   pub image-linked : imageOf v ≡ imageOf w
   image-linked =
@@ -55,7 +55,7 @@ module _ {x : ℕ} {home : ℕ → ℕ} {c : Core} {m : Logs} {w v : World} {r :
   scan-linked : (d : ℕ) → d < s .disks → retainedScan s v d ≡ retainedScan s w d
   scan-linked d h =
       let fit = all-left (Fit s) F B (g .fit) in
-      retained-scan j d h (start d h) fit (rw (same d) (flushed-laid g d h)) ∙ sym (retained-scan (g .link) d h (g .devices .starts d h) fit (flushed-laid g d h))
+      retained-scan j d h (start d h) fit (rw (same d) (flushed-laid g d h)) ∙ sym (retained-scan (g .link) d h (anchor-kept (g .devices) d h) fit (flushed-laid g d h))
 
   restartable-linked : Restartable w → Restartable v
   restartable-linked h =

@@ -10,7 +10,7 @@ use borrow.Author.Tests.{ltb-true, le-ltb, eqb-true}
 use Rattle.model.specs.declared.Core.{Core}
 use Rattle.model.specs.World.{World}
 use Rattle.model.specs.Memory.{copyOf}
-use Rattle.model.specs.State.{startOf, endOf}
+use Rattle.model.specs.State.{keptOf, endOf}
 use Rattle.model.specs.Causes.{whenOpen}
 use Rattle.model.specs.Reference.{Reference}
 use Rattle.model.specs.History.{Told}
@@ -62,6 +62,6 @@ module _ {x : ℕ} {home : ℕ → ℕ} {puts : Told} {c : Core} {w : World} {r 
             arith,
             ltb-true (e .position) (getD (c .checkpoint .ends) (e .disk) 0) y,
             log-end (g .safe .link) (e .disk) below,
-            boundary-to (getD (c .checkpoint .ends) (e .disk) 0) (startOf (c .logs) (e .disk)) (on (e .disk) F ++ on (e .disk) B)
+            boundary-to (getD (c .checkpoint .ends) (e .disk) 0) (keptOf (c .logs) (e .disk)) (on (e .disk) F ++ on (e .disk) B)
                 (g .copies .ends o (e .disk) below),
           ))

@@ -13,7 +13,7 @@ use Rattle.model.specs.Sizes.{total, ringOf}
 use Rattle.model.specs.Record.{encode}
 use Rattle.model.specs.World.{World, perform, stores}
 use Rattle.model.specs.Memory.{bufferAt, copyAt, copyOf}
-use Rattle.model.specs.State.{limit, startOf, fillOf, endOf, withLog}
+use Rattle.model.specs.State.{limit, keptOf, fillOf, endOf, withLog}
 use Rattle.model.specs.Append.{Appended, append}
 use Rattle.model.specs.Reference.{Reference}
 use Rattle.model.proofs.Lengths.{Lengths, lengths-right}
@@ -59,7 +59,7 @@ pub record MayLog (home : ℕ → ℕ) (c : Core) (F B : List Entry) (e : Entry)
   pub at-end : e .position ≡ endOf (c .logs) (e .disk)
   pub unclosed : closedIn (F ++ B) (e .number) ≡ false
   pub fit : Fit (c .sizes) e
-  pub in-ring : endOf (c .logs) (e .disk) + sizeOf e ≤ startOf (c .logs) (e .disk) + ringOf (c .sizes) (e .disk)
+  pub in-ring : endOf (c .logs) (e .disk) + sizeOf e ≤ keptOf (c .logs) (e .disk) + ringOf (c .sizes) (e .disk)
   pub in-limit : endOf (c .logs) (e .disk) + sizeOf e ≤ limit
 
 module _ {x : ℕ} {home : ℕ → ℕ} {c : Core} {w : World} {r : Reference} {F B : List Entry} (g : Safe x home c w r F B) (e : Entry)
@@ -88,18 +88,18 @@ module _ {x : ℕ} {home : ℕ → ℕ} {c : Core} {w : World} {r : Reference} {
   pub link-logged : Link (c .sizes) (logged .logs) loggedWorld F (B ++ e ∷ [])
   link-logged = append-room (g .link) right (g .devices .arrays) (may .small) (e .disk) (may .below) e refl short (may .room)
 
-  position : e .position ≡ startOf (c .logs) (e .disk) + length (wordsOf (on (e .disk) F ++ on (e .disk) B))
+  position : e .position ≡ keptOf (c .logs) (e .disk) + length (wordsOf (on (e .disk) F ++ on (e .disk) B))
   position = may .at-end ∙ log-end (g .link) (e .disk) (may .below)
 
-  pub ordered-logged : Ordered (c .sizes .disks) (startOf (logged .logs)) home F (B ++ e ∷ [])
+  pub ordered-logged : Ordered (c .sizes .disks) (keptOf (logged .logs)) home F (B ++ e ∷ [])
   ordered-logged =
-      rw (fun-ext (longer .start-same)) (ordered-append (g .ordered) e (may .below) (may .here) (may .unclosed) position)
+      rw (fun-ext (longer .kept-same)) (ordered-append (g .ordered) e (may .below) (may .here) (may .unclosed) position)
 
   end-logged : (d : ℕ) → d < c .sizes .disks → Dec (d ≡ e .disk)
-      → (endOf (logged .logs) d ≤ startOf (logged .logs) d + ringOf (c .sizes) d) × (endOf (logged .logs) d ≤ limit)
+      → (endOf (logged .logs) d ≤ keptOf (logged .logs) d + ringOf (c .sizes) d) × (endOf (logged .logs) d ≤ limit)
   unfolding endOf
-  end-logged d h (yes same) = rw (same, longer .start-same) (omega (arith, longer .end-longer, may .in-ring), omega (arith, longer .end-longer, may .in-limit))
-  end-logged d h (no ne) = rw (longer .start-same d, longer .tail-same d ne, longer .fill-same d ne) (g .ends d h)
+  end-logged d h (yes same) = rw (same, longer .kept-same) (omega (arith, longer .end-longer, may .in-ring), omega (arith, longer .end-longer, may .in-limit))
+  end-logged d h (no ne) = rw (longer .kept-same d, longer .tail-same d ne, longer .fill-same d ne) (g .ends d h)
 
   module _ {u : World} (k : Written (c .sizes) loggedWorld u) where
     lengths-written : SameLengths u w
@@ -144,5 +144,5 @@ module _ {x : ℕ} {home : ℕ → ℕ} {c : Core} {w : World} {r : Reference} {
           pages = λ p l. same _ (omega arith) ∙ copies-same in-buffer _ (may .below) (omega arith) ∙ h .pages p l;
           capped = all-more _ F B e (h .capped) capped;
           early = all-more _ F B e (h .early) early;
-          ends = λ o d l. rw (longer .start-same d) (boundary-logged _ _ d F B e (h .ends o d l));
+          ends = λ o d l. rw (longer .kept-same d) (boundary-logged _ _ d F B e (h .ends o d l));
         }

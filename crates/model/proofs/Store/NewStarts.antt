@@ -12,7 +12,7 @@ use Rattle.model.specs.declared.Core.{Core}
 use Rattle.model.specs.Sizes.{total}
 use Rattle.model.specs.World.{World}
 use Rattle.model.specs.Memory.{copyOf}
-use Rattle.model.specs.State.{places, startOf, numberAt, firstAt, reservedAt, hasUpdate, placeOf, isOpen}
+use Rattle.model.specs.State.{places, keptOf, numberAt, firstAt, reservedAt, hasUpdate, placeOf, isOpen}
 use Rattle.model.specs.Causes.{whenOpen}
 use Rattle.model.specs.Checkpoint.{newStart}
 use Rattle.model.specs.Transaction.{diskOf}
@@ -86,17 +86,17 @@ module _ {home : ℕ → ℕ} {puts : Told} {c : Core} {w : World} {r : Referenc
 
   -- an open transaction's first record begins at a boundary of its disk's log
   pub first-boundary : (t : ℕ) → isOpen (c .table) t ≡ true → hasUpdate (c .table) (placeOf (c .table) t) ≡ true
-      → boundary (firstOf c t) (startOf (c .logs) (diskOf c t)) (on (diskOf c t) F) ≡ true
+      → boundary (firstOf c t) (keptOf (c .logs) (diskOf c t)) (on (diskOf c t) F) ≡ true
   first-boundary t o h = rw (flat-on (diskOf c t)) at (g .accounts .firsts t o h)
 
   -- and so a new start is one: it is such a first position or a remembered end
-  pub new-boundary : (d : ℕ) → d < c .sizes .disks → boundary (newStart c d) (startOf (c .logs) d) (on d F) ≡ true
+  pub new-boundary : (d : ℕ) → d < c .sizes .disks → boundary (newStart c d) (keptOf (c .logs) d) (on d F) ≡ true
   unfolding diskOf
   new-boundary d h = go (new-start c d .one-of)
     where
       go : (newStart c d ≡ markOf c d)
           ⊎ ((i : ℕ) × (i < places) × Holds (c .table) d i × (newStart c d ≡ firstAt (c .table) i))
-          → boundary (newStart c d) (startOf (c .logs) d) (on d F) ≡ true
+          → boundary (newStart c d) (keptOf (c .logs) d) (on d F) ≡ true
       go (inl e) = rw (e, ← flat-on d) (g .copies .ends copying d h)
       go (inr x) =
           let i : ℕ = x .0 in

@@ -13,7 +13,7 @@ use Rattle.model.specs.Sizes.{total, ringOf}
 use Rattle.model.specs.Record.{encode}
 use Rattle.model.specs.World.{World, Action, perform, stores, run}
 use Rattle.model.specs.Memory.{bufferAt, copyOf}
-use Rattle.model.specs.State.{limit, startOf, endOf, withLog, isOpen, placeOf, firstAt, hasUpdate}
+use Rattle.model.specs.State.{limit, keptOf, endOf, withLog, isOpen, placeOf, firstAt, hasUpdate}
 use Rattle.model.specs.Append.{Appended, append}
 use Rattle.model.specs.Transaction.{diskOf}
 use Rattle.model.specs.Reference.{Reference}
@@ -46,7 +46,7 @@ pub record MayPut (c : Core) (e : Entry) : Type 0 where
   pub small : Small (c .sizes) (c .logs)
   pub short : sizeOf e ≤ 64
   pub at-end : e .position ≡ endOf (c .logs) (e .disk)
-  pub in-ring : endOf (c .logs) (e .disk) + sizeOf e ≤ startOf (c .logs) (e .disk) + ringOf (c .sizes) (e .disk)
+  pub in-ring : endOf (c .logs) (e .disk) + sizeOf e ≤ keptOf (c .logs) (e .disk) + ringOf (c .sizes) (e .disk)
   pub in-limit : endOf (c .logs) (e .disk) + sizeOf e ≤ limit
   pub fit : Fit (c .sizes) e
 
@@ -121,7 +121,7 @@ module _ {x : ℕ} {home : ℕ → ℕ} {puts : Told} {c : Core} {w : World} {r 
         tabled = a .tabled;
         homes = a .homes;
         own = λ t o. all-map (λ q h n. record { has = h n .has; first = h n .first; kind = h n .kind }) (F1 ++ B1) (a .own t o);
-        firsts = λ t o h. rw (made .starts) at (a .firsts t o h);
+        firsts = λ t o h. rw (made .kept) at (a .firsts t o h);
         disks = a .disks;
         started = a .started;
         reserved = a .reserved;
@@ -141,7 +141,7 @@ module _ {x : ℕ} {home : ℕ → ℕ} {puts : Told} {c : Core} {w : World} {r 
         at-end = may .at-end ∙ sym (made .ends);
         unclosed = made-good .unclosed (e .number) (may .opened);
         fit = may .fit;
-        in-ring = rw (made .ends, made .starts) (may .in-ring);
+        in-ring = rw (made .ends, made .kept) (may .in-ring);
         in-limit = rw (made .ends) (may .in-limit);
       }
 
@@ -175,10 +175,10 @@ module _ {x : ℕ} {home : ℕ → ℕ} {puts : Told} {c : Core} {w : World} {r 
 
   -- what is told of the logs, with the entry's record
   pub put-told : (p : Put) → p .disk ≡ e .disk → p .content ≡ recordOf e → (k : ℕ) → k < c .sizes .disks
-      → Since (puts .base k) (startOf (put .logs) k) (c .next) (isOpen (c .table)) (recordsOn k (puts .puts ++ p ∷ [])) (on k F1 ++ on k (B1 ++ e ∷ []))
+      → Since (puts .base k) (keptOf (put .logs) k) (c .next) (isOpen (c .table)) (recordsOn k (puts .puts ++ p ∷ [])) (on k F1 ++ on k (B1 ++ e ∷ []))
   unfolding withLog
   put-told p disk content k h =
-      since-still (put-longer .start-same k ∙ sym (made .starts k)) (λ t y. y) (told-more (puts .puts) F1 B1 e p disk content k (serving1 .told k h))
+      since-still (put-longer .kept-same k ∙ sym (made .kept k)) (λ t y. y) (told-more (puts .puts) F1 B1 e p disk content k (serving1 .told k h))
 
   -- Memory words written after it.
   module _ {u : World} (k : Written (c .sizes) (perform (put .actions) w) u) where
@@ -220,10 +220,10 @@ module _ {x : ℕ} {home : ℕ → ℕ} {puts : Told} {c : Core} {w : World} {r 
               arith,
               may1 .at-end,
               log-end (serving1 .safe .link) (e .disk) (may1 .below),
-              boundary-to first (startOf (made .logs) (e .disk)) (on (e .disk) F1 ++ on (e .disk) B1) edge,
+              boundary-to first (keptOf (made .logs) (e .disk)) (on (e .disk) F1 ++ on (e .disk) B1) edge,
             );
         firsts = all-map (λ q h n. h n .first) (F1 ++ B1) (serving1 .accounts .own (e .number) (may .opened));
-        at = boundary-logged first (startOf (made .logs) (e .disk)) (e .disk) F1 B1 e edge;
+        at = boundary-logged first (keptOf (made .logs) (e .disk)) (e .disk) F1 B1 e edge;
         started =
             rw (← append-assoc F1 B1 (e ∷ []), some-append _ (F1 ++ B1) (e ∷ []), serving1 .accounts .started (e .number) (may .opened) has);
         reserved = λ ne. absurd (ne exempt);
@@ -235,7 +235,7 @@ module _ {x : ℕ} {home : ℕ → ℕ} {puts : Told} {c : Core} {w : World} {r 
       first : ℕ
       first = firstAt (c .table) (placeOf (c .table) (e .number))
 
-      edge : boundary first (startOf (made .logs) (e .disk)) (on (e .disk) F1 ++ on (e .disk) B1) ≡ true
+      edge : boundary first (keptOf (made .logs) (e .disk)) (on (e .disk) F1 ++ on (e .disk) B1) ≡ true
       edge =
-          subst (λ (d : ℕ). boundary first (startOf (made .logs) d) (on d F1 ++ on d B1) ≡ true) (sym (may .there))
+          subst (λ (d : ℕ). boundary first (keptOf (made .logs) d) (on d F1 ++ on d B1) ≡ true) (sym (may .there))
           (serving1 .accounts .firsts (e .number) (may .opened) has)

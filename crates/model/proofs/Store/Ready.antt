@@ -11,7 +11,7 @@ use borrow.Author.Tests.{leb-true, leb-false, le-leb, lt-leb}
 use Rattle.model.specs.declared.Logs.{Logs}
 use Rattle.model.specs.declared.Core.{Core}
 use Rattle.model.specs.World.{World, Action, perform, run, stores}
-use Rattle.model.specs.State.{startOf, fillOf, endOf, flushed, withLog}
+use Rattle.model.specs.State.{keptOf, fillOf, endOf, flushed, withLog}
 use Rattle.model.specs.Append.{append, flush}
 use Rattle.model.specs.Reference.{Reference}
 use Rattle.model.specs.History.{Told}
@@ -22,7 +22,7 @@ use Rattle.model.proofs.Link.Flush.{flush-only}
 use Rattle.model.proofs.Store.View.{Kept, Serving}
 use Rattle.model.proofs.Store.Crash.{kept}
 use Rattle.model.proofs.Store.Flush.{left, flush-serving, cut-safe}
-use Rattle.model.proofs.Growth.{fill-flushed, ends-flushed, start-flushed, Small, flush-longer, Longer}
+use Rattle.model.proofs.Growth.{fill-flushed, ends-flushed, kept-flushed, Small, flush-longer, Longer}
 use Rattle.model.proofs.Link.Words.{below-eight}
 use Rattle.model.proofs.Ledger.Lists.{sum-flush}
 
@@ -35,7 +35,7 @@ pub record Ready (x : ℕ) (home : ℕ → ℕ) (puts : Told) (c : Core) (w : Wo
   pub serving : Serving x home puts (withLog c logs (c .table)) (perform flushing w) r flushed buffered
   pub room : fillOf logs d + n ≤ 64
   pub small : Small (c .sizes) logs
-  pub starts : (e : ℕ) → startOf logs e ≡ startOf (c .logs) e
+  pub kept : (e : ℕ) → keptOf logs e ≡ keptOf (c .logs) e
   pub ends : endOf logs d ≡ endOf (c .logs) d
   pub only : OnlyLogs w (perform flushing w)
   -- an append is the flush and an append to the room
@@ -60,7 +60,7 @@ module _ {x : ℕ} {home : ℕ → ℕ} {puts : Told} {c : Core} {w : World} {r 
         serving = g;
         room = h;
         small = small;
-        starts = λ e. refl;
+        kept = λ e. refl;
         ends = refl;
         only = none-changed w;
         split = λ words e. refl;
@@ -107,7 +107,7 @@ module _ {x : ℕ} {home : ℕ → ℕ} {puts : Told} {c : Core} {w : World} {r 
         serving = flush-serving g d below;
         room = omega (arith, emptied);
         small = longer .small;
-        starts = start-flushed (c .logs) d;
+        kept = kept-flushed (c .logs) d;
         ends = ends-flushed (c .logs) d (g .safe .devices .arrays .sized) (below-eight (g .safe .devices .arrays) below) d;
         only = only;
         split = split over;

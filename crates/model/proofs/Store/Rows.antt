@@ -10,7 +10,7 @@ use Rattle.model.specs.declared.Stage.the-variants.{Shut, Replaying, Ope
 use Rattle.model.specs.declared.Core.{Core}
 use Rattle.model.specs.Below.{within, allBelow}
 use Rattle.model.specs.Sizes.{ringOf, sizesInBounds}
-use Rattle.model.specs.State.{places, limit, startOf, tailOf, fillOf, endOf, numberAt, diskAtPlace, firstAt, reservedAt, hasUpdate, reservedOn, diskSound, placeSound, servingSound, checkpointSound, soundIn, sound}
+use Rattle.model.specs.State.{places, limit, startOf, keptOf, tailOf, fillOf, endOf, numberAt, diskAtPlace, firstAt, reservedAt, hasUpdate, reservedOn, diskSound, placeSound, servingSound, checkpointSound, soundIn, sound}
 use Rattle.model.specs.Causes.{whenOpen, whenCopying, whenServing, stageForbids}
 use Rattle.model.proofs.Below.{all-each}
 use Rattle.model.proofs.Booleans.{true-false, both, in-range}
@@ -74,7 +74,7 @@ sizes-sound c e =
 pub record DiskSound (c : Core) (d : ℕ) : Type 0 where
   pub fill : fillOf (c .logs) d ≤ 64
   pub ordered : startOf (c .logs) d ≤ tailOf (c .logs) d
-  pub room : endOf (c .logs) d - startOf (c .logs) d + reservedOn (c .table) d ≤ ringOf (c .sizes) d
+  pub room : endOf (c .logs) d - keptOf (c .logs) d + reservedOn (c .table) d ≤ ringOf (c .sizes) d
   pub limit : endOf (c .logs) d + reservedOn (c .table) d ≤ limit
 
 disk-bounds : (c : Core) (d : ℕ) → diskSound c d ≡ true → DiskSound c d
@@ -82,7 +82,7 @@ unfolding diskSound
 disk-bounds c d e =
     let fill = leb (fillOf (c .logs) d) 64 in
     let ordered = leb (startOf (c .logs) d) (tailOf (c .logs) d) in
-    let room = leb (endOf (c .logs) d - startOf (c .logs) d + reservedOn (c .table) d) (ringOf (c .sizes) d) in
+    let room = leb (endOf (c .logs) d - keptOf (c .logs) d + reservedOn (c .table) d) (ringOf (c .sizes) d) in
     let t2 = both (fill && ordered && room) (leb (endOf (c .logs) d + reservedOn (c .table) d) limit) e in
     let t1 = both (fill && ordered) room (t2 .0) in
     let t0 = both fill ordered (t1 .0) in

@@ -12,7 +12,7 @@ use Rattle.model.specs.Word.{part}
 use Rattle.model.specs.Sizes.{total, ringOf, ringWord}
 use Rattle.model.specs.World.{World}
 use Rattle.model.specs.Memory.{copyOf, bufferOf}
-use Rattle.model.specs.State.{limit, startOf, tailOf, fillOf, endOf, hasUpdate, placeOf, isOpen, switchedTo}
+use Rattle.model.specs.State.{limit, startOf, keptOf, tailOf, fillOf, endOf, hasUpdate, placeOf, isOpen, switchedTo}
 use Rattle.model.specs.Causes.{whenOpen, tailOn}
 use Rattle.model.specs.Checkpoint.{perDisk, newStart}
 use Rattle.model.specs.Transaction.{diskOf}
@@ -20,6 +20,7 @@ use Rattle.model.specs.Reference.{Reference}
 use Rattle.model.specs.History.{Told}
 use Rattle.model.proofs.Reader.{Holds, holds-append}
 use Rattle.model.proofs.Run.{SameLengths}
+use Rattle.model.proofs.Growth.{kept-start}
 use Rattle.model.proofs.Ledger.Entry.{Entry, All, pick}
 use Rattle.model.proofs.Ledger.State.{switched, Same}
 use Rattle.model.proofs.Ledger.Order.{Ordered, wordsOf, on, boundary}
@@ -52,7 +53,7 @@ module _ {home : ℕ → ℕ} {puts : Told} {c : Core} {w : World} {r : Referenc
   abbrev kept : Entry → Bool
   kept = keptFrom (newStart c)
 
-  cut : (d : ℕ) → d < c .sizes .disks → boundary (newStart c d) (startOf (c .logs) d) (on d F) ≡ true
+  cut : (d : ℕ) → d < c .sizes .disks → boundary (newStart c d) (keptOf (c .logs) d) (on d F) ≡ true
   cut = new-boundary g copying copied
 
   -- The world after the stores.
@@ -67,6 +68,9 @@ module _ {home : ℕ → ℕ} {puts : Told} {c : Core} {w : World} {r : Referenc
     unfolding startOf
     start-now d h = getD-per-disk (c .sizes) (newStart c) d eight h
 
+    kept-now : (d : ℕ) → d < c .sizes .disks → keptOf (now .logs) d ≡ newStart c d
+    kept-now d h = kept-start (now .logs) d ∙ start-now d h
+
     fill-now : (d : ℕ) → d < c .sizes .disks → fillOf (now .logs) d ≡ 0
     unfolding fillOf
     fill-now d h = getD-replicate 8 d 0 0 (omega (arith, eight))
@@ -78,7 +82,7 @@ module _ {home : ℕ → ℕ} {puts : Told} {c : Core} {w : World} {r : Referenc
         let empty : fillOf (c .logs) d ≡ 0 = g .safe .link .fill d h ∙ ap length words-none in
         getD-per-disk (c .sizes) (endOf (c .logs)) d eight h ∙ omega arith
 
-    suffix : (d : ℕ) → d < c .sizes .disks → Suffix (startOf (c .logs) d) (newStart c d) (on d F) (on d (pick kept F))
+    suffix : (d : ℕ) → d < c .sizes .disks → Suffix (keptOf (c .logs) d) (newStart c d) (on d F) (on d (pick kept F))
     suffix d h = switch-suffix (g .safe .ordered) (newStart c) d h (cut d h)
 
     devices : Devices now v
@@ -126,27 +130,27 @@ module _ {home : ℕ → ℕ} {puts : Told} {c : Core} {w : World} {r : Referenc
         → Holds (λ q. getD (v .logs) (ringWord (c .sizes) d q) 0) (newStart c d) (wordsOf (on d (pick kept F)))
     held d h =
         let k = suffix d h in
-        let at : startOf (c .logs) d + length (k .front) ≡ newStart c d = omega (arith, k .cut) in
-        rw (moved .logs-same) (rw at at (holds-append _ (startOf (c .logs) d) (k .front) _ (rw (k .words) at (g .safe .link .held d h)) .1))
+        let at : keptOf (c .logs) d + length (k .front) ≡ newStart c d = omega (arith, k .cut) in
+        rw (moved .logs-same) (rw at at (holds-append _ (keptOf (c .logs) d) (k .front) _ (rw (k .words) at (g .safe .link .held d h)) .1))
 
     link : Link (c .sizes) (now .logs) v (pick kept F) []
     unfolding tailOn bufferOf part on pick
     link =
         record {
-          held = λ d h. rw (start-now d h) (held d h);
+          held = λ d h. rw (kept-now d h) (held d h);
           tail = λ d h.
               let k = suffix d h in
               let both = ap length (k .words) ∙ length-append (k .front) (wordsOf (on d (pick kept F))) in
-              omega (arith, start-now d h, tail-now d h, g .safe .link .tail d h, k .cut);
+              omega (arith, kept-now d h, tail-now d h, g .safe .link .tail d h, k .cut);
           stored = λ d h. rw (moved .logs-same) (g .safe .link .stored d h ∙ sym (tail-now d h));
           buffer = λ d h. rw (fill-now d h) (sym words-none);
           fill = λ d h. rw words-none (fill-now d h);
         }
 
-    ordered : Ordered (c .sizes .disks) (startOf (now .logs)) home (pick kept F) []
+    ordered : Ordered (c .sizes .disks) (keptOf (now .logs)) home (pick kept F) []
     ordered =
         let o = ordered-switch (g .safe .ordered) (newStart c) cut in
-        record { laid = λ d h. rw (start-now d h) (o .laid d h); inside = o .inside; homed = o .homed; last = o .last }
+        record { laid = λ d h. rw (kept-now d h) (o .laid d h); inside = o .inside; homed = o .homed; last = o .last }
 
     -- what holds of all entries holds of those that are kept
     thin : (P : Entry → Type 0) → All P (F ++ []) → All P (pick kept F ++ [])
@@ -154,13 +158,13 @@ module _ {home : ℕ → ℕ} {puts : Told} {c : Core} {w : World} {r : Referenc
 
     -- a log ends where it did, and it begins no earlier
     ends : (d : ℕ) → d < c .sizes .disks
-        → (endOf (now .logs) d ≤ startOf (now .logs) d + ringOf (c .sizes) d) × (endOf (now .logs) d ≤ limit)
+        → (endOf (now .logs) d ≤ keptOf (now .logs) d + ringOf (c .sizes) d) × (endOf (now .logs) d ≤ limit)
     unfolding endOf
     ends d h =
         let now-end : endOf (now .logs) d ≤ endOf (c .logs) d = omega (arith, tail-now d h, fill-now d h) in
-        let later = boundary-from (newStart c d) (startOf (c .logs) d) (on d F) (cut d h) in
+        let later = boundary-from (newStart c d) (keptOf (c .logs) d) (on d F) (cut d h) in
         let old = g .safe .ends d h in
-        (omega (arith, start-now d h), omega arith)
+        (omega (arith, kept-now d h), omega arith)
 
     safe : Safe 0 home now v r (pick kept F) []
     safe =
@@ -176,12 +180,12 @@ module _ {home : ℕ → ℕ} {puts : Told} {c : Core} {w : World} {r : Referenc
         }
 
     first-kept : (t : ℕ) → isOpen (c .table) t ≡ true → hasUpdate (c .table) (placeOf (c .table) t) ≡ true
-        → boundary (firstOf c t) (startOf (now .logs) (diskOf c t)) (on (diskOf c t) (pick kept F) ++ on (diskOf c t) []) ≡ true
+        → boundary (firstOf c t) (keptOf (now .logs) (diskOf c t)) (on (diskOf c t) (pick kept F) ++ on (diskOf c t) []) ≡ true
     unfolding on pick
     first-kept t o h =
         let d : ℕ = diskOf c t in
         let below : d < c .sizes .disks = g .accounts .disks t o in
-        rw (start-now d below, append-nil (on d (pick kept F)))
+        rw (kept-now d below, append-nil (on d (pick kept F)))
         (boundary-later (g .safe .ordered) (newStart c) d (firstOf c t) below (cut d below)
         (first-boundary g copying copied t o h) (start-early g copying copied t o h))
 
@@ -218,7 +222,7 @@ module _ {home : ℕ → ℕ} {puts : Told} {c : Core} {w : World} {r : Referenc
     told : (d : ℕ) → d < c .sizes .disks → SinceOn puts now d (on d (pick kept F) ++ on d [])
     unfolding on pick
     told d h =
-        rw (append-nil (on d (pick kept F)), start-now d h)
+        rw (append-nil (on d (pick kept F)), kept-now d h)
         (since-later (g .safe .ordered) (newStart c) d h (cut d h) (live-kept g copying copied) (rw (append-nil (on d F)) at (g .told d h)))
 
     -- the store is open, with the other backup current

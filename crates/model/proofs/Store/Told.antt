@@ -20,6 +20,7 @@ use Rattle.model.specs.Reference.{Reference}
 use Rattle.model.specs.History.{Told, updatePut, updatesPut}
 use Rattle.model.proofs.RoundTrip.{updates-append}
 use Rattle.model.proofs.Ledger.Entry.{Entry, recordOf, isClose, All, pick}
+use Rattle.model.proofs.Growth.{kept-start}
 use Rattle.model.proofs.Ledger.Order.{entriesScan}
 use Rattle.model.proofs.Ledger.Sums.{all-map}
 use Rattle.model.proofs.Link.Words.{placed-entries}
@@ -77,7 +78,7 @@ module _ {home : ℕ → ℕ} {puts : Told} {c : Core} {w : World} {r : Referenc
         ∙ updates-append t (puts .base d) (k .old) (map recordOf entries)
         ∙ ap (λ (l : List Update). updatesIn t (placed start (map recordOf entries)) ++ l) (k .past t (λ l. opened))
         ∙ append-nil (updatesIn t (placed start (map recordOf entries)))
-        ∙ ap (λ (q : ℕ). updatesIn t (placed q (map recordOf entries))) (sym (k .from))
+        ∙ ap (λ (q : ℕ). updatesIn t (placed q (map recordOf entries))) (sym (k .from) ∙ kept-start (c .logs) d)
 
     pub updates-told : updatesPut puts d t ≡ updatesLeft c w t
     unfolding updatesLeft
@@ -86,7 +87,7 @@ module _ {home : ℕ → ℕ} {puts : Told} {c : Core} {w : World} {r : Referenc
         go : (b : Bool) → hasUpdate (c .table) (placeOf (c .table) t) ≡ b
             → updatesIn t (placed (startOf (c .logs) d) (map recordOf entries)) ≡ updatesLeft c w t
         go true has =
-            ap (updatesIn t) (placed-entries (startOf (c .logs) d) entries (g .safe .ordered .laid d below))
+            ap (updatesIn t) (placed-entries (startOf (c .logs) d) entries (rw (kept-start (c .logs) d) at (g .safe .ordered .laid d below)))
             ∙ sym (updates-picked t (λ q. leb (firstAt (c .table) (placeOf (c .table) t)) (q .position)) entries (all-there g t opened below _ (early g t opened below)))
             ∙ sym (ap (updatesIn t) (scanned g t opened below has))
         go false none =

@@ -9,18 +9,19 @@ use borrow.Author.Tests.{le-leb, eqb-true, eqb-false, eq-eqb, ne-eqb}
 use Rattle.model.specs.declared.Core.{Core}
 use Rattle.model.specs.Scan.{Scan, Update, updatesIn, updateWords, oldest}
 use Rattle.model.specs.World.{World}
-use Rattle.model.specs.State.{startOf, isOpen, placeOf, firstAt, hasUpdate, reservedAt}
+use Rattle.model.specs.State.{startOf, keptOf, isOpen, placeOf, firstAt, hasUpdate, reservedAt}
 use Rattle.model.specs.Transaction.{diskOf}
 use Rattle.model.specs.Reference.{Reference}
 use Rattle.model.specs.Machine.{Machine}
 use Rattle.model.specs.History.{Told}
 use Rattle.model.specs.Promise.{logScan, Truth}
 use Rattle.model.proofs.Ledger.Entry.{Entry, recordOf, isClose, some, All, pick, onDisk}
-use Rattle.model.proofs.Ledger.Order.{on, sizeOf, Laid, entriesScan}
+use Rattle.model.proofs.Ledger.Order.{on, sizeOf, Laid, boundary, entriesScan}
 use Rattle.model.proofs.Ledger.Sums.{all-map, all-append, all-right}
 use Rattle.model.proofs.Ledger.Picks.{all-pick}
 use Rattle.model.proofs.Ledger.Lists.{all-left, pick-whole, on-append, some-pick}
 use Rattle.model.proofs.Ledger.Positions.{size-ge, laid-from, boundary-start}
+use Rattle.model.proofs.Growth.{kept-start}
 use Rattle.model.proofs.Link.Abort.{scan-from}
 use Rattle.model.proofs.Store.View.{wordsFor, Serving, Served, open-used}
 use Rattle.model.proofs.Places.{open-place}
@@ -35,7 +36,10 @@ module _ {home : ℕ → ℕ} {puts : Told} {c : Core} {w : World} {r : Referenc
   entries = on d F ++ on d B
 
   laid : Laid (startOf (c .logs) d) entries
-  laid = g .safe .ordered .laid d below
+  laid = rw (kept-start (c .logs) d) at (g .safe .ordered .laid d below)
+
+  at-start : boundary (startOf (c .logs) d) (keptOf (c .logs) d) entries ≡ true
+  at-start = rw (kept-start (c .logs) d) (boundary-start (startOf (c .logs) d) entries)
 
   from-start : pick (λ e. leb (startOf (c .logs) d) (e .position)) entries ≡ entries
   from-start = pick-whole _ entries (all-map (λ e h. le-leb _ _ h) entries (laid-from (startOf (c .logs) d) entries laid))
@@ -44,7 +48,7 @@ module _ {home : ℕ → ℕ} {puts : Told} {c : Core} {w : World} {r : Referenc
   pub log-entries : logScan c w d ≡ entriesScan entries
   unfolding logScan
   log-entries =
-      scan-from (g .safe .link) d below (startOf (c .logs) d) (g .safe .fit) laid (boundary-start (startOf (c .logs) d) entries)
+      scan-from (g .safe .link) d below (startOf (c .logs) d) (g .safe .fit) (g .safe .ordered .laid d below) at-start
       ∙ ap entriesScan from-start
 
 -- the position of a transaction's first entry
@@ -162,7 +166,7 @@ module _ {home : ℕ → ℕ} {puts : Told} {c : Core} {w : World} {r : Referenc
   first-true h =
       ap (λ (z : Scan). oldest (updatesIn t z)) (log-entries g d below)
       ∙ oldest-first t _ kinds
-      ∙ first-is t _ (startOf (c .logs) d) _ (g .safe .ordered .laid d below)
+      ∙ first-is t _ (keptOf (c .logs) d) _ (g .safe .ordered .laid d below)
       (there _ (all-map (λ e k n. k n .first) (F ++ B) (g .accounts .own t o)))
       (started-here _ (g .accounts .started t o h))
 
@@ -174,7 +178,7 @@ truth m r g =
       sizes = s .safe .devices .sizes;
       epoch = s .safe .devices .epoch;
       starts = s .safe .devices .starts;
-      order = λ disk h. omega (arith, s .safe .link .tail disk h);
+      order = λ disk h. omega (arith, kept-start (m .core .logs) disk, s .safe .link .tail disk h);
       tails = s .safe .link .stored;
       reserved = reserved-true s;
       first = first-true s;

@@ -10,7 +10,7 @@ use Rattle.model.specs.Word.{_⊕_}
 use Rattle.model.specs.Sizes.{ringOf}
 use Rattle.model.specs.Scan.{Update, updateWords}
 use Rattle.model.specs.World.{World, perform, stores, run}
-use Rattle.model.specs.State.{limit, startOf, endOf, withLog, isOpen, placeOf, hasUpdate}
+use Rattle.model.specs.State.{limit, keptOf, endOf, withLog, isOpen, placeOf, hasUpdate}
 use Rattle.model.specs.Append.{Appended}
 use Rattle.model.specs.Transaction.{diskOf}
 use Rattle.model.specs.Abort.{undoAll}
@@ -42,7 +42,7 @@ module _ {t : ℕ} {home : ℕ → ℕ} {c : Core} {w : World} {r : Reference} {
         buffered = B;
         serving = rw (append-nil (puts .puts)) g;
         sums = λ i. sym (⊕-zero-r (ofTxn i t (F ++ B)));
-        starts = λ e. refl;
+        kept = λ e. refl;
         ends = omega arith;
         small = small;
         copies = λ page. refl;
@@ -60,7 +60,7 @@ module _ {t : ℕ} {home : ℕ → ℕ} {c : Core} {w : World} {r : Reference} {
         buffered = b .buffered;
         serving = rw (perform-append (one .actions) (rest .actions) w) (b .serving);
         sums = λ i. b .sums i ∙ ap (λ (y : ℕ). y ⊕ h i) (a .sums i) ∙ ⊕-assoc (ofTxn i t (F ++ B)) (f i) (h i);
-        starts = λ e. b .starts e ∙ a .starts e;
+        kept = λ e. b .kept e ∙ a .kept e;
         ends = omega (arith, a .ends, b .ends);
         small = b .small;
         copies = λ page. rw (perform-append (one .actions) (rest .actions) w) (b .copies page ∙ a .copies page);
@@ -94,7 +94,7 @@ module _ {t : ℕ} {home : ℕ → ℕ} {c : Core} {w : World} {r : Reference} {
 pub undone : {t : ℕ} {home : ℕ → ℕ} {puts : Told} {c : Core} {w : World} {r : Reference} {F B : List Entry} → Serving t home puts c w r F B
     → isOpen (c .table) t ≡ true → hasUpdate (c .table) (placeOf (c .table) t) ≡ true → diskOf c t < c .sizes .disks
     → Small (c .sizes) (c .logs) → (us : List Update) → All (Slotted (c .sizes)) us
-    → endOf (c .logs) (diskOf c t) + updateWords us ≤ startOf (c .logs) (diskOf c t) + ringOf (c .sizes) (diskOf c t)
+    → endOf (c .logs) (diskOf c t) + updateWords us ≤ keptOf (c .logs) (diskOf c t) + ringOf (c .sizes) (diskOf c t)
     → endOf (c .logs) (diskOf c t) + updateWords us ≤ limit
     → Compensated t home (also puts (compensations c w t us)) c w r F B (diskOf c t) (updateWords us) (λ i. sumUpdates (c .sizes) i us)
     (undoAll (c .sizes) (c .logs) w t (diskOf c t) us)
@@ -113,5 +113,5 @@ undone {t} {puts = puts} {c = c} {w = w} g opened has below small (u ∷ us) slo
       in-limit = omega arith;
     }) in
     first-undone puts u us one
-    (undone (one .serving) opened has below (one .small) us (slotted .1) (omega (arith, one .starts (diskOf c t), one .ends))
+    (undone (one .serving) opened has below (one .small) us (slotted .1) (omega (arith, one .kept (diskOf c t), one .ends))
     (omega (arith, one .ends)))

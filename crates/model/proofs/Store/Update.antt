@@ -12,7 +12,7 @@ use Rattle.model.specs.Sizes.{widthIn, slotBase, ringOf}
 use Rattle.model.specs.Record.{Record, encode, wordsOf}
 use Rattle.model.specs.World.{World, Action, write, pages, work, cost, act, perform, stores, run, finishes, each}
 use Rattle.model.specs.Memory.{ownerAt, ownerOf}
-use Rattle.model.specs.State.{limit, startOf, endOf, withLog, isOpen, placeOf, firstAt, reservedAt, hasUpdate, withPlace, servingSound}
+use Rattle.model.specs.State.{limit, keptOf, endOf, withLog, isOpen, placeOf, firstAt, reservedAt, hasUpdate, withPlace, servingSound}
 use Rattle.model.specs.Refusal.{accepted, verdict}
 use Rattle.model.specs.Causes.{locked}
 use Rattle.model.specs.Append.{Appended, append}
@@ -61,7 +61,7 @@ module _ {c : Core} {w : World} {number page slot : ℕ} {value : List ℕ} (a :
   update-small = small-buffers c within-bounds
 
   -- the record fits the ring and the bound of positions
-  update-room : (endOf (c .logs) (diskOf c number) + (3 + widthIn (c .sizes) page) ≤ startOf (c .logs) (diskOf c number) + ringOf (c .sizes) (diskOf c number))
+  update-room : (endOf (c .logs) (diskOf c number) + (3 + widthIn (c .sizes) page) ≤ keptOf (c .logs) (diskOf c number) + ringOf (c .sizes) (diskOf c number))
       × (endOf (c .logs) (diskOf c number) + (3 + widthIn (c .sizes) page) ≤ limit)
   unfolding wordsOf
   update-room = (omega (arith, a .room .ring), omega (arith, a .room .top))
@@ -163,7 +163,7 @@ module _ {home : ℕ → ℕ} {puts : Told} {c : Core} {w : World} {r : Referenc
   after =
       let h = update-room (update-accepted c w number page slot value ok) in
       serving-updated (y .serving) number page slot value may' (y .small) (omega (arith, size', y .room))
-      (omega (arith, size, size', h .0, y .starts d, y .ends)) (omega (arith, size, size', h .1, y .ends))
+      (omega (arith, size, size', h .0, y .kept d, y .ends)) (omega (arith, size, size', h .1, y .ends))
 
   pub update-served : Served (also puts (record { disk = d; content = updateRecord c w number page slot value } ∷ []))
       (updateTask c w number page slot value .core) (perform (updateTask c w number page slot value .actions) w)

@@ -15,7 +15,7 @@ use Rattle.model.specs.Sizes.{slotBase, total, ringOf}
 use Rattle.model.specs.Record.{encode}
 use Rattle.model.specs.World.{World, perform}
 use Rattle.model.specs.Memory.{bufferAt, copyAt, workWords}
-use Rattle.model.specs.State.{places, limit, startOf, fillOf, endOf, withLog, isOpen, placeOf, numberAt, diskAtPlace, firstAt, reservedAt, hasUpdate, withPlace}
+use Rattle.model.specs.State.{places, limit, keptOf, fillOf, endOf, withLog, isOpen, placeOf, numberAt, diskAtPlace, firstAt, reservedAt, hasUpdate, withPlace}
 use Rattle.model.specs.Append.{Appended, append}
 use Rattle.model.specs.Transaction.{diskOf}
 use Rattle.model.specs.Reference.{Reference, Write}
@@ -44,7 +44,7 @@ use Rattle.model.proofs.Store.Entered.{Entered, accounts-logged}
 module _ {home : ℕ → ℕ} {puts : Told} {c : Core} {w : World} {r : Reference} {F B : List Entry} (g : Serving 0 home puts c w r F B)
     (number page slot : ℕ) (value : List ℕ) (may : Allowed c w number page slot value) (small : Small (c .sizes) (c .logs))
     (room : fillOf (c .logs) (diskOf c number) + sizeOf (updateEntry c w number page slot value) ≤ 64)
-    (in-ring : endOf (c .logs) (diskOf c number) + sizeOf (updateEntry c w number page slot value) ≤ startOf (c .logs) (diskOf c number) + ringOf (c .sizes) (diskOf c number))
+    (in-ring : endOf (c .logs) (diskOf c number) + sizeOf (updateEntry c w number page slot value) ≤ keptOf (c .logs) (diskOf c number) + ringOf (c .sizes) (diskOf c number))
     (in-limit : endOf (c .logs) (diskOf c number) + sizeOf (updateEntry c w number page slot value) ≤ limit) where
   abbrev e : Entry
   e = updateEntry c w number page slot value
@@ -82,16 +82,16 @@ module _ {home : ℕ → ℕ} {puts : Told} {c : Core} {w : World} {r : Referenc
   apart n o = places-apart (c .table) n number o (may .opened)
 
   -- its first record's place: as it was, or the end of the log
-  first-edge : boundary first (startOf (c .logs) d) (on d F ++ on d B) ≡ true
+  first-edge : boundary first (keptOf (c .logs) d) (on d F ++ on d B) ≡ true
   first-edge = go (hasUpdate (c .table) place) refl
     where
       go : (b : Bool) → hasUpdate (c .table) place ≡ b
-          → boundary (cond b (firstAt (c .table) place) (endOf (c .logs) d)) (startOf (c .logs) d) (on d F ++ on d B) ≡ true
+          → boundary (cond b (firstAt (c .table) place) (endOf (c .logs) d)) (keptOf (c .logs) d) (on d F ++ on d B) ≡ true
       go true h = g .accounts .firsts number (may .opened) h
-      go false h = rw (log-end (g .safe .link) d (may .disk)) (boundary-end (startOf (c .logs) d) (on d F ++ on d B))
+      go false h = rw (log-end (g .safe .link) d (may .disk)) (boundary-end (keptOf (c .logs) d) (on d F ++ on d B))
 
   first-le : first ≤ endOf (c .logs) d
-  first-le = omega (arith, log-end (g .safe .link) d (may .disk), boundary-to first (startOf (c .logs) d) (on d F ++ on d B) first-edge)
+  first-le = omega (arith, log-end (g .safe .link) d (may .disk), boundary-to first (keptOf (c .logs) d) (on d F ++ on d B) first-edge)
 
   first-is : firstAt t (placeOf t number) ≡ first
   first-is = ap (firstAt t) (same-place number) ∙ put-first (c .table) (g .accounts .tabled .sized) place number d first reserve placed
@@ -164,7 +164,7 @@ module _ {home : ℕ → ℕ} {puts : Told} {c : Core} {w : World} {r : Referenc
         has = has-one;
         first = rw first-is first-le;
         firsts = all-map (λ q h n. rw (first-is, h n .has) (h n .first)) (F ++ B) (g .accounts .own number (may .opened));
-        at = rw first-is (boundary-logged first (startOf (c .logs) d) d F B e first-edge);
+        at = rw first-is (boundary-logged first (keptOf (c .logs) d) d F B e first-edge);
         started = rw first-is begun;
         reserved = λ ne. omega (arith, reserved-is, g .accounts .reserved number (may .opened) ne);
         kind = λ h. refl;
@@ -246,6 +246,6 @@ module _ {home : ℕ → ℕ} {puts : Told} {c : Core} {w : World} {r : Referenc
         sets = sets-after;
         owners = owners-after;
         told = λ n h.
-            since-still (longer (g .safe) e loggable .start-same n) (λ u y l. sym (same-open u) ∙ y l)
+            since-still (longer (g .safe) e loggable .kept-same n) (λ u y l. sym (same-open u) ∙ y l)
             (told-more (puts .puts) F B e (record { disk = d; content = recordOf e }) refl refl n (g .told n h));
       }

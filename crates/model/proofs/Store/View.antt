@@ -1,5 +1,5 @@
 -- What holds of an open store between two calls: the state, the devices and the reference as one ledger.
-use mathlib.Core.Path.{_≡_}
+use mathlib.Core.Path.{_≡_, sym, _∙_}
 use mathlib.Core.List.{List, [], _∷_, _++_, map}
 use mathlib.Core.Bool.{Bool, true, false, cond, _&&_, _||_}
 use Prim.Native.Nat.{ℕ, _+_, _≤_, _<_}
@@ -12,7 +12,7 @@ use Rattle.model.specs.Sizes.{total, slotsIn, ringOf, sizesInBounds}
 use Rattle.model.specs.Anchor.{anchorWords, epochOn, sizesOn, startOn, backupAt}
 use Rattle.model.specs.World.{World}
 use Rattle.model.specs.Memory.{ownerOf, copyOf, lengthsRight}
-use Rattle.model.specs.State.{limit, startOf, endOf, isOpen, placeOf, firstAt, reservedAt, hasUpdate}
+use Rattle.model.specs.State.{limit, startOf, keptOf, endOf, isOpen, placeOf, firstAt, reservedAt, hasUpdate}
 use Rattle.model.specs.Causes.{whenOpen, whenServing, tailOn, retained}
 use Rattle.model.specs.Transaction.{diskOf}
 use Rattle.model.specs.Image.{imageOf, restarted}
@@ -24,6 +24,7 @@ use Rattle.model.specs.History.{Told, recordsOn}
 use Rattle.model.specs.Promise.{Stored}
 use Rattle.model.proofs.Reading.{ending}
 use Rattle.model.proofs.Bounds.{Bounded}
+use Rattle.model.proofs.Growth.{kept-start}
 use Rattle.model.proofs.Geometry.{pageOf, slotStart}
 use Rattle.model.proofs.Slots.{patchOf, Fits, Shaped}
 use Rattle.model.proofs.WriteSets.{Distinct}
@@ -86,16 +87,20 @@ pub record Devices (c : Core) (w : World) : Type 0 where
   pub starts : (d : ℕ) → d < c .sizes .disks → startOn (w .anchor) d ≡ startOf (c .logs) d
   pub arrays : Arrays (c .sizes) (c .logs)
 
+-- a restart reads from where the ring is kept
+pub anchor-kept : {c : Core} {w : World} → Devices c w → (d : ℕ) → d < c .sizes .disks → startOn (w .anchor) d ≡ keptOf (c .logs) d
+anchor-kept {c} g d h = g .starts d h ∙ sym (kept-start (c .logs) d)
+
 -- What a restart rests on; x is the transaction whose abort is under way, 0 for none.
 pub record Safe (x : ℕ) (home : ℕ → ℕ) (c : Core) (w : World) (r : Reference) (F B : List Entry) : Type 0 where
   pub devices : Devices c w
   pub good : Good x (total (c .sizes)) (view c w r F B)
   pub link : Link (c .sizes) (c .logs) w F B
-  pub ordered : Ordered (c .sizes .disks) (startOf (c .logs)) home F B
+  pub ordered : Ordered (c .sizes .disks) (keptOf (c .logs)) home F B
   pub fit : All (Fit (c .sizes)) (F ++ B)
   -- a log's end lies within its ring and below the bound of positions
   pub ends : (d : ℕ) → d < c .sizes .disks
-      → (endOf (c .logs) d ≤ startOf (c .logs) d + ringOf (c .sizes) d) × (endOf (c .logs) d ≤ limit)
+      → (endOf (c .logs) d ≤ keptOf (c .logs) d + ringOf (c .sizes) d) × (endOf (c .logs) d ≤ limit)
   pub sizes : r .sizes ≡ c .sizes
   pub shaped : Shaped (c .sizes) (r .committed)
 
@@ -116,7 +121,7 @@ pub record Accounts (x : ℕ) (home : ℕ → ℕ) (c : Core) (F B : List Entry)
   pub homes : (t : ℕ) → isOpen (c .table) t ≡ true → home t ≡ diskOf c t
   pub own : (t : ℕ) → isOpen (c .table) t ≡ true → All (λ e. e .number ≡ t → Own x c t e) (F ++ B)
   pub firsts : (t : ℕ) → isOpen (c .table) t ≡ true → hasUpdate (c .table) (placeOf (c .table) t) ≡ true
-      → boundary (firstAt (c .table) (placeOf (c .table) t)) (startOf (c .logs) (diskOf c t)) (on (diskOf c t) F ++ on (diskOf c t) B) ≡ true
+      → boundary (firstAt (c .table) (placeOf (c .table) t)) (keptOf (c .logs) (diskOf c t)) (on (diskOf c t) F ++ on (diskOf c t) B) ≡ true
   pub disks : (t : ℕ) → isOpen (c .table) t ≡ true → diskOf c t < c .sizes .disks
   -- one of its entries is the first, and its updates are what is reserved beyond its closing record
   pub started : (t : ℕ) → isOpen (c .table) t ≡ true → hasUpdate (c .table) (placeOf (c .table) t) ≡ true
@@ -138,7 +143,7 @@ pub record Copies (c : Core) (w : World) (F B : List Entry) : Type 0 where
   pub capped : All (λ e. isClose e ≡ false → e .copy ≤ c .epoch + 1) (F ++ B)
   pub early : All (λ e. before c e ≡ true → isClose e ≡ false → e .copy ≤ c .epoch) (F ++ B)
   pub ends : whenOpen (c .stage) ≡ false → (d : ℕ) → d < c .sizes .disks
-      → boundary (getD (c .checkpoint .ends) d 0) (startOf (c .logs) d) (on d F ++ on d B) ≡ true
+      → boundary (getD (c .checkpoint .ends) d 0) (keptOf (c .logs) d) (on d F ++ on d B) ≡ true
 
 -- The reference's write sets: one for each open transaction, of writes that lie in their slots.
 pub record Sets (c : Core) (r : Reference) : Type 0 where
@@ -163,7 +168,7 @@ pub record Since (base start next : ℕ) (opened : ℕ → Bool) (puts : List Re
   pub past : (t : ℕ) → (t < next → opened t ≡ true) → updatesIn t (placed base old) ≡ []
 
 abbrev pub SinceOn : Told → Core → ℕ → List Entry → Type 0
-SinceOn t c d l = Since (t .base d) (startOf (c .logs) d) (c .next) (isOpen (c .table)) (recordsOn d (t .puts)) l
+SinceOn t c d l = Since (t .base d) (keptOf (c .logs) d) (c .next) (isOpen (c .table)) (recordsOn d (t .puts)) l
 
 -- the store and its reference, as the calls find them
 abbrev pub runAt : Core → World → Reference → Run
@@ -197,5 +202,5 @@ open-used {c = c} g t opened = (omega (arith, open-place (c .table) t opened .0)
 
 -- the flushed entries of a disk lie one after the other from its start on
 pub flushed-laid : {x : ℕ} {home : ℕ → ℕ} {c : Core} {w : World} {r : Reference} {F B : List Entry} → Safe x home c w r F B
-    → (d : ℕ) → d < c .sizes .disks → Laid (startOf (c .logs) d) (on d F)
-flushed-laid {c = c} {F = F} {B = B} g d h = laid-append (startOf (c .logs) d) (on d F) (on d B) (g .ordered .laid d h) .0
+    → (d : ℕ) → d < c .sizes .disks → Laid (keptOf (c .logs) d) (on d F)
+flushed-laid {c = c} {F = F} {B = B} g d h = laid-append (keptOf (c .logs) d) (on d F) (on d B) (g .ordered .laid d h) .0
