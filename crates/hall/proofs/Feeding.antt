@@ -13,14 +13,10 @@ use Rattle.lines.specs.Line.{isEmpty, lineLength}
 use Rattle.hall.specs.Running.{Program, lineTaken, withRead, fed, ended}
 
 -- Reading in pieces is reading at once.
-pub fed-append : (room : ℕ) (p : Program) (a b : List ℕ) → fed room p (a ++ b) ≡ fed room (fed room p a) b
+pub fed-append : (p : Program) (a b : List ℕ) → fed p (a ++ b) ≡ fed (fed p a) b
 unfolding fed
-fed-append room p [] b = refl
-fed-append room p (x ∷ a) b = fed-append room (cond (eqb x 10) (lineTaken room p) (withRead p (x ∷ []))) a b
-
--- more of the input
-pub fed-more : (room : ℕ) {now : ℕ} (p : Program) (a b : List ℕ) → now ≡ room → fed now (fed room p a) b ≡ fed room p (a ++ b)
-fed-more room p a b e = rw e (sym (fed-append room p a b))
+fed-append p [] b = refl
+fed-append p (x ∷ a) b = fed-append (cond (eqb x 10) (lineTaken p) (withRead p (x ∷ []))) a b
 
 none-read : (p : Program) → withRead p [] ≡ p
 unfolding withRead
@@ -31,15 +27,15 @@ unfolding withRead
 read-twice p a b = rw (append-assoc (p .read) a b)
 
 -- the bytes before the end of a line are read
-fed-line : (room : ℕ) (p : Program) (l : List ℕ) → fed room p l ≡ fed room (withRead p (take (lineLength l) l)) (drop (lineLength l) l)
+fed-line : (p : Program) (l : List ℕ) → fed p l ≡ fed (withRead p (take (lineLength l) l)) (drop (lineLength l) l)
 unfolding fed lineLength
-fed-line room p [] = sym (none-read p)
-fed-line room p (b ∷ l) = go (eqb b 10) refl (fed-line room (withRead p (b ∷ [])) l)
+fed-line p [] = sym (none-read p)
+fed-line p (b ∷ l) = go (eqb b 10) refl (fed-line (withRead p (b ∷ [])) l)
   where
     go : (e : Bool) → eqb b 10 ≡ e
-        → fed room (withRead p (b ∷ [])) l ≡ fed room (withRead (withRead p (b ∷ [])) (take (lineLength l) l)) (drop (lineLength l) l)
-        → fed room (cond e (lineTaken room p) (withRead p (b ∷ []))) l
-        ≡ fed room (withRead p (take (cond e 0 (lineLength l + 1)) (b ∷ l))) (drop (cond e 0 (lineLength l + 1)) (b ∷ l))
+        → fed (withRead p (b ∷ [])) l ≡ fed (withRead (withRead p (b ∷ [])) (take (lineLength l) l)) (drop (lineLength l) l)
+        → fed (cond e (lineTaken p) (withRead p (b ∷ []))) l
+        ≡ fed (withRead p (take (cond e 0 (lineLength l + 1)) (b ∷ l))) (drop (cond e 0 (lineLength l + 1)) (b ∷ l))
     go true e ih = rw (none-read p, e)
     go false e ih = rw (add-one (lineLength l), ← read-twice p (b ∷ []) (take (lineLength l) l)) ih
 
@@ -60,44 +56,44 @@ pub rest-whole : (l : List ℕ) (at n : ℕ) → length l ≤ n → take (n - at
 rest-whole l at n h = take-all (n - at) (drop at l) (rw length-drop (omega arith))
 
 -- One line of a piece: its bytes before byte 10, or all that are left.
-module _ (room : ℕ) (p : Program) (bytes : List ℕ) (at n : ℕ) (here : n ≡ lineLength (take (length bytes - at) (drop at bytes))) where
+module _ (p : Program) (bytes : List ℕ) (at n : ℕ) (here : n ≡ lineLength (take (length bytes - at) (drop at bytes))) where
   found : at + n - at ≡ lineLength (drop at bytes)
   found =
       let e : n ≡ lineLength (drop at bytes) = here ∙ ap lineLength (rest-whole bytes at (length bytes) (omega arith)) in
       omega (arith, e)
 
   pub line-ends : at ≤ length bytes → at + n < length bytes
-      → fed room (lineTaken room (withRead p (take (at + n - at) (drop at bytes)))) (drop (at + n + 1) bytes) ≡ fed room p (drop at bytes)
+      → fed (lineTaken (withRead p (take (at + n - at) (drop at bytes)))) (drop (at + n + 1) bytes) ≡ fed p (drop at bytes)
   unfolding fed
   line-ends inside h =
       let k : at + n + 1 ≡ at + suc (lineLength (drop at bytes)) = omega (arith, found) in
       let some : lineLength (drop at bytes) < length (drop at bytes) = rw length-drop (omega (arith, found)) in
       rw (found, k, ← drop-drop (suc (lineLength (drop at bytes))) at bytes)
-      (sym (fed-line room p (drop at bytes) ∙ ap (fed room (withRead p (take (lineLength (drop at bytes)) (drop at bytes)))) (at-end (drop at bytes) some)))
+      (sym (fed-line p (drop at bytes) ∙ ap (fed (withRead p (take (lineLength (drop at bytes)) (drop at bytes)))) (at-end (drop at bytes) some)))
 
   pub line-goes-on : length bytes ≤ at + n
-      → fed room (withRead p (take (at + n - at) (drop at bytes))) (drop (length bytes) bytes) ≡ fed room p (drop at bytes)
+      → fed (withRead p (take (at + n - at) (drop at bytes))) (drop (length bytes) bytes) ≡ fed p (drop at bytes)
   line-goes-on h =
       let all : length (drop at bytes) ≤ lineLength (drop at bytes) = rw length-drop (omega (arith, found)) in
       rw (found, drop-length bytes)
-      (sym (fed-line room p (drop at bytes) ∙ ap (fed room (withRead p (take (lineLength (drop at bytes)) (drop at bytes)))) (drop-of-length-le (drop at bytes) all)))
+      (sym (fed-line p (drop at bytes) ∙ ap (fed (withRead p (take (lineLength (drop at bytes)) (drop at bytes)))) (drop-of-length-le (drop at bytes) all)))
 
 -- then something was read
 pub piece-some : (bytes : List ℕ) (at n : ℕ) → at < length bytes → length bytes ≤ at + n → 1 ≤ length (take (at + n - at) (drop at bytes))
 piece-some bytes at n inside h = rw (take-all (at + n - at) (drop at bytes) (rw length-drop (omega arith)), length-drop) (omega arith)
 
 -- all of a piece is taken in
-pub fed-through : (room : ℕ) (p q : Program) (bytes : List ℕ) (at : ℕ) → length bytes ≤ at → fed room q (drop at bytes) ≡ fed room p bytes
-    → q ≡ fed room p bytes
+pub fed-through : (p q : Program) (bytes : List ℕ) (at : ℕ) → length bytes ≤ at → fed q (drop at bytes) ≡ fed p bytes
+    → q ≡ fed p bytes
 unfolding fed
-fed-through room p q bytes at h e = rw (drop-of-length-le bytes h) at e
+fed-through p q bytes at h e = rw (drop-of-length-le bytes h) at e
 
--- at the end of the input, by what the desk knows of the line that is read
-module _ (room : ℕ) (p : Program) {begun : Bool} (knows : begun ≡ not (isEmpty (p .read))) where
-  pub ended-line : begun ≡ true → ended room p ≡ lineTaken room p
+-- at the end of the input, by what the console knows of the line that is read
+module _ (p : Program) {begun : Bool} (knows : begun ≡ not (isEmpty (p .read))) where
+  pub ended-line : begun ≡ true → ended p ≡ lineTaken p
   unfolding ended
   ended-line e = let some : isEmpty (p .read) ≡ false = not-true _ (sym knows ∙ e) in rw some
 
-  pub ended-none : begun ≡ false → ended room p ≡ p
+  pub ended-none : begun ≡ false → ended p ≡ p
   unfolding ended
   ended-none e = let none : isEmpty (p .read) ≡ true = not-false _ (sym knows ∙ e) in rw none

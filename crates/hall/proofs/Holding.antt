@@ -1,4 +1,4 @@
--- What the code holds after a line, and after a piece of one.
+-- What the code holds after a line, after a piece of one, before the first line and after the last.
 use Prim.Native.Nat.{ℕ, _+_, _≤_}
 use mathlib.Core.Path.{_≡_, refl, sym, ap, _∙_}
 use mathlib.Core.List.{List, [], _∷_, _++_, append-nil, append-assoc}
@@ -11,27 +11,35 @@ use Rattle.lines.specs.declared.partial.Partial.{Partial}
 use Rattle.lines.specs.declared.tally.Tally.{Tally}
 use Rattle.lines.specs.Line.{isEmpty, commandOf}
 use Rattle.lines.specs.After.{commandAfter}
+use Rattle.lines.specs.Output.{tallyText}
 use Rattle.lines.specs.Counting.{oneMore, counted}
 use Rattle.commands.specs.declared.outcome.Done.{Done}
 use Rattle.commands.specs.Meaning.{Line, lineOf, Runs}
 use Rattle.store.specs.declared.State.{State}
-use Rattle.hall.specs.declared.desk.Desk.{Desk}
-use Rattle.hall.specs.Running.{Program, textOf, gathered, lineTaken, withRead, heading, started}
+use Rattle.hall.specs.declared.console.Console.{Console}
+use Rattle.hall.specs.Running.{Program, textOf, lineTaken, withRead, withTally, heading, formatting, started}
 use Rattle.hall.specs.Held.{Holds, Stands}
 
-module _ (d : Desk) (w : World) (out : List ℕ) (p : Program) (h : Holds d w out p) where
+-- a console with another fill
+abbrev pub filled : Console → ℕ → Console
+filled c fill = record { state = c .state; tally = c .tally; line = c .line; partial = c .partial; begun = c .begun; fill = fill }
+
+-- more text in the buffer
+more-text : (handed front text : List ℕ) {all waiting : List ℕ} → all ≡ handed ++ front → waiting ≡ front ++ text → all ++ text ≡ handed ++ waiting
+more-text handed front text e added = rw (e, added, append-assoc)
+
+module _ (c : Console) (w : World) (out handed : List ℕ) (p : Program) (h : Holds c w out handed p) where
   -- a line was run
   pub line-run : (v : World) (after : List ℕ) {command : Command} {done : Done} {tally : Tally} {line fill : ℕ} {fresh : Partial}
-      → command ≡ commandAfter (d .partial) []
-      → Runs command (d .state .core) w done v
-      → line ≡ oneMore (d .line)
-      → tally ≡ counted (d .tally) (done .outcome .answer)
-      → (fill ≤ length out) × (take fill after ≡ gathered (length out) (take (d .fill) out) (textOf line (done .outcome)))
-      → length after ≡ length out
+      → command ≡ commandAfter (c .partial) []
+      → Runs command (c .state .core) w done v
+      → line ≡ oneMore (c .line)
+      → tally ≡ counted (c .tally) (done .outcome .answer)
+      → take fill after ≡ take (c .fill) out ++ textOf line (done .outcome)
       → ((l : List ℕ) → commandAfter fresh l ≡ commandOf l)
-      → Stands (record { state = done .state; tally = tally; line = line; partial = fresh; begun = false; fill = fill }) v after (lineTaken (length out) p)
+      → Stands (record { state = done .state; tally = tally; line = line; partial = fresh; begun = false; fill = fill }) v after handed (lineTaken p)
   unfolding lineTaken
-  line-run v after {command} {done} {tally} {line} {fill} {fresh} asked runs numbered counts added length-kept starts =
+  line-run v after {command} {done} {tally} {line} {fill} {fresh} asked runs numbered counts added starts =
       let same : command ≡ commandOf (p .read) = asked ∙ (h .read [] ∙ ap commandOf (append-nil (p .read))) in
       let l : record { outcome = done .outcome; core = done .state .core; world = v } ≡ lineOf (commandOf (p .read)) (p .core) (p .world) =
       rw (same, h .core, h .world) at runs in
@@ -44,16 +52,14 @@ module _ (d : Desk) (w : World) (out : List ℕ) (p : Program) (h : Holds d w ou
               tally = counts ∙ rw (h .tally, shown);
               line = numbered ∙ ap oneMore (h .line);
               read = starts;
-              room = rw length-kept (h .room);
-              inside = rw length-kept (added .0);
-              waiting = rw (h .waiting, numbered, h .line, shown) at (added .1);
+              text = more-text handed (take (c .fill) out) _ (h .text) (rw (numbered, h .line, shown) at added);
             };
         begun = refl;
       }
 
   -- bytes of a line were read
-  pub piece-read : (piece : List ℕ) (partial : Partial) {begun : Bool} → ((more : List ℕ) → commandAfter partial more ≡ commandAfter (d .partial) (piece ++ more))
-      → Holds (record { state = d .state; tally = d .tally; line = d .line; partial = partial; begun = begun; fill = d .fill }) w out (withRead p piece)
+  pub piece-read : (piece : List ℕ) (partial : Partial) {begun : Bool} → ((more : List ℕ) → commandAfter partial more ≡ commandAfter (c .partial) (piece ++ more))
+      → Holds (record { state = c .state; tally = c .tally; line = c .line; partial = partial; begun = begun; fill = c .fill }) w out handed (withRead p piece)
   unfolding withRead
   piece-read piece partial {begun} reads =
       record {
@@ -62,9 +68,7 @@ module _ (d : Desk) (w : World) (out : List ℕ) (p : Program) (h : Holds d w ou
         tally = h .tally;
         line = h .line;
         read = λ more. reads more ∙ (h .read (piece ++ more) ∙ ap commandOf (sym (append-assoc (p .read) piece more)));
-        room = h .room;
-        inside = h .inside;
-        waiting = h .waiting;
+        text = h .text;
       }
 
 -- a line of which something is read has begun
@@ -78,22 +82,43 @@ has-begun p piece some = go (p .read) piece some
     go (x ∷ a) b h = refl
 
 -- before the first line nothing is read, and the heading waits
-pub desk-opened : (state : State) (w : World) (out after : List ℕ) {fill : ℕ} {fresh : Partial} → 84 ≤ length out → length after ≡ length out
-    → (fill ≡ 0 + length heading) × (take fill after ≡ take 0 out ++ heading)
+pub console-opened : (state : State) (w v : World) (out after : List ℕ) {fill : ℕ} {fresh : Partial}
+    → (state .core ≡ formatting w .core) × (v ≡ formatting w .world)
+    → take fill after ≡ take 0 out ++ heading
     → ((l : List ℕ) → commandAfter fresh l ≡ commandOf l)
-    → Stands (record { state = state; tally = record { taken = 0; refused = 0; cut = 0 }; line = 0; partial = fresh; begun = false; fill = fill }) w after (started (state .core) w)
-desk-opened state w out after large length-kept added fresh =
+    → Stands (record { state = state; tally = record { taken = 0; refused = 0; cut = 0 }; line = 0; partial = fresh; begun = false; fill = fill }) v after [] (started w)
+unfolding started
+console-opened state w v out after format added fresh =
     record {
-      holds =
-          record {
-            core = refl;
-            world = refl;
-            tally = refl;
-            line = refl;
-            read = fresh;
-            room = rw length-kept large;
-            inside = rw length-kept (omega (arith, added .0));
-            waiting = added .1;
-          };
+      holds = record { core = format .0; world = format .1; tally = refl; line = refl; read = fresh; text = sym added };
       begun = refl;
     }
+
+module _ (c : Console) (w : World) (out handed : List ℕ) (p : Program) (s : Stands c w out handed p) where
+  -- all that waits was handed on
+  pub all-handed : Stands (filled c 0) w out (p .text) p
+  all-handed =
+      let h = s .holds in
+      record {
+        holds = record { core = h .core; world = h .world; tally = h .tally; line = h .line; read = h .read; text = sym (append-nil (p .text)) };
+        begun = s .begun;
+      }
+
+  -- the tally was added
+  pub tally-added : (after : List ℕ) {fill : ℕ} → take fill after ≡ take (c .fill) out ++ tallyText (c .tally .taken) (c .tally .refused) (c .tally .cut)
+      → Stands (filled c fill) w after handed (withTally p)
+  unfolding withTally
+  tally-added after added =
+      let h = s .holds in
+      record {
+        holds =
+            record {
+              core = h .core;
+              world = h .world;
+              tally = h .tally;
+              line = h .line;
+              read = h .read;
+              text = more-text handed (take (c .fill) out) _ (h .text) (rw (h .tally) at added);
+            };
+        begun = s .begun;
+      }

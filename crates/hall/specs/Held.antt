@@ -1,27 +1,26 @@
--- What the code holds of the program: a desk, the lent words, and the output's buffer.
+-- What the code holds of the program: a console, the lent words, and the output's buffer.
 use mathlib.Core.Path.{_≡_}
-use Prim.Native.Nat.{ℕ, _≤_}
+use Prim.Native.Nat.{ℕ}
 use mathlib.Core.List.{List, _++_}
 use mathlib.Core.Bool.{not}
-use lib.ListN.{length, take}
+use lib.ListN.{take}
 use Rattle.model.specs.World.{World}
 use Rattle.lines.specs.Line.{isEmpty, commandOf}
 use Rattle.lines.specs.After.{commandAfter}
-use Rattle.hall.specs.declared.desk.Desk.{Desk}
+use Rattle.hall.specs.declared.console.Console.{Console}
 use Rattle.hall.specs.Running.{Program}
 
--- A line is not kept: what is read of it is known by what the desk makes of the bytes to come.
-pub record Holds (d : Desk) (w : World) (out : List ℕ) (p : Program) : Type 0 where
-  pub core : d .state .core ≡ p .core
+-- A line is not kept: what is read of it is known by what the console makes of the bytes to come. Of the program's text the front was
+-- handed to write; the rest waits in the buffer.
+pub record Holds (c : Console) (w : World) (out handed : List ℕ) (p : Program) : Type 0 where
+  pub core : c .state .core ≡ p .core
   pub world : w ≡ p .world
-  pub tally : d .tally ≡ p .tally
-  pub line : d .line ≡ p .line
-  pub read : (more : List ℕ) → commandAfter (d .partial) more ≡ commandOf (p .read ++ more)
-  pub room : 84 ≤ length out
-  pub inside : d .fill ≤ length out
-  pub waiting : take (d .fill) out ≡ p .waiting
+  pub tally : c .tally ≡ p .tally
+  pub line : c .line ≡ p .line
+  pub read : (more : List ℕ) → commandAfter (c .partial) more ≡ commandOf (p .read ++ more)
+  pub text : p .text ≡ handed ++ take (c .fill) out
 
 -- and it knows whether a line has begun
-pub record Stands (d : Desk) (w : World) (out : List ℕ) (p : Program) : Type 0 where
-  pub holds : Holds d w out p
-  pub begun : d .begun ≡ not (isEmpty (p .read))
+pub record Stands (c : Console) (w : World) (out handed : List ℕ) (p : Program) : Type 0 where
+  pub holds : Holds c w out handed p
+  pub begun : c .begun ≡ not (isEmpty (p .read))

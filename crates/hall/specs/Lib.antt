@@ -1,3 +1,3 @@
--- The program between two bytes of its input.
+-- What the program does and puts out, and what the code holds of it.
 pub mod Running
 pub mod Held

@@ -1,22 +1,25 @@
 // hall: a store of two pages of four one-word slots on two disks, driven by lines of standard input.
-mod desk;
+mod console;
 mod output;
 
-use desk::Desk;
-use desk::feed;
-use desk::last_line;
+use console::Console;
+use console::feed;
+use console::last_line;
 use libc::STDIN_FILENO;
+use libc::STDOUT_FILENO;
 use lines::partial::start;
 use lines::tally::Tally;
 use lines::text::put_tally;
 use output::add;
-use output::flush;
 use store::State;
-ghost use Prim.Native.Nat.{ℕ, _≤_};
-ghost use mathlib.Core.List.{List};
+ghost use mathlib.Core.Path.{_≡_};
+ghost use mathlib.Core.Logic.{_⊎_};
+ghost use mathlib.Core.Bool.{true};
+ghost use Prim.Native.Nat.{ℕ, _+_, _≤_};
+ghost use mathlib.Core.List.{List, []};
 ghost use lib.ListN.{length};
 ghost use Rattle.model.specs.World.{World, worldOf};
-ghost use Rattle.hall.specs.Running.{Program, started, fed};
+ghost use Rattle.hall.specs.Running.{Program, formatting, started, fed, withTally};
 ghost use Rattle.hall.specs.Held.{Stands};
 
 // A formatted store.
@@ -26,7 +29,10 @@ fn formatted(
     backups: &mut [u64],
     logs: &mut [u64],
     work: &mut [u64],
-) -> State {
+) -> State
+    ensures { λ r. ⌜ r .core ≡ formatting (worldOf (now (anchor .entry)) (now (pages .entry)) (now (backups .entry)) (now (logs .entry)) (now (work .entry))) .core ⌝ }
+    ensures { λ r. ⌜ worldOf (now (anchor .exit)) (now (pages .exit)) (now (backups .exit)) (now (logs .exit)) (now (work .exit)) ≡ formatting (worldOf (now (anchor .entry)) (now (pages .entry)) (now (backups .entry)) (now (logs .entry)) (now (work .entry))) .world ⌝ }
+{
     let mut slots = [0u64; 64];
     let mut widths = [0u64; 64];
     slots[0] = 4;
@@ -51,11 +57,20 @@ fn formatted(
     called.state
 }
 
-// The desk before the first line, with the heading in the buffer.
-fn opened(state: State, out: &mut [u8]) -> Desk
+// The console before the first line, with the heading in the buffer.
+fn opened(
+    anchor: &mut [u64],
+    pages: &mut [u64],
+    backups: &mut [u64],
+    logs: &mut [u64],
+    work: &mut [u64],
+    out: &mut [u8],
+) -> Console
     requires { ⌜ 84 ≤ length (now out) ⌝ }
-    ensures { λ r. ⌜ ((w : World) → Stands r w (now (out .exit)) (started (state .core) w)) ⌝ }
+    ensures { λ r. ⌜ r .fill ≤ length (now (out .entry)) ⌝ }
+    ensures { λ r. ⌜ Stands r (worldOf (now (anchor .exit)) (now (pages .exit)) (now (backups .exit)) (now (logs .exit)) (now (work .exit))) (now (out .exit)) [] (started (worldOf (now (anchor .entry)) (now (pages .entry)) (now (backups .entry)) (now (logs .entry)) (now (work .entry)))) ⌝ }
 {
+    let state = formatted(anchor, pages, backups, logs, work);
     let fill = add(out, 0, b"line answer stores value\n");
     let tally = Tally {
         taken: 0,
@@ -63,7 +78,7 @@ fn opened(state: State, out: &mut [u8]) -> Desk
         cut: 0,
     };
     let partial = start();
-    Desk {
+    Console {
         state,
         tally,
         line: 0,
@@ -73,15 +88,35 @@ fn opened(state: State, out: &mut [u8]) -> Desk
     }
 }
 
-// A desk, and whether there may be more input.
-struct Served {
-    desk: Desk,
-    more: bool,
+// A console, and whether what was handed to write was written.
+struct Flushed {
+    console: Console,
+    written: bool,
 }
 
-// Reads once, and takes in what came: some bytes.
+// Hands the text that waits to write. Of what becomes of it no contract of the C library speaks.
+fn flush(console: Console, out: &[u8]) -> Flushed
+    requires { ⌜ console .fill ≤ length (now out) ⌝ }
+    ensures { λ r. ⌜ r .console .fill ≡ 0 ⌝ }
+    ensures { λ r. ⌜ ((w : World) (handed : List ℕ) (p : Program) → Stands console w (now (out .entry)) handed p → Stands (r .console) w (now (out .entry)) (p .text) p) ⌝ }
+{
+    let fill = console.fill;
+    let written = io::write_all(STDOUT_FILENO, &out[..fill]);
+    let console = Console { fill: 0, ..console };
+    Flushed { console, written }
+}
+
+// A console, how many bytes the last read gave, and whether a read or a write has failed.
+struct Served {
+    console: Console,
+    got: usize,
+    failed: bool,
+}
+
+// Reads once, takes in what came, and writes what it comes to. A read gives at most 780 bytes, so the text of its lines, 84 bytes each
+// at most, fits the buffer.
 fn serve_some(
-    desk: Desk,
+    console: Console,
     anchor: &mut [u64],
     pages: &mut [u64],
     backups: &mut [u64],
@@ -89,55 +124,88 @@ fn serve_some(
     work: &mut [u64],
     out: &mut [u8],
 ) -> Served
-    requires { ⌜ ((p : Program) × Stands desk (worldOf (now anchor) (now pages) (now backups) (now logs) (now work)) (now out) p) ⌝ }
-    ensures { λ r. ⌜ ((p : Program) → Stands desk (worldOf (now (anchor .entry)) (now (pages .entry)) (now (backups .entry)) (now (logs .entry)) (now (work .entry))) (now (out .entry)) p → (input : List ℕ) × Stands (r .desk) (worldOf (now (anchor .exit)) (now (pages .exit)) (now (backups .exit)) (now (logs .exit)) (now (work .exit))) (now (out .exit)) (fed (length (now (out .entry))) p input)) ⌝ }
+    requires { ⌜ (console .fill ≡ 0) × (65520 ≤ length (now out)) ⌝ }
+    ensures { λ r. ⌜ r .console .fill ≡ 0 ⌝ }
+    ensures { λ r. ⌜ ((p : Program) → Stands console (worldOf (now (anchor .entry)) (now (pages .entry)) (now (backups .entry)) (now (logs .entry)) (now (work .entry))) (now (out .entry)) (p .text) p → (input : List ℕ) × (length input ≡ r .got) × Stands (r .console) (worldOf (now (anchor .exit)) (now (pages .exit)) (now (backups .exit)) (now (logs .exit)) (now (work .exit))) (now (out .exit)) (fed p input .text) (fed p input)) ⌝ }
 {
-    let mut input = io::large_buffer();
-    let got = libc::read(STDIN_FILENO, &mut input);
-    let n = io::count(got, &input);
-    if n == 0 {
-        return Served { desk, more: false };
+    let mut input = [0u8; 780];
+    let answer = libc::read(STDIN_FILENO, &mut input);
+    let got = io::count(answer, &input);
+    if got == 0 {
+        return Served {
+            console,
+            got,
+            failed: answer < 0,
+        };
     }
-    let desk = feed(desk, &input[..n], anchor, pages, backups, logs, work, out);
-    Served { desk, more: true }
+    let after = feed(
+        console,
+        &input[..got],
+        anchor,
+        pages,
+        backups,
+        logs,
+        work,
+        out,
+    );
+    let flushed = flush(after, out);
+    let console = flushed.console;
+    Served {
+        console,
+        got,
+        failed: !flushed.written,
+    }
 }
 
-// Runs every line of the input. A proved loop has to end, so it counts its turns down from a number that no run uses up.
+// Runs every line of the input: it ends when a read gives nothing, or a read or a write has failed. A proved loop has to end, so it
+// counts its turns down from a number that no run uses up.
 fn serve(
-    desk: Desk,
+    console: Console,
     anchor: &mut [u64],
     pages: &mut [u64],
     backups: &mut [u64],
     logs: &mut [u64],
     work: &mut [u64],
     out: &mut [u8],
-) -> Desk
-    requires { ⌜ ((p : Program) × Stands desk (worldOf (now anchor) (now pages) (now backups) (now logs) (now work)) (now out) p) ⌝ }
-    ensures { λ r. ⌜ ((p : Program) → Stands desk (worldOf (now (anchor .entry)) (now (pages .entry)) (now (backups .entry)) (now (logs .entry)) (now (work .entry))) (now (out .entry)) p → (input : List ℕ) × Stands r (worldOf (now (anchor .exit)) (now (pages .exit)) (now (backups .exit)) (now (logs .exit)) (now (work .exit))) (now (out .exit)) (fed (length (now (out .entry))) p input)) ⌝ }
+) -> Served
+    requires { ⌜ (console .fill ≡ 0) × (65520 ≤ length (now out)) ⌝ }
+    ensures { λ r. ⌜ (r .got ≡ 0) ⊎ (r .failed ≡ true) ⌝ }
+    ensures { λ r. ⌜ r .console .fill ≡ 0 ⌝ }
+    ensures { λ r. ⌜ ((p : Program) → Stands console (worldOf (now (anchor .entry)) (now (pages .entry)) (now (backups .entry)) (now (logs .entry)) (now (work .entry))) (now (out .entry)) (p .text) p → (input : List ℕ) × Stands (r .console) (worldOf (now (anchor .exit)) (now (pages .exit)) (now (backups .exit)) (now (logs .exit)) (now (work .exit))) (now (out .exit)) (fed p input .text) (fed p input)) ⌝ }
 {
-    let mut d = desk;
+    let mut c = console;
     let mut turns = u64::MAX;
     while 0 < turns {
         turns -= 1;
-        let served = serve_some(d, anchor, pages, backups, logs, work, out);
-        d = served.desk;
-        let more = served.more;
-        if !more {
-            return d;
+        let served = serve_some(c, anchor, pages, backups, logs, work, out);
+        let failed = served.failed;
+        if failed {
+            return served;
         }
+        let got = served.got;
+        if got == 0 {
+            return served;
+        }
+        c = served.console;
     }
-    d
+    Served {
+        console: c,
+        got: 0,
+        failed: true,
+    }
 }
 
-// Writes out the rest, and the tally.
-fn close(desk: Desk, out: &[u8])
-    requires { ⌜ desk .fill ≤ length (now out) ⌝ }
+// Adds the tally.
+fn close(console: Console, out: &mut [u8]) -> Console
+    requires { ⌜ console .fill + 84 ≤ length (now out) ⌝ }
+    ensures { λ r. ⌜ r .fill ≤ length (now (out .entry)) ⌝ }
+    ensures { λ r. ⌜ ((w : World) (handed : List ℕ) (p : Program) → Stands console w (now (out .entry)) handed p → Stands r w (now (out .exit)) handed (withTally p)) ⌝ }
 {
-    flush(out, desk.fill);
-    let tally = desk.tally;
+    let tally = console.tally;
     let mut text = [0u8; 84];
     let at = put_tally(&mut text, tally.taken, tally.refused, tally.cut);
-    io::write_all(libc::STDOUT_FILENO, &text[at..]);
+    let fill = add(out, console.fill, &text[at..]);
+    Console { fill, ..console }
 }
 
 fn main() {
@@ -147,10 +215,7 @@ fn main() {
     let mut logs = [0u64; 258];
     let mut work = [0u64; 200];
     let mut out = io::large_buffer();
-    let state = formatted(&mut anchor, &mut pages, &mut backups, &mut logs, &mut work);
-    let desk = opened(state, &mut out);
-    let desk = serve(
-        desk,
+    let console = opened(
         &mut anchor,
         &mut pages,
         &mut backups,
@@ -158,8 +223,13 @@ fn main() {
         &mut work,
         &mut out,
     );
-    let desk = last_line(
-        desk,
+    let flushed = flush(console, &out);
+    let written = flushed.written;
+    if !written {
+        return;
+    }
+    let served = serve(
+        flushed.console,
         &mut anchor,
         &mut pages,
         &mut backups,
@@ -167,5 +237,19 @@ fn main() {
         &mut work,
         &mut out,
     );
-    close(desk, &out);
+    let failed = served.failed;
+    if failed {
+        return;
+    }
+    let last = last_line(
+        served.console,
+        &mut anchor,
+        &mut pages,
+        &mut backups,
+        &mut logs,
+        &mut work,
+        &mut out,
+    );
+    let closed = close(last, &mut out);
+    flush(closed, &out);
 }

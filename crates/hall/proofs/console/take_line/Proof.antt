@@ -1,8 +1,9 @@
--- `hall::desk::take_line` meets its contract: the line that is read is run, counted and shown.
+-- `hall::console::take_line` meets its contract: the line that is read is run, counted and shown.
 use borrow.Author.Needs.{needs}
+use native.Mathlib.Omega.{arith}
 use Rattle.hall.proofs.Holding.{line-run}
-use Rattle.hall.proofs.desk.take_line.Statement.{statement}
-use Rattle.hall.proofs.desk.take_line.Tie as tie
+use Rattle.hall.proofs.console.take_line.Statement.{statement}
+use Rattle.hall.proofs.console.take_line.Tie as tie
 
 command-of-requires : tie.Need-command-of-requires
 command-of-requires c κs = search needs
@@ -17,9 +18,7 @@ after-line-requires : tie.Need-after-line-requires
 after-line-requires c κs = search needs
 
 add-line-requires : tie.Need-add-line-requires
-add-line-requires c κs =
-    let h = c .before .before .before .before .before .before .before .before .before .before .before .before .before .before .before .before .before .before .before .before .before .before .before .before .before .before .before .before .pre .1 in
-    (h .room, h .inside)
+add-line-requires c κs = omega (arith, c .before .before .before .before .before .before .before .before .before .before .before .before .before .before .before .before .before .before .before .before .before .before .before .before .before .before .before .before .pre)
 
 start-requires : tie.Need-start-requires
 start-requires c κs = search needs
@@ -46,15 +45,16 @@ returns : tie.Need-returns
 returns c =
     let add = c .before .before .before in
     let counts = add .before .before in
-    let run = counts .before .before .before .before .before .before .before .before .before .before .before .before .before .before in
-    λ p h. line-run _ _ _ p h _ _
-    (run .before .before .before .before .before .before .command-of .ensures)
-    (run .run .ensures)
-    (counts .before .one-more .ensures)
-    (counts .after-line .ensures)
-    (add .add-line .ensures)
-    (c .before .before .out .given)
-    (c .start .ensures)
+    let run = counts .before .before .before .before .before .before .before .before .before .before .before .before .before .before in (
+      omega (arith, add .add-line .ensures .0),
+      λ handed p h. line-run _ _ _ handed p h _ _
+          (run .before .before .before .before .before .before .command-of .ensures)
+          (run .run .ensures)
+          (counts .before .one-more .ensures)
+          (counts .after-line .ensures)
+          (add .add-line .ensures .1)
+          (c .start .ensures),
+    )
 
 pub take-line-spec : {M : Type 1} → statement M
 take-line-spec =

@@ -1,33 +1,34 @@
--- `hall::desk::feed` meets its contract: what is left of the piece, taken in from here, gives what the whole piece gives.
+-- `hall::console::feed` meets its contract: what is left of the piece, taken in from here, gives what the whole piece gives.
 use borrow.Author.Needs.{needs}
 use mathlib.Core.Path.{_≡_, refl, _∙_}
-use Prim.Native.Nat.{_-_, _≤_}
+use Prim.Native.Nat.{ℕ, _+_, _*_, _-_, _≤_}
+use mathlib.Core.List.{List}
+use native.Mathlib.Omega.{arith}
 use lib.ListN.{length, drop}
 use Rattle.model.specs.World.{worldOf}
 use Rattle.hall.specs.Running.{Program, fed}
 use Rattle.hall.specs.Held.{Stands}
 use Rattle.hall.proofs.Feeding.{fed-through}
-use Rattle.hall.proofs.desk.feed.Statement.{statement}
-use Rattle.hall.proofs.desk.feed.Tie as tie
+use Rattle.hall.proofs.console.feed.Statement.{statement}
+use Rattle.hall.proofs.console.feed.Tie as tie
 
 abbrev Inv-loop : tie.InvT-loop
-Inv-loop bytes anchor₀ pages₀ backups₀ logs₀ work₀ out₀ d₀ at₀ anchor pages backups logs work out d at =
+Inv-loop bytes anchor₀ pages₀ backups₀ logs₀ work₀ out₀ c₀ at₀ anchor pages backups logs work out c at =
     ((at ≤ length bytes) × (length anchor ≡ length anchor₀) × (length pages ≡ length pages₀) × (length backups ≡ length backups₀)
-    × (length logs ≡ length logs₀) × (length work ≡ length work₀) × (length out ≡ length out₀))
-    × ((p : Program) → Stands d₀ (worldOf anchor₀ pages₀ backups₀ logs₀ work₀) out₀ p
-    → (q : Program) × Stands d (worldOf anchor pages backups logs work) out q × (fed (length out₀) q (drop at bytes) ≡ fed (length out₀) p bytes))
+    × (length logs ≡ length logs₀) × (length work ≡ length work₀) × (length out ≡ length out₀) × (c .fill + 84 * (length bytes - at) ≤ length out₀))
+    × ((handed : List ℕ) (p : Program) → Stands c₀ (worldOf anchor₀ pages₀ backups₀ logs₀ work₀) out₀ handed p
+    → (q : Program) × Stands c (worldOf anchor pages backups logs work) out handed q × (fed q (drop at bytes) ≡ fed p bytes))
 
 abbrev μ-loop : tie.MeasureT-loop
-μ-loop bytes anchor₀ pages₀ backups₀ logs₀ work₀ out₀ d₀ at₀ anchor pages backups logs work out d at = length bytes - at
+μ-loop bytes anchor₀ pages₀ backups₀ logs₀ work₀ out₀ c₀ at₀ anchor pages backups logs work out c at = length bytes - at
 
 loop-holds : tie.Need-loop-holds Inv-loop μ-loop
-loop-holds c = (search needs, λ p s. (p, s, refl))
+loop-holds c = (search needs, λ handed p s. (p, s, refl))
 
 feed-line-requires : tie.Need-feed-line-requires Inv-loop μ-loop
 feed-line-requires c κs =
-    let start = c .before .before .before .before .before .before .before .before .before .before .before .before .before .before .before .pre in
-    let here = c .before .before .before .before .before .before .before .loop .inv .1 (start .0) (start .1) in
-    (c .before .before .before .before .before .before .loop-test .taken, (here .0, here .1))
+    let here = c .before .before .before .before .before .before .before .loop .inv .0 in
+    (c .before .before .before .before .before .before .loop-test .taken, omega (arith, here .6, here .7))
 
 loop-less : tie.Need-loop-less Inv-loop μ-loop
 loop-less c = search needs
@@ -37,10 +38,10 @@ loop-again c =
     let line = c .before .before .before .before .before .before .before .before .before .before .before .before .before in
     let l = line .before .before .before .before .before .before .before .before .loop in (
       search needs,
-      λ p s.
-          let old = l .inv .1 p s in
-          let new = line .feed-line .ensures .1 (old .0) (old .1) in
-          (new .0, new .1, rw (l .inv .0 .6) at (new .2) ∙ old .2),
+      λ handed p s.
+          let old = l .inv .1 handed p s in
+          let new = line .feed-line .ensures .1 handed (old .0) (old .1) in
+          (new .0, new .1, new .2 ∙ old .2),
     )
 
 same-length : tie.Need-same-length Inv-loop μ-loop
@@ -64,7 +65,7 @@ same-length-6 c = search needs
 returns : tie.Need-returns Inv-loop μ-loop
 returns c =
     let l = c .before .loop in
-    λ p s. let old = l .inv .1 p s in rw (← fed-through _ p (old .0) _ _ (c .loop-test .left) (old .2)) (old .1)
+    (omega (arith, l .inv .0 .7), λ handed p s. let old = l .inv .1 handed p s in rw (← fed-through p (old .0) _ _ (c .loop-test .left) (old .2)) (old .1))
 
 pub feed-spec : {M : Type 1} → statement M
 feed-spec =

@@ -1,12 +1,11 @@
--- `hall::desk::last_line` meets its contract.
+-- `hall::console::last_line` meets its contract.
+use native.Mathlib.Omega.{arith}
 use Rattle.hall.proofs.Feeding.{ended-line, ended-none}
-use Rattle.hall.proofs.desk.last_line.Statement.{statement}
-use Rattle.hall.proofs.desk.last_line.Tie as tie
+use Rattle.hall.proofs.console.last_line.Statement.{statement}
+use Rattle.hall.proofs.console.last_line.Tie as tie
 
 take-line-requires : tie.Need-take-line-requires
-take-line-requires c κs =
-    let s = c .before .before .before .before .before .before .before .before .before .before .before .before .before .pre in
-    (s .0, s .1 .holds)
+take-line-requires c κs = c .before .before .before .before .before .before .before .before .before .before .before .before .before .pre
 
 same-length : tie.Need-same-length
 same-length c = c .before .before .before .before .before .before .before .before .before .before .before .anchor .given
@@ -28,11 +27,13 @@ same-length-6 c = c .before .out .given
 
 returns : tie.Need-returns
 returns c =
-    let take = c .before .before .before .before .before .before .before .before .before .before .before .before in
-    λ p s. rw (ended-line _ p (s .begun) (take .before .before .before .before .before .before .before .if1 .taken)) (take .take-line .ensures p (s .holds))
+    let take = c .before .before .before .before .before .before .before .before .before .before .before .before in (
+      take .take-line .ensures .0,
+      λ handed p s. rw (ended-line p (s .begun) (take .before .before .before .before .before .before .before .if1 .taken)) (take .take-line .ensures .1 handed p (s .holds)),
+    )
 
 returns-2 : tie.Need-returns-2
-returns-2 c = λ p s. rw (ended-none _ p (s .begun) (c .if1 .left)) s
+returns-2 c = (omega arith, λ handed p s. rw (ended-none p (s .begun) (c .if1 .left)) s)
 
 pub last-line-spec : {M : Type 1} → statement M
 last-line-spec =

@@ -1,12 +1,10 @@
--- `hall::desk::feed_line` meets its contract: a line's bytes are read, and the line is run if its end is there.
+-- `hall::console::feed_line` meets its contract: a line's bytes are read, and the line is run if its end is there.
 use borrow.Author.Needs.{needs}
 use native.Mathlib.Omega.{arith}
-use Prim.Native.Nat.{_+_, _-_}
-use lib.ListN.{take, drop}
 use Rattle.hall.proofs.Feeding.{line-ends, line-goes-on, piece-some}
 use Rattle.hall.proofs.Holding.{piece-read, has-begun}
-use Rattle.hall.proofs.desk.feed_line.Statement.{statement}
-use Rattle.hall.proofs.desk.feed_line.Tie as tie
+use Rattle.hall.proofs.console.feed_line.Statement.{statement}
+use Rattle.hall.proofs.console.feed_line.Tie as tie
 
 sub-line-length : tie.Need-sub-line-length
 sub-line-length c = search needs
@@ -41,10 +39,7 @@ add-next c = search needs
 take-line-requires : tie.Need-take-line-requires
 take-line-requires c κs =
     let start = c .before .before .before .before .before .before .before .before .before .before .before .before .before .before .before .before .before .before .before .before in
-    let s = start .pre .1 in
-    let a = start .args in
-    let n = c .before .before .before .before .before .before .before .before .before .before .before .line-length .result in
-    (_, piece-read _ _ _ (s .0) (s .1 .holds) (take (a .at + n - a .at) (drop (a .at) (a .bytes .now))) _ (c .before .before .before .before .before .before .before .before .before .read-piece .ensures))
+    omega (arith, start .pre .0, start .pre .1)
 
 same-length : tie.Need-same-length
 same-length c = c .before .before .before .before .before .before .before .before .before .before .before .anchor .given
@@ -70,12 +65,12 @@ returns c =
     let test = taken .before .before .before .before .before .before .before in
     let piece = test .before .before .before in
     let line = piece .before .before in
-    let inside = line .before .before .before .before .before .before .before .before .before .pre .0 in (
-      (omega arith, omega (arith, test .if1 .taken)),
-      λ p s. (
+    let start = line .before .before .before .before .before .before .before .before .before in (
+      (omega arith, omega (arith, test .if1 .taken), omega (arith, taken .take-line .ensures .0, test .if1 .taken, start .pre .0, start .pre .1)),
+      λ handed p s. (
         _,
-        taken .take-line .ensures _ (piece-read _ _ _ p (s .holds) _ _ (piece .read-piece .ensures)),
-        line-ends _ p _ _ _ (line .line-length .ensures .0) (omega (arith, inside)) (test .if1 .taken),
+        taken .take-line .ensures .1 handed _ (piece-read _ _ _ handed p (s .holds) _ _ (piece .read-piece .ensures)),
+        line-ends p _ _ _ (line .line-length .ensures .0) (omega (arith, start .pre .0)) (test .if1 .taken),
       ),
     )
 
@@ -83,15 +78,15 @@ returns-2 : tie.Need-returns-2
 returns-2 c =
     let piece = c .before .before .before in
     let line = piece .before .before in
-    let inside = line .before .before .before .before .before .before .before .before .before .pre .0 in (
-      (omega (arith, inside), omega arith),
-      λ p s. (
+    let start = line .before .before .before .before .before .before .before .before .before in (
+      (start .pre .0, omega arith, omega (arith, start .pre .0, start .pre .1)),
+      λ handed p s. (
         _,
         record {
-          holds = piece-read _ _ _ p (s .holds) _ _ (piece .read-piece .ensures);
-          begun = has-begun p _ (piece-some _ _ _ inside (c .if1 .left));
+          holds = piece-read _ _ _ handed p (s .holds) _ _ (piece .read-piece .ensures);
+          begun = has-begun p _ (piece-some _ _ _ (start .pre .0) (c .if1 .left));
         },
-        line-goes-on _ p _ _ _ (line .line-length .ensures .0) (c .if1 .left),
+        line-goes-on p _ _ _ (line .line-length .ensures .0) (c .if1 .left),
       ),
     )
 
