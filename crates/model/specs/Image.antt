@@ -64,6 +64,6 @@ unfoldable pub replayedBelow : Image → ℕ → List ℕ → List ℕ
 replayedBelow i zero words = words
 replayedBelow i (suc n) words = replayed (i .sizes) (i .epoch) (logOf i n) (replayedBelow i n words)
 
--- the pages that a restart makes: the backup, then each log
+-- the pages that a restart makes: the backup, then each log (replay-order: whatever the order of its steps)
 unfoldable pub restarted : Image → List ℕ
 restarted i = replayedBelow i (i .sizes .disks) (i .backup)

@@ -74,7 +74,8 @@ pub record Update : Type 0 where
   pub slot : ℕ
   pub diff : List ℕ
 
--- a transaction's updates, "newest first"
+-- a transaction's updates, "newest first" (updates-from, updates-all and updates-fall in proofs/Updates.antt: those of the scan, all
+-- of them, by falling position)
 unfoldable pub updatesIn : ℕ → Scan → List Update
 updatesIn number end = []
 updatesIn number (bad p) = []
