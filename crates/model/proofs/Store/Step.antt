@@ -12,12 +12,12 @@ use Rattle.model.specs.Record.{Record}
 use Rattle.model.specs.World.{World, perform, finishes}
 use Rattle.model.specs.State.{newCore}
 use Rattle.model.specs.Refusal.{Row, row, verdict, accepted}
-use Rattle.model.specs.Causes.{whenShut, whenReplaying, whenOpen, whenCopying, whenServing, stageForbids, tailOn, retained}
+use Rattle.model.specs.Causes.{whenShut, whenReplaying, whenOpen, whenCopying, whenServing, stageForbids, tailIn, retainedFrom}
 use Rattle.model.specs.Transaction.{beginRows, beginTask, updateRows, readTask, commitRows}
 use Rattle.model.specs.Abort.{abortRows}
 use Rattle.model.specs.Checkpoint.{checkpointBeginRows, checkpointBeginTask, checkpointStepRows, checkpointEndRows}
 use Rattle.model.specs.Restart.{restartBeginRows, restartStepRows, restartEndRows}
-use Rattle.model.specs.Image.{retainedWords}
+use Rattle.model.specs.Image.{wordsFrom}
 use Rattle.model.specs.Call.{Call, format, begin, update, read, commit, abort, checkpointBegin, checkpointStep, checkpointEnd, restartBegin, restartStep, restartEnd, newState, rowsOf, taskOf, budgetOf, resultOf}
 use Rattle.model.specs.Reference.{Reference, taken, outcomeOf}
 use Rattle.model.specs.Machine.{Machine, call, result, outcome, isRefused, after, referred, allowedCall}
@@ -117,7 +117,7 @@ puts-none {puts} h = rw (append-nil (puts .puts)) h
 going-on : {puts : Told} {c now : Core} {v w : World} → SameDevices v w
     → ((d : ℕ) → d < sizesOn (w .anchor) .disks → (l : List Record) → Replayed c w d l → Replayed now v d l)
     → ((d : ℕ) → d < sizesOn (w .anchor) .disks → Going puts c w d) → (d : ℕ) → d < sizesOn (v .anchor) .disks → Going puts now v d
-unfolding stored-same tailOn retained retainedWords
+unfolding stored-same tailIn retainedFrom wordsFrom
 going-on {v = v} {w = w} same further was d l =
     let inside = rw (same .anchor) at l in
     let start = ap (λ (a : List ℕ). startOn a d) (same .anchor) in
