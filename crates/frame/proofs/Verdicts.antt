@@ -53,7 +53,7 @@ module _ (allowed : Stage → Bool) (c : Core) (w : World) {a : Bool} {r : ℕ} 
     (first : r ≡ firstRefusal a c (length (w .anchor)) (length (w .pages)) (length (w .backups)) (length (w .logs)) (length (w .work)))
   where
     first-verdict : (rest : List Row)
-        → verdict (row 1 (stageForbids allowed c) ∷ row 2 (anchorWrong w) ∷ row 5 (lengthsWrong (c .sizes) w) ∷ rest)
+        → verdict (row 1 (stageForbids allowed c) ∷ row 2 (anchorWrong (w .anchor)) ∷ row 5 (lengthsWrong (c .sizes) w) ∷ rest)
         ≡ cond (eqb r 0) (verdict rest) (rejected r 0 0)
     unfolding stageForbids anchorWrong lengthsWrong lengthsRight firstRefusal lengthRefusal
     first-verdict rest =
@@ -62,12 +62,12 @@ module _ (allowed : Stage → Bool) (c : Core) (w : World) {a : Bool} {r : ℕ} 
 
     -- one of them applies
     pub first-refused : (r ≡ 0 → ⊥) → (rest : List Row)
-        → verdict (row 1 (stageForbids allowed c) ∷ row 2 (anchorWrong w) ∷ row 5 (lengthsWrong (c .sizes) w) ∷ rest) ≡ rejected r 0 0
+        → verdict (row 1 (stageForbids allowed c) ∷ row 2 (anchorWrong (w .anchor)) ∷ row 5 (lengthsWrong (c .sizes) w) ∷ rest) ≡ rejected r 0 0
     first-refused some rest = first-verdict rest ∙ rw (ne-eqb r 0 some) refl
 
     -- none does: the other rows decide
     pub first-accepted : r ≡ 0 → (rest : List Row)
-        → verdict (row 1 (stageForbids allowed c) ∷ row 2 (anchorWrong w) ∷ row 5 (lengthsWrong (c .sizes) w) ∷ rest) ≡ verdict rest
+        → verdict (row 1 (stageForbids allowed c) ∷ row 2 (anchorWrong (w .anchor)) ∷ row 5 (lengthsWrong (c .sizes) w) ∷ rest) ≡ verdict rest
     first-accepted none rest = first-verdict rest ∙ rw (eq-eqb r 0 none) refl
 
     pub first-passed : r ≡ 0 → Passed allowed c w

@@ -35,7 +35,7 @@ use Rattle.model.proofs.Booleans.{true-false}
 use Rattle.model.proofs.Verdict.{ascendingFrom, numbers, rejected-above}
 use Rattle.model.proofs.Restart.Progress.{Progress}
 use Rattle.model.proofs.Store.Cases.{call-cases}
-use Rattle.model.proofs.Store.View.{Restartable}
+use Rattle.model.proofs.Checked.{Restartable}
 use Rattle.model.proofs.Store.Checks.{step-never-bad, begin-verdict, shut-stage}
 use Rattle.model.proofs.Store.AbortRows.{abort-never-bad}
 use Rattle.model.proofs.Store.Holding.{Holding, shut, replaying, serving}
@@ -80,13 +80,13 @@ not-shut allowed none Open e = refl
 not-shut allowed none Copying e = refl
 
 module _ (c : Core) (w : World) (right : Right c w) where
-  anchor-right : anchorWrong w ≡ false
+  anchor-right : anchorWrong (w .anchor) ≡ false
   unfolding anchorWrong
-  anchor-right = rw (eq-eqb (length (w .anchor)) anchorWords (right .restarts .anchor))
+  anchor-right = rw (eq-eqb (length (w .anchor)) anchorWords (right .restarts .image .long))
 
   -- rows 1, 2 and 5, which every call but format, restart begin and a new state has first
   first-three : (allowed : Stage → Bool) → allowed Shut ≡ false → allowed (c .stage) ≡ true → (rest : List Row)
-      → verdict (row 1 (stageForbids allowed c) ∷ row 2 (anchorWrong w) ∷ row 5 (lengthsWrong (c .sizes) w) ∷ rest) ≡ verdict rest
+      → verdict (row 1 (stageForbids allowed c) ∷ row 2 (anchorWrong (w .anchor)) ∷ row 5 (lengthsWrong (c .sizes) w) ∷ rest) ≡ verdict rest
   unfolding verdict stageForbids lengthsWrong
   first-three allowed none stage rest =
       rw (stage, right .sound, anchor-right, right .lengths (not-shut allowed none (c .stage) stage))

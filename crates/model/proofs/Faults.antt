@@ -1,7 +1,7 @@
 -- Faults: "lowest disk, first position there".
 use mathlib.Core.Path.{_≡_, refl, sym, _∙_}
 use mathlib.Core.Logic.{_⊎_, inl, inr}
-use mathlib.Core.List.{[]}
+use mathlib.Core.List.{List, []}
 use mathlib.Core.Bool.{Bool, true, false}
 use Prim.Native.Nat.{ℕ, zero, suc, _+_, _≤_, _<_}
 use native.Mathlib.Omega.{arith}
@@ -10,11 +10,9 @@ use borrow.Author.Tests.{ltb-true, ltb-false}
 use Rattle.model.specs.declared.Sizes.{Sizes}
 use Rattle.model.specs.declared.Fault.{Fault}
 use Rattle.model.specs.declared.Fault.the-variants.{NoFault, BadRecord}
-use Rattle.model.specs.Anchor.{startOn}
 use Rattle.model.specs.Decode.{readLog}
 use Rattle.model.specs.Scan.{Scan, end, bad, item, faultIn}
-use Rattle.model.specs.World.{World}
-use Rattle.model.specs.Causes.{tailOn, retained, faultFrom, faultRow}
+use Rattle.model.specs.Causes.{tailIn, retainedFrom, faultFrom, faultRow}
 use Rattle.model.proofs.Reading.{ending, either-ending, FirstBad, scan-bad}
 use Rattle.model.proofs.Booleans.{true-false}
 
@@ -31,12 +29,12 @@ fault-end disk end rest e = refl
 fault-end disk (bad q) rest e = let z : _≡_ {A = ℕ} 0 1 = cc in absurd (omega arith)
 fault-end disk (item q r more) rest e = fault-end disk more rest e
 
--- Of n disks from `from` on, the lowest whose retained log has a malformed record, and the first one there.
-pub record LowestFault (s : Sizes) (w : World) (n from disk p : ℕ) : Type 0 where
+-- Of n disks from `from` on, the lowest whose log, read from its start, has a malformed record, and the first one there.
+pub record LowestFault (s : Sizes) (start : ℕ → ℕ) (logs : List ℕ) (n from disk p : ℕ) : Type 0 where
   pub above : from ≤ disk
   pub below : disk < from + n
-  pub broken : ending (retained s w disk) ≡ bad p
-  pub lower : (d : ℕ) → from ≤ d → d < disk → ending (retained s w d) ≡ end
+  pub broken : ending (retainedFrom s start logs disk) ≡ bad p
+  pub lower : (d : ℕ) → from ≤ d → d < disk → ending (retainedFrom s start logs d) ≡ end
 
 -- a number from m on is m, or from m + 1 on
 from-next : (P : ℕ → Type 0) (m : ℕ) → P m → ((d : ℕ) → m + 1 ≤ d → P d) → (d : ℕ) → m ≤ d → P d
@@ -48,25 +46,25 @@ from-next P m here rest d l = go (ltb m d) refl
         let same : m ≡ d = omega (arith, ltb-false m d e) in
         rw same at here
 
-module _ (s : Sizes) (w : World) where
-  pub fault-lowest : (n from disk p : ℕ) → faultFrom s w n from ≡ BadRecord disk p → LowestFault s w n from disk p
+module _ (s : Sizes) (start : ℕ → ℕ) (logs : List ℕ) where
+  pub fault-lowest : (n from disk p : ℕ) → faultFrom s start logs n from ≡ BadRecord disk p → LowestFault s start logs n from disk p
   unfolding faultFrom
   fault-lowest zero from disk p e = let z : _≡_ {A = ℕ} 0 1 = cc in absurd (omega arith)
-  fault-lowest (suc n) from disk p e = go (either-ending (retained s w from)) (fault-lowest n (from + 1) disk p)
+  fault-lowest (suc n) from disk p e = go (either-ending (retainedFrom s start logs from)) (fault-lowest n (from + 1) disk p)
     where
-      go : (ending (retained s w from) ≡ end) ⊎ ((q : ℕ) × (ending (retained s w from) ≡ bad q))
-          → (faultFrom s w n (from + 1) ≡ BadRecord disk p → LowestFault s w n (from + 1) disk p)
-          → LowestFault s w (suc n) from disk p
+      go : (ending (retainedFrom s start logs from) ≡ end) ⊎ ((q : ℕ) × (ending (retainedFrom s start logs from) ≡ bad q))
+          → (faultFrom s start logs n (from + 1) ≡ BadRecord disk p → LowestFault s start logs n (from + 1) disk p)
+          → LowestFault s start logs (suc n) from disk p
       go (inl x) rest =
-          let y = rest (sym (fault-end from (retained s w from) (faultFrom s w n (from + 1)) x) ∙ e) in
+          let y = rest (sym (fault-end from (retainedFrom s start logs from) (faultFrom s start logs n (from + 1)) x) ∙ e) in
           record {
             above = omega (arith, y .above);
             below = omega (arith, y .below);
             broken = y .broken;
-            lower = from-next (λ (d : ℕ). d < disk → ending (retained s w d) ≡ end) from (λ l. x) (y .lower);
+            lower = from-next (λ (d : ℕ). d < disk → ending (retainedFrom s start logs d) ≡ end) from (λ l. x) (y .lower);
           }
       go (inr x) rest =
-          let f = sym (fault-bad from (retained s w from) (faultFrom s w n (from + 1)) (x .0) (x .1)) ∙ e in
+          let f = sym (fault-bad from (retainedFrom s start logs from) (faultFrom s start logs n (from + 1)) (x .0) (x .1)) ∙ e in
           let here : from ≡ disk = cc in
           let there : x .0 ≡ p = cc in
           record {
@@ -76,36 +74,36 @@ module _ (s : Sizes) (w : World) where
             lower = λ d l m. absurd (omega arith);
           }
 
-  pub fault-none : (n from : ℕ) → faultFrom s w n from ≡ NoFault
-      → (d : ℕ) → from ≤ d → d < from + n → ending (retained s w d) ≡ end
+  pub fault-none : (n from : ℕ) → faultFrom s start logs n from ≡ NoFault
+      → (d : ℕ) → from ≤ d → d < from + n → ending (retainedFrom s start logs d) ≡ end
   unfolding faultFrom
   fault-none zero from e = λ d l m. absurd (omega arith)
-  fault-none (suc n) from e = go (either-ending (retained s w from)) (fault-none n (from + 1))
+  fault-none (suc n) from e = go (either-ending (retainedFrom s start logs from)) (fault-none n (from + 1))
     where
-      go : (ending (retained s w from) ≡ end) ⊎ ((q : ℕ) × (ending (retained s w from) ≡ bad q))
-          → (faultFrom s w n (from + 1) ≡ NoFault → (d : ℕ) → from + 1 ≤ d → d < from + 1 + n → ending (retained s w d) ≡ end)
-          → (d : ℕ) → from ≤ d → d < from + suc n → ending (retained s w d) ≡ end
+      go : (ending (retainedFrom s start logs from) ≡ end) ⊎ ((q : ℕ) × (ending (retainedFrom s start logs from) ≡ bad q))
+          → (faultFrom s start logs n (from + 1) ≡ NoFault → (d : ℕ) → from + 1 ≤ d → d < from + 1 + n → ending (retainedFrom s start logs d) ≡ end)
+          → (d : ℕ) → from ≤ d → d < from + suc n → ending (retainedFrom s start logs d) ≡ end
       go (inl x) rest =
-          from-next (λ (d : ℕ). d < from + suc n → ending (retained s w d) ≡ end) from (λ m. x)
-          (λ d l m. rest (sym (fault-end from (retained s w from) (faultFrom s w n (from + 1)) x) ∙ e) d l (omega arith))
+          from-next (λ (d : ℕ). d < from + suc n → ending (retainedFrom s start logs d) ≡ end) from (λ m. x)
+          (λ d l m. rest (sym (fault-end from (retainedFrom s start logs from) (faultFrom s start logs n (from + 1)) x) ∙ e) d l (omega arith))
       go (inr x) rest =
-          let f = sym (fault-bad from (retained s w from) (faultFrom s w n (from + 1)) (x .0) (x .1)) ∙ e in
+          let f = sym (fault-bad from (retainedFrom s start logs from) (faultFrom s start logs n (from + 1)) (x .0) (x .1)) ∙ e in
           let z : _≡_ {A = ℕ} 0 1 = cc in
           absurd (omega arith)
 
-  pub none-fault : (n from : ℕ) → ((d : ℕ) → from ≤ d → d < from + n → ending (retained s w d) ≡ end)
-      → faultFrom s w n from ≡ NoFault
+  pub none-fault : (n from : ℕ) → ((d : ℕ) → from ≤ d → d < from + n → ending (retainedFrom s start logs d) ≡ end)
+      → faultFrom s start logs n from ≡ NoFault
   unfolding faultFrom
   none-fault zero from h = refl
   none-fault (suc n) from h =
-      fault-end from (retained s w from) (faultFrom s w n (from + 1)) (h from (omega arith) (omega arith))
+      fault-end from (retainedFrom s start logs from) (faultFrom s start logs n (from + 1)) (h from (omega arith) (omega arith))
       ∙ none-fault n (from + 1) (λ d l m. h d (omega arith) (omega arith))
 
--- so what restart begin returns is the first malformed position of the lowest disk that has one
-pub retained-bad : (s : Sizes) (w : World) (disk p : ℕ) → ending (retained s w disk) ≡ bad p
-    → FirstBad s (readLog s (w .logs) disk (tailOn s w disk) []) (tailOn s w disk) (startOn (w .anchor) disk) p
-unfolding retained
-retained-bad s w disk p e = scan-bad s (readLog s (w .logs) disk (tailOn s w disk) []) (tailOn s w disk) (startOn (w .anchor) disk) p e
+-- so what a check returns is the first malformed position of the lowest disk that has one
+pub retained-bad : (s : Sizes) (start : ℕ → ℕ) (logs : List ℕ) (disk p : ℕ) → ending (retainedFrom s start logs disk) ≡ bad p
+    → FirstBad s (readLog s logs disk (tailIn s logs disk) []) (tailIn s logs disk) (start disk) p
+unfolding retainedFrom
+retained-bad s start logs disk p e = scan-bad s (readLog s logs disk (tailIn s logs disk) []) (tailIn s logs disk) (start disk) p e
 
 -- row 7 applies to every fault
 pub no-fault : (f : Fault) → faultRow f .applies ≡ false → f ≡ NoFault

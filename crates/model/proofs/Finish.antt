@@ -30,7 +30,7 @@ use Rattle.model.proofs.Storeless.{storeless-finishes}
 use Rattle.model.proofs.Restart.Taken.{taken-call, taken-or-left}
 use Rattle.model.proofs.Restart.Progress.{Progress}
 use Rattle.model.proofs.Restart.Steps.{remaining-log, remaining-backup, step-source}
-use Rattle.model.proofs.Store.View.{Restartable}
+use Rattle.model.proofs.Checked.{Restartable}
 use Rattle.model.proofs.Store.Checks.{record-sound, step-never-bad}
 use Rattle.model.proofs.Store.Step.{accepted-taken, holding-kept, replayed}
 use Rattle.model.proofs.Sound.Lists.{sound-after}
@@ -65,9 +65,9 @@ module _ (c : Core) (w : World) (m : Progress c w) (ok : sound c ≡ true) (k : 
   unfolding stageForbids
   stage-right = rw (ok, m .stage)
 
-  anchor-right : anchorWrong w ≡ false
+  anchor-right : anchorWrong (w .anchor) ≡ false
   unfolding anchorWrong
-  anchor-right = rw (eq-eqb (length (w .anchor)) anchorWords (k .anchor))
+  anchor-right = rw (eq-eqb (length (w .anchor)) anchorWords (k .image .long))
 
   lengths-right : lengthsWrong (c .sizes) w ≡ false
   unfolding lengthsWrong

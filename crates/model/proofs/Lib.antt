@@ -13,6 +13,7 @@ pub mod Meaning
 pub mod PerDisk
 pub mod Reading
 pub mod Faults
+pub mod Checked
 pub mod Updates
 -- Words and logs.
 pub mod Parts

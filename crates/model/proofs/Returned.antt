@@ -11,7 +11,7 @@ use Rattle.model.specs.declared.Answer.the-variants.{Refused}
 use Rattle.model.specs.declared.Fault.{Fault}
 use Rattle.model.specs.declared.Fault.the-variants.{NoFault, BadRecord}
 use Rattle.model.specs.Below.{within}
-use Rattle.model.specs.Anchor.{sizesOn}
+use Rattle.model.specs.Anchor.{sizesOn, startOn}
 use Rattle.model.specs.World.{World}
 use Rattle.model.specs.Refusal.{Row, row, Result}
 use Rattle.model.specs.Causes.{wrongTail, tailRow, faultRow}
@@ -33,7 +33,7 @@ use Rattle.model.proofs.Store.Cases.{call-cases}
 record RowReturns (k : Call) (c : Core) (w : World) (r : Row) : Type 0 where
   number : within 1 15 (r .number) ≡ true
   zeros : within 6 7 (r .number) ≡ false → (r .first ≡ 0) × (r .second ≡ 0)
-  tail : r .number ≡ 6 → (r .first ≡ wrongTail (sizesOn (w .anchor)) w) × (r .second ≡ 0)
+  tail : r .number ≡ 6 → (r .first ≡ wrongTail (sizesOn (w .anchor)) (startOn (w .anchor)) (w .logs)) × (r .second ≡ 0)
   fault : r .number ≡ 7 → r .applies ≡ true → faultOf k c w ≡ BadRecord (r .first) (r .second)
 
 -- a row that returns zeros
@@ -64,7 +64,7 @@ module _ (k : Call) (c : Core) (w : World) where
       let t = both (plain r) (allPlain rows) e in
       every-cons (RowReturns k c w) r rows (plain-returns r (t .0)) (plain-rows rows (t .1))
 
-  tail-returns : RowReturns k c w (tailRow (sizesOn (w .anchor)) w)
+  tail-returns : RowReturns k c w (tailRow (sizesOn (w .anchor)) (startOn (w .anchor)) (w .logs))
   unfolding within
   tail-returns =
       record {
@@ -114,9 +114,9 @@ rows-return (checkpointEnd budget) c w = plain-rows (checkpointEnd budget) c w _
 rows-return restartBegin c w =
     let k : Call = restartBegin in
     let P : Row → Type 0 = RowReturns k c w in
-    with-fault k c w (row 1 _ ∷ row 2 _ ∷ row 3 _ ∷ row 4 _ ∷ row 5 _ ∷ tailRow (sizesOn (w .anchor)) w ∷ []) (row 13 _ ∷ []) (faultOf k c w) refl
-    (every-append P (row 1 _ ∷ row 2 _ ∷ row 3 _ ∷ row 4 _ ∷ row 5 _ ∷ []) (tailRow (sizesOn (w .anchor)) w ∷ []) (plain-rows k c w _ refl)
-    (every-cons P (tailRow (sizesOn (w .anchor)) w) [] (tail-returns k c w) (every-nil P)))
+    with-fault k c w (row 1 _ ∷ row 2 _ ∷ row 3 _ ∷ row 4 _ ∷ row 5 _ ∷ tailRow (sizesOn (w .anchor)) (startOn (w .anchor)) (w .logs) ∷ []) (row 13 _ ∷ []) (faultOf k c w) refl
+    (every-append P (row 1 _ ∷ row 2 _ ∷ row 3 _ ∷ row 4 _ ∷ row 5 _ ∷ []) (tailRow (sizesOn (w .anchor)) (startOn (w .anchor)) (w .logs) ∷ []) (plain-rows k c w _ refl)
+    (every-cons P (tailRow (sizesOn (w .anchor)) (startOn (w .anchor)) (w .logs)) [] (tail-returns k c w) (every-nil P)))
     refl
 rows-return (restartStep source) c w =
     let k : Call = restartStep source in

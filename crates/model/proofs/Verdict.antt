@@ -16,7 +16,7 @@ use Rattle.model.specs.Causes.{faultRow, faultFrom}
 use Rattle.model.specs.Format.{formatRows}
 use Rattle.model.specs.Transaction.{beginRows, updateRows, readRows, commitRows}
 use Rattle.model.specs.Abort.{abortFault, abortRows}
-use Rattle.model.specs.Anchor.{sizesOn}
+use Rattle.model.specs.Anchor.{sizesOn, startOn}
 use Rattle.model.specs.Checkpoint.{checkpointBeginRows, checkpointStepRows, checkpointEndRows}
 use Rattle.model.specs.Restart.{imageRows, restartBeginRows, stepFault, restartStepRows, restartEndRows}
 use Rattle.model.specs.Call.{Call, format, begin, update, look, read, commit, abort, checkpointBegin, checkpointStep, checkpointEnd, restartBegin, restartStep, restartEnd, newState, rowsOf, taskOf, budgetOf, resultOf}
@@ -35,6 +35,21 @@ row-passed x rows e = go (x .applies) refl e
         → (x .applies ≡ false) × (verdict rows ≡ accepted)
     go true d e = let z : _≡_ {A = ℕ} 0 1 = cc in absurd (omega arith)
     go false d e = (d, e)
+
+-- rows that accept leave the verdict to those behind them
+pub verdict-append : (l k : List Row) → verdict l ≡ accepted → verdict (l ++ k) ≡ verdict k
+unfolding verdict
+verdict-append [] k e = refl
+verdict-append (x ∷ l) k e =
+    let f = row-passed x l e in
+    rw (f .0) (verdict-append l k (f .1))
+
+pub accepted-first : (l k : List Row) → verdict (l ++ k) ≡ accepted → verdict l ≡ accepted
+unfolding verdict
+accepted-first [] k e = refl
+accepted-first (x ∷ l) k e =
+    let f = row-passed x (l ++ k) e in
+    rw (f .0) (accepted-first l k (f .1))
 
 pub accepted-none : (rows : List Row) → verdict rows ≡ accepted → Every Fails rows
 accepted-none [] e = every-nil Fails
@@ -104,7 +119,7 @@ rows-ascend (abort number budget) c w = rw (fault-number (abortFault c w number)
 rows-ascend checkpointBegin c w = refl
 rows-ascend (checkpointStep budget) c w = refl
 rows-ascend (checkpointEnd budget) c w = refl
-rows-ascend restartBegin c w = rw (fault-number (faultFrom (sizesOn (w .anchor)) w (sizesOn (w .anchor) .disks) 0))
+rows-ascend restartBegin c w = rw (fault-number (faultFrom (sizesOn (w .anchor)) (startOn (w .anchor)) (w .logs) (sizesOn (w .anchor) .disks) 0))
 rows-ascend (restartStep source) c w = rw (fault-number (stepFault c w source))
 rows-ascend (restartEnd budget) c w = refl
 rows-ascend newState c w = refl

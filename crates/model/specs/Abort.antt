@@ -59,7 +59,7 @@ abortFault c w number =
 
 unfoldable pub abortRows : Core → World → ℕ → List Row
 abortRows c w number =
-    row 1 (stageForbids whenServing c) ∷ row 2 (anchorWrong w) ∷ row 5 (lengthsWrong (c .sizes) w)
+    row 1 (stageForbids whenServing c) ∷ row 2 (anchorWrong (w .anchor)) ∷ row 5 (lengthsWrong (c .sizes) w)
     ∷ faultRow (abortFault c w number) ∷ row 9 (notOpen c number) ∷ []
 
 -- a difference XORed into the page memory at a place

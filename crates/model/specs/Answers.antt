@@ -12,7 +12,7 @@ use Rattle.model.specs.declared.Answer.{Answer}
 use Rattle.model.specs.declared.Fault.{Fault}
 use Rattle.model.specs.declared.Fault.the-variants.{NoFault, BadRecord}
 use Rattle.model.specs.Below.{within}
-use Rattle.model.specs.Anchor.{sizesOn}
+use Rattle.model.specs.Anchor.{sizesOn, startOn}
 use Rattle.model.specs.World.{World, stores}
 use Rattle.model.specs.State.{newCore, sound, isOpen}
 use Rattle.model.specs.Refusal.{Row, numberOf, storesOf, firstOf, secondOf}
@@ -104,7 +104,7 @@ outcomeNumbered n = cond (eqb n 0) taken (cond (eqb n 16) interrupted refused)
 
 -- what the calls that check row 7 find: "restart begin; log step and abort, in what they read"
 abbrev pub faultOf : Call → Core → World → Fault
-faultOf restartBegin c w = faultFrom (sizesOn (w .anchor)) w (sizesOn (w .anchor) .disks) 0
+faultOf restartBegin c w = faultFrom (sizesOn (w .anchor)) (startOn (w .anchor)) (w .logs) (sizesOn (w .anchor) .disks) 0
 faultOf (restartStep source) c w = stepFault c w source
 faultOf (abort number budget) c w = abortFault c w number
 faultOf (format s budget) c w = NoFault
@@ -129,7 +129,7 @@ pub record Returns (k : Call) (c : Core) (w : World) (a : Answer) : Type 0 where
   pub none : outcomeOf a ≡ refused → storesOf a ≡ 0
   pub zeros : outcomeOf a ≡ refused → within 6 7 (numberOf a) ≡ false → (firstOf a ≡ 0) × (secondOf a ≡ 0)
   -- 6: "lowest such disk"
-  pub tail : numberOf a ≡ 6 → (firstOf a ≡ wrongTail (sizesOn (w .anchor)) w) × (secondOf a ≡ 0)
+  pub tail : numberOf a ≡ 6 → (firstOf a ≡ wrongTail (sizesOn (w .anchor)) (startOn (w .anchor)) (w .logs)) × (secondOf a ≡ 0)
   -- 7: "lowest disk, first position there"
   pub fault : numberOf a ≡ 7 → faultOf k c w ≡ BadRecord (firstOf a) (secondOf a)
   -- 16: "stores made", as many as the budget

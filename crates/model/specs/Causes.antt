@@ -58,12 +58,12 @@ unfoldable pub stageForbids : (Stage → Bool) → Core → Bool
 stageForbids allowed c = not (allowed (c .stage) && sound c)
 
 -- 2. "anchor is not 148 words"
-unfoldable pub anchorWrong : World → Bool
-anchorWrong w = not (eqb (length (w .anchor)) anchorWords)
+unfoldable pub anchorWrong : (anchor : List ℕ) → Bool
+anchorWrong anchor = not (eqb (length anchor) anchorWords)
 
 -- 3. "c is 0 (restart begin)"
-unfoldable pub unformatted : World → Bool
-unformatted w = eqb (epochOn (w .anchor)) 0
+unfoldable pub unformatted : (anchor : List ℕ) → Bool
+unformatted anchor = eqb (epochOn anchor) 0
 
 -- 4. "sizes or arrays out of bounds, or page entries from P on not 0"
 unfoldable pub sizesWrong : Sizes → Bool
@@ -73,30 +73,40 @@ sizesWrong s = not (sizesInBounds s)
 unfoldable pub lengthsWrong : Sizes → World → Bool
 lengthsWrong s w = not (lengthsRight s w)
 
--- 6. "tail below start, more than W above it, or above 2^62"; returned: "lowest such disk"
-unfoldable pub tailOn : Sizes → World → ℕ → ℕ
-tailOn s w disk = getD (w .logs) (tailWord s disk) 0
+-- 6. "tail below start, more than W above it, or above 2^62"; returned: "lowest such disk". `start` gives each disk's start,
+-- the current row's in a restart: a parameter, so that logs can be read from the older row's.
+unfoldable pub tailIn : Sizes → (logs : List ℕ) → ℕ → ℕ
+tailIn s logs disk = getD logs (tailWord s disk) 0
 
-unfoldable pub tailWrong : Sizes → World → ℕ → Bool
-tailWrong s w disk =
-    ltb (tailOn s w disk) (startOn (w .anchor) disk)
-    || ltb (startOn (w .anchor) disk + ringOf s disk) (tailOn s w disk)
-    || ltb limit (tailOn s w disk)
+unfoldable pub tailWrong : Sizes → (start : ℕ → ℕ) → (logs : List ℕ) → ℕ → Bool
+tailWrong s start logs disk =
+    let tail : ℕ = tailIn s logs disk in
+    ltb tail (start disk) || ltb (start disk + ringOf s disk) tail || ltb limit tail
 
-unfoldable pub wrongTail : Sizes → World → ℕ
-wrongTail s w = firstBelow (tailWrong s w) (s .disks)
+unfoldable pub wrongTail : Sizes → (start : ℕ → ℕ) → (logs : List ℕ) → ℕ
+wrongTail s start logs = firstBelow (tailWrong s start logs) (s .disks)
 
-abbrev pub tailRow : Sizes → World → Row
-tailRow s w = record { number = 6; applies = ltb (wrongTail s w) (s .disks); first = wrongTail s w; second = 0 }
+abbrev pub tailRow : Sizes → (start : ℕ → ℕ) → (logs : List ℕ) → Row
+tailRow s start logs =
+    record { number = 6; applies = ltb (wrongTail s start logs) (s .disks); first = wrongTail s start logs; second = 0 }
 
 -- 7. "retained record malformed": "The words from the current start up to the tail, tail excluded, are the retained log."
-unfoldable pub retained : Sizes → World → ℕ → Scan
-retained s w disk = scan s (readLog s (w .logs) disk (tailOn s w disk) []) (tailOn s w disk) (startOn (w .anchor) disk)
+unfoldable pub retainedFrom : Sizes → (start : ℕ → ℕ) → (logs : List ℕ) → ℕ → Scan
+retainedFrom s start logs disk =
+    let tail : ℕ = tailIn s logs disk in
+    scan s (readLog s logs disk tail []) tail (start disk)
 
 -- of n disks from `disk` on: "lowest disk, first position there" (fault-lowest, fault-none in proofs/Faults.antt)
-unfoldable pub faultFrom : Sizes → World → ℕ → ℕ → Fault
-faultFrom s w zero disk = NoFault
-faultFrom s w (suc n) disk = faultIn disk (retained s w disk) (faultFrom s w n (disk + 1))
+unfoldable pub faultFrom : Sizes → (start : ℕ → ℕ) → (logs : List ℕ) → ℕ → ℕ → Fault
+faultFrom s start logs zero disk = NoFault
+faultFrom s start logs (suc n) disk = faultIn disk (retainedFrom s start logs disk) (faultFrom s start logs n (disk + 1))
+
+-- the tail and the retained log of a world
+abbrev pub tailOn : Sizes → World → ℕ → ℕ
+tailOn s w = tailIn s (w .logs)
+
+abbrev pub retained : Sizes → World → ℕ → Scan
+retained s w = retainedFrom s (startOn (w .anchor)) (w .logs)
 
 abbrev pub faultRow : Fault → Row
 faultRow NoFault = record { number = 7; applies = false; first = 0; second = 0 }

@@ -30,7 +30,7 @@ perDisk s f = eightBelow (s .disks) f
 -- Begin (open): "number n = c + 1; each disk's end (tail plus buffered) is remembered".
 unfoldable pub checkpointBeginRows : Core → World → List Row
 checkpointBeginRows c w =
-    row 1 (stageForbids whenOpen c) ∷ row 2 (anchorWrong w) ∷ row 5 (lengthsWrong (c .sizes) w) ∷ row 13 (spent (c .epoch)) ∷ []
+    row 1 (stageForbids whenOpen c) ∷ row 2 (anchorWrong (w .anchor)) ∷ row 5 (lengthsWrong (c .sizes) w) ∷ row 13 (spent (c .epoch)) ∷ []
 
 unfoldable pub checkpointBeginTask : Core → World → Task
 checkpointBeginTask c w =
@@ -51,7 +51,7 @@ lowestToCopy c = firstBelow (toCopy c) (c .sizes .pages)
 
 unfoldable pub checkpointStepRows : Core → World → List Row
 checkpointStepRows c w =
-    row 1 (stageForbids whenCopying c) ∷ row 2 (anchorWrong w) ∷ row 5 (lengthsWrong (c .sizes) w)
+    row 1 (stageForbids whenCopying c) ∷ row 2 (anchorWrong (w .anchor)) ∷ row 5 (lengthsWrong (c .sizes) w)
     ∷ row 15 (leb (c .sizes .pages) (lowestToCopy c)) ∷ []
 
 unfoldable pub copyPage : Core → World → ℕ → List Action
@@ -81,7 +81,7 @@ newStart c disk = leastFirst (c .table) disk (getD (c .checkpoint .ends) disk 0)
 
 unfoldable pub checkpointEndRows : Core → World → List Row
 checkpointEndRows c w =
-    row 1 (stageForbids whenCopying c) ∷ row 2 (anchorWrong w) ∷ row 5 (lengthsWrong (c .sizes) w)
+    row 1 (stageForbids whenCopying c) ∷ row 2 (anchorWrong (w .anchor)) ∷ row 5 (lengthsWrong (c .sizes) w)
     ∷ row 15 (ltb (lowestToCopy c) (c .sizes .pages)) ∷ []
 
 unfoldable pub checkpointEndTask : Core → World → Task

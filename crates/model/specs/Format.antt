@@ -16,7 +16,7 @@ use Rattle.model.specs.Causes.{whenShut, stageForbids, anchorWrong, size
 -- "Format checks 1, 2, 4 (of the sizes handed to it), 5 and 16."
 unfoldable pub formatRows : Core → World → Sizes → List Row
 formatRows c w s =
-    row 1 (stageForbids whenShut c) ∷ row 2 (anchorWrong w) ∷ row 4 (sizesWrong s) ∷ row 5 (lengthsWrong s w) ∷ []
+    row 1 (stageForbids whenShut c) ∷ row 2 (anchorWrong (w .anchor)) ∷ row 4 (sizesWrong s) ∷ row 5 (lengthsWrong s w) ∷ []
 
 -- "c := 0; anchor words 0, 1, 2; both page arrays; both rows 0; each tail 0; backup 1 zero; c := 1."
 unfoldable pub formatStores : Sizes → List Action

@@ -13,7 +13,7 @@ use Rattle.model.specs.Record.{change, close}
 use Rattle.model.specs.Decode.{readLog, span}
 use Rattle.model.specs.Scan.{Scan, end, bad, item, scan, fateIn}
 use Rattle.model.specs.World.{World}
-use Rattle.model.specs.Causes.{tailOn}
+use Rattle.model.specs.Causes.{tailIn}
 use Rattle.model.specs.Restart.{replays}
 
 -- The sizes, c, the current backup, and for each disk the current start and the words of the retained log.
@@ -24,21 +24,27 @@ pub record Image : Type 0 where
   pub starts : List ℕ
   pub logs : List (List ℕ)
 
-unfoldable pub retainedWords : Sizes → World → ℕ → List ℕ
-retainedWords s w disk =
-    span (readLog s (w .logs) disk (tailOn s w disk) []) (startOn (w .anchor) disk) (tailOn s w disk - startOn (w .anchor) disk)
+unfoldable pub wordsFrom : Sizes → (start : ℕ → ℕ) → (logs : List ℕ) → ℕ → List ℕ
+wordsFrom s start logs disk =
+    let tail : ℕ = tailIn s logs disk in
+    span (readLog s logs disk tail []) (start disk) (tail - start disk)
 
-unfoldable pub imageOf : World → Image
-imageOf w =
-    let s : Sizes = sizesOn (w .anchor) in
-    let c : ℕ = epochOn (w .anchor) in
+abbrev pub retainedWords : Sizes → World → ℕ → List ℕ
+retainedWords s w = wordsFrom s (startOn (w .anchor)) (w .logs)
+
+-- by a checkpoint's number and its row of starts: the current one's in a restart
+unfoldable pub imageFrom : Sizes → (epoch : ℕ) → (start : ℕ → ℕ) → (backups logs : List ℕ) → Image
+imageFrom s c start backups logs =
     record {
       sizes = s;
       epoch = c;
-      backup = part (backupAt s c) (total s) (w .backups);
-      starts = listBelow (startOn (w .anchor)) (s .disks);
-      logs = listBelow (retainedWords s w) (s .disks);
+      backup = part (backupAt s c) (total s) backups;
+      starts = listBelow start (s .disks);
+      logs = listBelow (wordsFrom s start logs) (s .disks);
     }
+
+unfoldable pub imageOf : World → Image
+imageOf w = imageFrom (sizesOn (w .anchor)) (epochOn (w .anchor)) (startOn (w .anchor)) (w .backups) (w .logs)
 
 -- a difference XORed in at a place
 unfoldable pub xorAt : ℕ → List ℕ → List ℕ → List ℕ

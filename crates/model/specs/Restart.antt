@@ -27,16 +27,17 @@ use Rattle.model.specs.Abort.{xorIn}
 use Rattle.model.specs.Format.{freshMemory}
 use Rattle.model.specs.Checkpoint.{perDisk}
 
--- The checks of an image, of the lent lists alone: rows 2 to 7.
-unfoldable pub imageRows : World → List Row
-imageRows w =
-    let s : Sizes = sizesOn (w .anchor) in
-    row 2 (anchorWrong w) ∷ row 3 (unformatted w) ∷ row 4 (sizesWrong s) ∷ row 5 (lengthsWrong s w) ∷ tailRow s w
-    ∷ faultRow (faultFrom s w (s .disks) 0) ∷ []
+-- The checks of an image, of the lent lists alone: rows 2 to 7. `others` is check 5 of whatever is lent beside the anchor.
+unfoldable pub imageRows : (others : Sizes → Bool) → (anchor logs : List ℕ) → List Row
+imageRows others a logs =
+    let s : Sizes = sizesOn a in
+    row 2 (anchorWrong a) ∷ row 3 (unformatted a) ∷ row 4 (sizesWrong s) ∷ row 5 (others s) ∷ tailRow s (startOn a) logs
+    ∷ faultRow (faultFrom s (startOn a) logs (s .disks) 0) ∷ []
 
 -- Begin (shut): "all checks; page memory zeroed".
 unfoldable pub restartBeginRows : Core → World → List Row
-restartBeginRows c w = row 1 (stageForbids whenShut c) ∷ imageRows w ++ row 13 (spent (epochOn (w .anchor))) ∷ []
+restartBeginRows c w =
+    row 1 (stageForbids whenShut c) ∷ imageRows (λ s. lengthsWrong s w) (w .anchor) (w .logs) ++ row 13 (spent (epochOn (w .anchor))) ∷ []
 
 unfoldable pub restartBeginTask : World → Task
 restartBeginTask w =
@@ -93,7 +94,7 @@ stepFault c w source =
 
 unfoldable pub restartStepRows : Core → World → ℕ → List Row
 restartStepRows c w source =
-    row 1 (stageForbids whenReplaying c) ∷ row 2 (anchorWrong w) ∷ row 5 (lengthsWrong (c .sizes) w)
+    row 1 (stageForbids whenReplaying c) ∷ row 2 (anchorWrong (w .anchor)) ∷ row 5 (lengthsWrong (c .sizes) w)
     ∷ faultRow (stepFault c w source) ∷ row 8 (sourceMissing (c .sizes) source) ∷ row 15 (eqb (remaining c source) 0) ∷ []
 
 -- "A backup step XORs its next page in."
@@ -133,7 +134,7 @@ restartStepTask c w source =
 -- number."
 unfoldable pub restartEndRows : Core → World → List Row
 restartEndRows c w =
-    row 1 (stageForbids whenReplaying c) ∷ row 2 (anchorWrong w) ∷ row 5 (lengthsWrong (c .sizes) w)
+    row 1 (stageForbids whenReplaying c) ∷ row 2 (anchorWrong (w .anchor)) ∷ row 5 (lengthsWrong (c .sizes) w)
     ∷ row 15 (not (allBelow (λ i. eqb (remaining c i) 0) (c .sizes .disks + 1))) ∷ []
 
 unfoldable pub restartEndTask : Core → World → Task

@@ -24,7 +24,7 @@ diskOf c number = diskAtPlace (c .table) (placeOf (c .table) number)
 -- Begin: "next number", "the disk with the fewest buffered words among those with log room". "Begin needs 2."
 unfoldable pub beginRows : Core → World → List Row
 beginRows c w =
-    row 1 (stageForbids whenServing c) ∷ row 2 (anchorWrong w) ∷ row 5 (lengthsWrong (c .sizes) w) ∷ row 12 (tableFull c)
+    row 1 (stageForbids whenServing c) ∷ row 2 (anchorWrong (w .anchor)) ∷ row 5 (lengthsWrong (c .sizes) w) ∷ row 12 (tableFull c)
     ∷ row 13 (spent (c .next)) ∷ row 14 (leb noDisk (idlest c 2)) ∷ []
 
 -- its first position is set by its first update; it takes the lowest free place
@@ -61,7 +61,7 @@ slotRows c w number page slot value =
 
 unfoldable pub updateRows : Core → World → ℕ → ℕ → ℕ → List ℕ → List Row
 updateRows c w number page slot value =
-    row 1 (stageForbids whenServing c) ∷ row 2 (anchorWrong w) ∷ row 5 (lengthsWrong (c .sizes) w)
+    row 1 (stageForbids whenServing c) ∷ row 2 (anchorWrong (w .anchor)) ∷ row 5 (lengthsWrong (c .sizes) w)
     ∷ slotRows c w number page slot value
 
 -- the memory changes come after the stores of a flush
@@ -84,7 +84,7 @@ updateTask c w number page slot value =
 -- Read: "the slot's words as a part of the page memory, empty if refused, with a companion call for the number"
 unfoldable pub readRows : Core → World → ℕ → ℕ → ℕ → List Row
 readRows c w reader page slot =
-    row 1 (stageForbids whenServing c) ∷ row 2 (anchorWrong w) ∷ row 5 (lengthsWrong (c .sizes) w)
+    row 1 (stageForbids whenServing c) ∷ row 2 (anchorWrong (w .anchor)) ∷ row 5 (lengthsWrong (c .sizes) w)
     ∷ row 8 (slotMissing (c .sizes) page slot) ∷ row 9 (readerNotOpen c reader) ∷ row 11 (locked c w reader page slot) ∷ []
 
 -- what a place for words holds after a call that fills it: these words, and where the call is refused what it held before
@@ -98,7 +98,7 @@ readWords c w reader page slot = filled (verdict (readRows c w reader page slot)
 -- Commit: "closing record, flush, slots released". A slot is released when its owner leaves the table.
 unfoldable pub commitRows : Core → World → ℕ → List Row
 commitRows c w number =
-    row 1 (stageForbids whenServing c) ∷ row 2 (anchorWrong w) ∷ row 5 (lengthsWrong (c .sizes) w) ∷ row 9 (notOpen c number) ∷ []
+    row 1 (stageForbids whenServing c) ∷ row 2 (anchorWrong (w .anchor)) ∷ row 5 (lengthsWrong (c .sizes) w) ∷ row 9 (notOpen c number) ∷ []
 
 unfoldable pub commitTask : Core → World → ℕ → Task
 commitTask c w number =

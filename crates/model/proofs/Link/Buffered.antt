@@ -14,7 +14,7 @@ use Rattle.model.specs.Record.{encode}
 use Rattle.model.specs.World.{World, work, perform}
 use Rattle.model.specs.Memory.{bufferAt, bufferOf, copyAt, workWords}
 use Rattle.model.specs.State.{startOf, keptOf, tailOf, fillOf, withFill}
-use Rattle.model.specs.Causes.{tailOn}
+use Rattle.model.specs.Causes.{tailIn}
 use Rattle.model.specs.Append.{buffered}
 use Rattle.model.proofs.Run.{perform-work}
 use Rattle.model.proofs.Lengths.{Lengths}
@@ -122,7 +122,7 @@ module _ {s : Sizes} {l : Logs} {w : World} {F B : List Entry} (k : Link s l w F
       go (no ne) = rw (fill-set-other l d m e ne, on-less e B r (λ x. ne (sym x ∙ here))) (k .fill e h)
 
   pub put-link : Link s (withFill l d m) (perform (buffered s d n words) w) F (B ++ r ∷ [])
-  unfolding buffered tailOn keptOf startOf tailOf withFill
+  unfolding buffered tailIn keptOf startOf tailOf withFill
   put-link =
       rw (perform-work (bufferAt s d + n) words w)
       (record { held = k .held; tail = k .tail; stored = k .stored; buffer = buffer-put; fill = fill-put })
@@ -138,7 +138,7 @@ module _ {s : Sizes} (l : Logs) {w v : World} (right : Lengths s w) (also : Leng
       (λ i x y. work-same i (omega arith) (omega arith))
 
   pub link-frame : {F B : List Entry} → v .logs ≡ w .logs → Link s l w F B → Link s l v F B
-  unfolding tailOn
+  unfolding tailIn
   link-frame logs-same k =
       record {
         held = rw logs-same (k .held);

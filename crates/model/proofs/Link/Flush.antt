@@ -14,7 +14,7 @@ use Rattle.model.specs.Sizes.{ringOf, diskAt, tailWord, ringWord}
 use Rattle.model.specs.World.{World, Action, store, logs, cost, perform, stores, covered, run, each}
 use Rattle.model.specs.Memory.{bufferOf}
 use Rattle.model.specs.State.{startOf, keptOf, tailOf, fillOf, endOf, flushed}
-use Rattle.model.specs.Causes.{tailOn}
+use Rattle.model.specs.Causes.{tailOn, tailIn}
 use Rattle.model.specs.Append.{storeLog, storeAll, flush}
 use Rattle.model.proofs.Run.{stores-append, stores-each}
 use Rattle.model.proofs.Lengths.{Lengths}
@@ -111,7 +111,7 @@ module _ {s : Sizes} {l : Logs} {w : World} {F B : List Entry} (k : Link s l w F
       go (no ne) = rw (on-other-flushed d F B e ne) (tail-flushed-other l d e ne ∙ k .tail e h)
 
   stored-after : (e : ℕ) → e < s .disks → tailOn s after e ≡ tailOf (flushed l d) e
-  unfolding tailOn
+  unfolding tailIn
   stored-after e h = go (ℕ-discrete e d)
     where
       go : Dec (e ≡ d) → getD (after .logs) (tailWord s e) 0 ≡ tailOf (flushed l d) e
@@ -176,7 +176,7 @@ module _ {s : Sizes} {l : Logs} {w : World} {F B : List Entry} (k : Link s l w F
             (k .held e h)
 
     stored-cut : (e : ℕ) → e < s .disks → tailOn s part-way e ≡ tailOf l e
-    unfolding tailOn
+    unfolding tailIn
     stored-cut e h = lay-keeps-tails s d (tailOf l d) (take n (wordsOf (on d B))) w e (ring-positive s d (a .ring)) ∙ k .stored e h
 
     -- no entry has moved

@@ -9,15 +9,14 @@ use lib.ListN.{length, getD}
 use Rattle.model.specs.declared.Sizes.{Sizes}
 use Rattle.model.specs.declared.Logs.{Logs}
 use Rattle.model.specs.Sizes.{slotBase, ringOf, ringWord}
-use Rattle.model.specs.Anchor.{sizesOn, startOn}
 use Rattle.model.specs.Record.{encode}
 use Rattle.model.specs.Decode.{readLog}
 use Rattle.model.specs.Scan.{Scan, item, scan, placed}
 use Rattle.model.specs.World.{World, Action, perform}
 use Rattle.model.specs.Memory.{bufferOf}
 use Rattle.model.specs.State.{keptOf, tailOf, fillOf, flushed, endOf}
-use Rattle.model.specs.Causes.{tailOn, retained as retainedScan}
-use Rattle.model.specs.Image.{retainedWords, imageOf, logOf}
+use Rattle.model.specs.Causes.{tailOn, retainedFrom}
+use Rattle.model.specs.Image.{logOf, wordsFrom, imageFrom}
 use Rattle.model.proofs.Below.{getD-list}
 use Rattle.model.proofs.Run.{perform-lengths}
 use Rattle.model.proofs.Lengths.{Lengths}
@@ -110,9 +109,9 @@ module _ {s : Sizes} {l : Logs} {w : World} {F B : List Entry} (k : Link s l w F
       (k .held d below)
 
   -- the words of the retained log are those of the flushed records
-  pub retained : startOn (w .anchor) d ≡ keptOf l d → retainedWords s w d ≡ wordsOf (on d F)
-  unfolding retainedWords
-  retained e =
+  pub retained : (start : ℕ → ℕ) → start d ≡ keptOf l d → wordsFrom s start (w .logs) d ≡ wordsOf (on d F)
+  unfolding wordsFrom
+  retained start e =
       let long : tailOn s w d - keptOf l d ≡ length (wordsOf (on d F)) = omega (arith, k .tail d below, k .stored d below) in
       rw (e, long) (span-holds _ (keptOf l d) (wordsOf (on d F)) retained-holds)
 
@@ -123,21 +122,15 @@ module _ {s : Sizes} {l : Logs} {w : World} {F B : List Entry} (k : Link s l w F
       scan-entries s _ (tailOn s w d) (keptOf l d) (on d F) (fit-on s d F fit) laid retained-holds
       (k .stored d below ∙ k .tail d below)
 
-  pub retained-scan : startOn (w .anchor) d ≡ keptOf l d → All (Fit s) F → Laid (keptOf l d) (on d F)
-      → retainedScan s w d ≡ entriesScan (on d F)
-  unfolding retainedScan
-  retained-scan e fit laid = rw e (scans fit laid)
+  pub retained-scan : (start : ℕ → ℕ) → start d ≡ keptOf l d → All (Fit s) F → Laid (keptOf l d) (on d F)
+      → retainedFrom s start (w .logs) d ≡ entriesScan (on d F)
+  unfolding retainedFrom
+  retained-scan start e fit laid = rw e (scans fit laid)
 
-  -- and so is the log of the image, where the anchor has the sizes and the start
-  pub image-log : sizesOn (w .anchor) ≡ s → startOn (w .anchor) d ≡ keptOf l d → All (Fit s) F → Laid (keptOf l d) (on d F)
-      → logOf (imageOf w) d ≡ entriesScan (on d F)
-  unfolding logOf imageOf
-  image-log same e fit laid =
-      rw (
-        same,
-        getD-list (startOn (w .anchor)) (s .disks) d 0 below,
-        getD-list (retainedWords s w) (s .disks) d [] below,
-        retained e,
-        e,
-      )
+  -- and so is the log of an image with this start
+  pub image-log : (c : ℕ) (start : ℕ → ℕ) (backups : List ℕ) → start d ≡ keptOf l d → All (Fit s) F → Laid (keptOf l d) (on d F)
+      → logOf (imageFrom s c start backups (w .logs)) d ≡ entriesScan (on d F)
+  unfolding logOf imageFrom
+  image-log c start backups e fit laid =
+      rw (getD-list start (s .disks) d 0 below, getD-list (wordsFrom s start (w .logs)) (s .disks) d [] below, retained start e, e)
       (scan-entries s _ _ (keptOf l d) (on d F) (fit-on s d F fit) laid (holds-from _ (keptOf l d) (wordsOf (on d F)) (λ q h m. refl)) refl)

@@ -15,8 +15,8 @@ use Rattle.model.specs.Word.{part}
 use Rattle.model.specs.Sizes.{total}
 use Rattle.model.specs.Anchor.{epochOn, sizesOn, startOn, startWord, backupAt}
 use Rattle.model.specs.World.{World, anchor, backups, logs, Memory, pages, work, Action, store, write, cost, act, perform, covered, run, each}
-use Rattle.model.specs.Causes.{tailOn}
-use Rattle.model.specs.Image.{retainedWords, imageOf}
+use Rattle.model.specs.Causes.{tailIn}
+use Rattle.model.specs.Image.{imageOf, wordsFrom}
 use Rattle.model.proofs.Ledger.Entry.{All}
 use Rattle.model.proofs.Run.{SameLengths, act-lengths, same-lengths-trans}
 use Rattle.model.proofs.Restart.Image.{image-same, SameDevices}
@@ -115,7 +115,7 @@ devices-steady {v} {w} d k =
 
 -- the image is the same
 pub steady-image : {v w : World} → Steady v w → sizesOn (w .anchor) .disks ≤ 8 → imageOf v ≡ imageOf w
-unfolding retainedWords tailOn
+unfolding wordsFrom tailIn
 steady-image {v} {w} k eight =
     image-same v w (k .sizes) (k .epoch) (k .backup) (λ d h. k .starts d (omega arith)) (λ d h. rw (k .logs, k .starts d (omega arith)))
 

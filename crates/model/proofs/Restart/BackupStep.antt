@@ -13,10 +13,10 @@ use Rattle.model.specs.Word.{_⊕_, part}
 use Rattle.model.specs.Sizes.{pageBase, pageWords, total}
 use Rattle.model.specs.Anchor.{backupAt}
 use Rattle.model.specs.World.{World, perform}
-use Rattle.model.specs.Causes.{tailOn}
+use Rattle.model.specs.Causes.{tailIn}
 use Rattle.model.specs.State.{withReplay}
 use Rattle.model.specs.Restart.{positionOf, readDisk, backupStep}
-use Rattle.model.specs.Image.{retainedWords, imageOf, xorAt, restarted}
+use Rattle.model.specs.Image.{imageOf, xorAt, restarted, wordsFrom, imageFrom}
 use Rattle.model.proofs.Ledger.Entry.{mask, spanning, share}
 use Rattle.model.proofs.Xor.{xor, ⊕-zero-l, ⊕-zero-r}
 use Rattle.model.proofs.Restart.Words.{length-xor-at, xor-at-word, withPages, perform-xor}
@@ -75,7 +75,7 @@ module _ (c : Core) (w : World) (m : Progress c w) (h : c .replay .page < c .siz
   fits = omega (arith, backup-within (c .sizes) (c .epoch), m .lengths .backups)
 
   image-backup : imageOf w .backup ≡ part (backupAt (c .sizes) (c .epoch)) (total (c .sizes)) (w .backups)
-  unfolding imageOf
+  unfolding imageOf imageFrom
   image-backup = rw (m .sizes, m .epoch)
 
   backup-less : (x : ℕ) → backupLeft c w x ≡ share base diff x ⊕ backupLeft (backupStep c w .core) w x
@@ -98,7 +98,7 @@ module _ (c : Core) (w : World) (m : Progress c w) (h : c .replay .page < c .siz
       ∙ m .words x k)
 
   stepped : Progress (backupStep c w .core) (withPages w (xorAt base diff (w .pages)))
-  unfolding backupStep withReplay backupLeft logsLeft logLeft positionOf readDisk imageOf retainedWords tailOn
+  unfolding backupStep withReplay backupLeft logsLeft logLeft positionOf readDisk imageOf imageFrom wordsFrom tailIn
   stepped =
       record {
         stage = m .stage;

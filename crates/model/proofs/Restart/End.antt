@@ -19,7 +19,7 @@ use Rattle.model.specs.Restart.{positionOf, remaining, readDisk, restart
 use Rattle.model.specs.Reference.{taken, outcomeOf}
 use Rattle.model.specs.Call.{restartBegin, restartStep, restartEnd, resultOf}
 use Rattle.model.specs.Machine.{Machine, result, outcome, after, call, afterSteps}
-use Rattle.model.specs.Image.{imageOf, restarted}
+use Rattle.model.specs.Image.{imageOf, restarted, imageFrom}
 use Rattle.model.specs.Promise.{ReplayOrder}
 use Rattle.model.proofs.Xor.{⊕-zero-r}
 use Rattle.model.proofs.Below.{sum-mono, all-each}
@@ -63,7 +63,7 @@ module _ (c : Core) (w : World) (m : Progress c w) (none : (i : ℕ) → i < c .
       rw (backup-done x k, logs-done x, ⊕-zero-r 0, ⊕-zero-r (getD (w .pages) x 0)) at (m .words x k)
 
   done-pages : w .pages ≡ restarted (imageOf w)
-  unfolding imageOf
+  unfolding imageOf imageFrom
   done-pages =
       ext-getD 0 (w .pages) (restarted (imageOf w))
       (m .lengths .pages ∙ ap total (m .sizes) ∙ sym (length-restarted (imageOf w) (m .backup ∙ ap total (m .sizes)))) done-word

@@ -17,8 +17,8 @@ use Rattle.model.specs.Decode.{readLog, span}
 use Rattle.model.specs.Scan.{scan}
 use Rattle.model.specs.World.{World, anchor, backups, logs, pages, work, Action, store, write, cost, act, perform, stores}
 use Rattle.model.specs.Memory.{lengthsRight}
-use Rattle.model.specs.Causes.{tailOn, retained}
-use Rattle.model.specs.Image.{retainedWords, imageOf, logOf}
+use Rattle.model.specs.Causes.{tailIn, retainedFrom}
+use Rattle.model.specs.Image.{retainedWords, imageOf, logOf, wordsFrom, imageFrom}
 use Rattle.model.proofs.Below.{list-cong, getD-list}
 use Rattle.model.proofs.Lengths.{lengths-right}
 use Rattle.model.proofs.Scan.{scan-cong}
@@ -44,13 +44,13 @@ backup-within s c =
 
 pub length-backup : (w : World) → lengthsRight (sizesOn (w .anchor)) w ≡ true
     → length (imageOf w .backup) ≡ total (sizesOn (w .anchor))
-unfolding imageOf
+unfolding imageOf imageFrom
 length-backup w e =
     let s : Sizes = sizesOn (w .anchor) in
     let long = lengths-right s w e .backups in
     length-part (backupAt s (epochOn (w .anchor))) (total s) (w .backups) (omega (arith, backup-within s (epochOn (w .anchor))))
 
--- The scan of a log of the image is the scan of the device's log from the current start to the tail.
+-- The scan of a log of the image is the scan of the device's log from its start to the tail.
 pub getD-span : (read : ℕ → ℕ) (p n i : ℕ) → i < n → getD (span read p n) i 0 ≡ read (p + i)
 unfolding span
 getD-span read p zero i h = absurd (omega arith)
@@ -66,14 +66,12 @@ span-scan s read start tail first log h e f =
     (scan-cong s (λ p. getD (span read start (tail - start)) (p - start) 0) read tail start
     (λ q l m. getD-span read start (tail - start) (q - start) (omega arith) ∙ ap read (omega arith)))
 
-pub image-log : (w : World) (d : ℕ) → d < sizesOn (w .anchor) .disks
-    → startOn (w .anchor) d ≤ tailOn (sizesOn (w .anchor)) w d → logOf (imageOf w) d ≡ retained (sizesOn (w .anchor)) w d
-unfolding logOf imageOf retained retainedWords
-image-log w d h l =
-    let s : Sizes = sizesOn (w .anchor) in
-    span-scan s (readLog s (w .logs) d (tailOn s w d) []) (startOn (w .anchor) d) (tailOn s w d) _ _ l
-    (getD-list (startOn (w .anchor)) (s .disks) d 0 h)
-    (getD-list (retainedWords s w) (s .disks) d [] h)
+pub image-log : (s : Sizes) (c : ℕ) (start : ℕ → ℕ) (backups logs : List ℕ) (d : ℕ) → d < s .disks → start d ≤ tailIn s logs d
+    → logOf (imageFrom s c start backups logs) d ≡ retainedFrom s start logs d
+unfolding logOf imageFrom retainedFrom wordsFrom
+image-log s c start disks words d h l =
+    span-scan s (readLog s words d (tailIn s words d) []) (start d) (tailIn s words d) _ _ l (getD-list start (s .disks) d 0 h)
+    (getD-list (wordsFrom s start words) (s .disks) d [] h)
 
 -- Worlds with the same sizes, epoch, current backup, starts and retained words have the same image.
 pub image-same : (v w : World) → sizesOn (v .anchor) ≡ sizesOn (w .anchor) → epochOn (v .anchor) ≡ epochOn (w .anchor)
@@ -82,7 +80,7 @@ pub image-same : (v w : World) → sizesOn (v .anchor) ≡ sizesOn (w .anchor) �
     → ((d : ℕ) → d < sizesOn (w .anchor) .disks → startOn (v .anchor) d ≡ startOn (w .anchor) d)
     → ((d : ℕ) → d < sizesOn (w .anchor) .disks → retainedWords (sizesOn (w .anchor)) v d ≡ retainedWords (sizesOn (w .anchor)) w d)
     → imageOf v ≡ imageOf w
-unfolding imageOf
+unfolding imageOf imageFrom
 image-same v w sizes epoch backup starts words =
     let s : Sizes = sizesOn (w .anchor) in
     rw (sizes, epoch, backup, list-cong (startOn (v .anchor)) (startOn (w .anchor)) (s .disks) starts, list-cong (retainedWords s v) (retainedWords s w) (s .disks) words)
@@ -100,7 +98,7 @@ bare : World → World
 bare w = record { anchor = w .anchor; pages = []; backups = w .backups; logs = w .logs; work = [] }
 
 image-bare : (w : World) → imageOf w ≡ imageOf (bare w)
-unfolding imageOf retainedWords tailOn bare
+unfolding imageOf imageFrom wordsFrom tailIn bare
 image-bare w = refl
 
 pub image-devices : {v w : World} → SameDevices v w → imageOf v ≡ imageOf w

@@ -17,10 +17,10 @@ use Rattle.model.specs.Decode.{span, decodeAt}
 use Rattle.model.specs.Scan.{Scan, end, scan, fateIn}
 use Rattle.model.specs.World.{World, perform}
 use Rattle.model.specs.State.{withReplay, startOf, tailOf}
-use Rattle.model.specs.Causes.{tailOn}
+use Rattle.model.specs.Causes.{tailIn}
 use Rattle.model.specs.Abort.{xorIn}
 use Rattle.model.specs.Restart.{replays, positionOf, readDisk, fateFrom, nextRecord, movedTo, recordStep}
-use Rattle.model.specs.Image.{retainedWords, imageOf, xorAt, restarted}
+use Rattle.model.specs.Image.{imageOf, xorAt, restarted, wordsFrom, imageFrom}
 use Rattle.model.proofs.Ledger.Entry.{mask, share}
 use Rattle.model.proofs.Xor.{xor, ⊕-zero-l, ⊕-zero-r}
 use Rattle.model.proofs.Decode.{found-change, found-close}
@@ -91,7 +91,7 @@ module _ (c : Core) (w : World) (m : Progress c w) (d next : ℕ) (h : d < c .si
       go (no ne) = rw (left-other e ne) (m .clean e k)
 
   moved : Progress (movedTo c d next) (withPages w l)
-  unfolding movedTo withReplay backupLeft imageOf retainedWords tailOn
+  unfolding movedTo withReplay backupLeft imageOf imageFrom wordsFrom tailIn
   moved =
       record {
         stage = m .stage;

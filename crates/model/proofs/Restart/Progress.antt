@@ -1,13 +1,12 @@
 -- A restart under way: the pages so far and what the steps to come add make the image's pages. It holds after restart begin.
 use mathlib.Core.Path.{_≡_, refl, sym, ap, _∙_}
 use mathlib.Core.List.{List, []}
-use mathlib.Core.Bool.{true, false}
+use mathlib.Core.Bool.{true}
 use Prim.Native.Nat.{ℕ, _-_, _≤_, _<_}
 use native.Mathlib.Omega.{arith}
-use lib.Dec.{leb, ltb, leb·zero}
+use lib.Dec.{leb, leb·zero}
 use lib.ListN.{length, getD, replicate, length-replicate, getD-replicate}
 use lib.Seq.{sets, length-sets}
-use borrow.Author.Tests.{ltb-false, not-false}
 use Rattle.model.specs.declared.Stage.the-variants.{Replaying}
 use Rattle.model.specs.declared.Sizes.{Sizes}
 use Rattle.model.specs.declared.Core.{Core}
@@ -18,18 +17,16 @@ use Rattle.model.specs.Anchor.{epochOn, sizesOn, startOn}
 use Rattle.model.specs.Decode.{readLog}
 use Rattle.model.specs.Scan.{Scan, end, scan}
 use Rattle.model.specs.World.{World, perform, pages}
-use Rattle.model.specs.Memory.{lengthsRight}
 use Rattle.model.specs.State.{startOf, tailOf}
-use Rattle.model.specs.Causes.{sizesWrong, lengthsWrong, tailOn, tailWrong, wrongTail, retained}
+use Rattle.model.specs.Causes.{lengthsWrong, tailOn, retainedFrom, retained}
 use Rattle.model.specs.Restart.{positionOf, readDisk, imageRows, restartBeginRows, restartBeginTask}
 use Rattle.model.specs.Reference.{taken, outcomeOf}
 use Rattle.model.specs.Call.{restartBegin, resultOf}
-use Rattle.model.specs.Image.{retainedWords, imageOf, logOf, restarted}
+use Rattle.model.specs.Image.{imageOf, logOf, restarted, imageFrom}
 use Rattle.model.proofs.Ledger.Entry.{mask}
 use Rattle.model.proofs.Xor.{⊕-zero-l}
-use Rattle.model.proofs.Below.{first-before}
 use Rattle.model.proofs.Reading.{ending}
-use Rattle.model.proofs.Faults.{fault-none, no-fault}
+use Rattle.model.proofs.Checked.{Restartable, rows-restartable}
 use Rattle.model.proofs.Run.{perform-pages}
 use Rattle.model.proofs.Storeless.{nothing-stored}
 use Rattle.model.proofs.Restart.Words.{withPages, xorBelow, xor-below-cong}
@@ -37,9 +34,8 @@ use Rattle.model.proofs.Restart.Gain.{gain, gains, restarted-word}
 use Rattle.model.proofs.Lengths.{Lengths, lengths-right as lengths}
 use Rattle.model.proofs.Restart.Image.{disks-le, length-backup, image-log, SameDevices, memory-devices}
 use Rattle.model.proofs.Restart.Taken.{Taken, taken-call}
-use Rattle.model.proofs.Booleans.{or-none}
 use Rattle.model.proofs.Parts.{getD-sets-in}
-use Rattle.model.proofs.Verdict.{row-passed}
+use Rattle.model.proofs.Verdict.{row-passed, accepted-first}
 use Rattle.model.proofs.PerDisk.{getD-per-disk, length-per-disk}
 
 -- the rest of a disk's log: from the next position up to the tail
@@ -73,43 +69,16 @@ pub record Progress (c : Core) (w : World) : Type 0 where
   pub words : (x : ℕ) → x < total (c .sizes)
       → getD (w .pages) x 0 ⊕ (backupLeft c w x ⊕ logsLeft c w x) ≡ getD (restarted (imageOf w)) x 0
 
--- What an accepted restart begin found.
-pub record Checked (w : World) : Type 0 where
-  pub bounds : sizesInBounds (sizesOn (w .anchor)) ≡ true
-  pub lengths : lengthsRight (sizesOn (w .anchor)) w ≡ true
-  pub tails : (d : ℕ) → d < sizesOn (w .anchor) .disks → startOn (w .anchor) d ≤ tailOn (sizesOn (w .anchor)) w d
-  pub clean : (d : ℕ) → d < sizesOn (w .anchor) .disks → ending (retained (sizesOn (w .anchor)) w d) ≡ end
-
-tail-right : (s : Sizes) (w : World) → ltb (wrongTail s w) (s .disks) ≡ false → (d : ℕ) → d < s .disks
-    → startOn (w .anchor) d ≤ tailOn s w d
-unfolding wrongTail tailWrong
-tail-right s w e d h =
-    let a = first-before (tailWrong s w) (s .disks) d (omega (arith, ltb-false (wrongTail s w) (s .disks) e)) in
-    let b = or-none _ _ a in
-    ltb-false _ _ (or-none _ _ (b .0) .0)
-
-pub begin-checked : (c : Core) (w : World) → Taken restartBegin c w → Checked w
-unfolding restartBeginRows imageRows sizesWrong lengthsWrong
-begin-checked c w t =
-    let a = row-passed _ _ (t .accepted) .1 in
-    let b = row-passed _ _ a .1 in
-    let d = row-passed _ _ b .1 in
-    let f = row-passed _ _ d in
-    let g = row-passed _ _ (f .1) in
-    let h = row-passed _ _ (g .1) in
-    let s : Sizes = sizesOn (w .anchor) in
-    let sound = no-fault _ (row-passed _ _ (h .1) .0) in
-    record {
-      bounds = not-false _ (f .0);
-      lengths = not-false _ (g .0);
-      tails = tail-right s w (h .0);
-      clean = λ d l. fault-none s w (s .disks) 0 sound d (omega arith) (omega arith);
-    }
+-- what an accepted restart begin found
+pub begin-restartable : (c : Core) (w : World) → Taken restartBegin c w → Restartable w
+unfolding restartBeginRows
+begin-restartable c w t =
+    rows-restartable w (accepted-first (imageRows (λ s. lengthsWrong s w) (w .anchor) (w .logs)) _ (row-passed _ _ (t .accepted) .1))
 
 -- at the start of its log, a disk's rest is the whole retained log
 pub left-retained : (c : Core) (w : World) (d : ℕ) → tailOf (c .logs) d ≡ tailOn (c .sizes) w d
     → positionOf c d ≡ startOn (w .anchor) d → logLeft c w d ≡ retained (c .sizes) w d
-unfolding logLeft readDisk retained
+unfolding logLeft readDisk retainedFrom
 left-retained c w d e f =
     ap (λ (t : ℕ). scan (c .sizes) (readLog (c .sizes) (w .logs) d t []) t (positionOf c d)) e
     ∙ ap (λ (p : ℕ). scan (c .sizes) (readLog (c .sizes) (w .logs) d (tailOn (c .sizes) w d) []) (tailOn (c .sizes) w d) p) f
@@ -120,29 +89,32 @@ unfolding restartBeginTask
 perform-begin w = perform-pages 0 (replicate (total (sizesOn (w .anchor))) 0) w
 
 -- the state and the pages that restart begin makes
-module _ (w : World) (k : Checked w) where
+module _ (w : World) (k : Restartable w) where
   eight : sizesOn (w .anchor) .disks ≤ 8
-  eight = disks-le (sizesOn (w .anchor)) (k .bounds)
+  eight = disks-le (sizesOn (w .anchor)) (k .image .bounds)
 
   begun-retained : (d : ℕ) → d < sizesOn (w .anchor) .disks → (l : List ℕ)
       → logLeft (restartBeginTask w .core) (withPages w l) d ≡ retained (sizesOn (w .anchor)) w d
-  unfolding restartBeginTask tailOf positionOf tailOn retained
+  unfolding restartBeginTask tailOf positionOf
   begun-retained d h l =
       left-retained (restartBeginTask w .core) (withPages w l) d (getD-per-disk (sizesOn (w .anchor)) (tailOn (sizesOn (w .anchor)) w) d eight h)
       (getD-per-disk (sizesOn (w .anchor)) (startOn (w .anchor)) d eight h)
 
   begun-log : (d : ℕ) → d < sizesOn (w .anchor) .disks → (l : List ℕ)
       → logLeft (restartBeginTask w .core) (withPages w l) d ≡ logOf (imageOf w) d
-  begun-log d h l = begun-retained d h l ∙ sym (image-log w d h (k .tails d h))
+  unfolding imageOf
+  begun-log d h l =
+      begun-retained d h l
+      ∙ sym (image-log (sizesOn (w .anchor)) (epochOn (w .anchor)) (startOn (w .anchor)) (w .backups) (w .logs) d h (k .image .whole .tails d h .0))
 
   begun-logs : (x : ℕ) (l : List ℕ) → logsLeft (restartBeginTask w .core) (withPages w l) x ≡ gains (imageOf w) (sizesOn (w .anchor) .disks) x
-  unfolding restartBeginTask logsLeft gains imageOf
+  unfolding restartBeginTask logsLeft gains imageOf imageFrom
   begun-logs x l =
       xor-below-cong _ _ (sizesOn (w .anchor) .disks)
       (λ d h. ap (λ (log : Scan). gain (sizesOn (w .anchor)) (epochOn (w .anchor)) log x) (begun-log d h l))
 
   begun-backup : (x : ℕ) (l : List ℕ) → backupLeft (restartBeginTask w .core) (withPages w l) x ≡ getD (imageOf w .backup) x 0
-  unfolding restartBeginTask backupLeft pageBase sumBelow imageOf
+  unfolding restartBeginTask backupLeft pageBase sumBelow imageOf imageFrom
   begun-backup x l = rw (leb·zero x)
 
   zeroed : (x : ℕ) → x < total (sizesOn (w .anchor)) → getD (sets (w .pages) 0 (replicate (total (sizesOn (w .anchor))) 0)) x 0 ≡ 0
@@ -154,7 +126,7 @@ module _ (w : World) (k : Checked w) where
       ∙ getD-replicate n (x - 0) 0 0 (omega arith)
 
   begun-progress : Progress (restartBeginTask w .core) (withPages w (sets (w .pages) 0 (replicate (total (sizesOn (w .anchor))) 0)))
-  unfolding restartBeginTask tailOf startOf positionOf tailOn imageOf retainedWords
+  unfolding restartBeginTask tailOf startOf positionOf imageOf imageFrom
   begun-progress =
       let s : Sizes = sizesOn (w .anchor) in
       let zeros : List ℕ = replicate (total s) 0 in
@@ -164,7 +136,7 @@ module _ (w : World) (k : Checked w) where
         stage = refl;
         sizes = refl;
         epoch = refl;
-        bounds = k .bounds;
+        bounds = k .image .bounds;
         lengths = record { pages = length-sets (w .pages) 0 zeros ∙ long .pages; backups = long .backups; logs = long .logs; work = long .work };
         backup = back;
         starts = λ d h. getD-per-disk s (startOn (w .anchor)) d eight h;
@@ -174,9 +146,9 @@ module _ (w : World) (k : Checked w) where
         positions = λ d h.
             let e = getD-per-disk s (startOn (w .anchor)) d eight h in
             let f = getD-per-disk s (tailOn s w) d eight h in
-            let g = k .tails d h in
+            let g = k .image .whole .tails d h in
             (omega arith, omega arith);
-        clean = λ d h. ap ending (begun-retained d h (sets (w .pages) 0 zeros)) ∙ k .clean d h;
+        clean = λ d h. ap ending (begun-retained d h (sets (w .pages) 0 zeros)) ∙ k .image .whole .clean d h;
         page = omega arith;
         words = λ x h.
             rw (zeroed x h, begun-backup x (sets (w .pages) 0 zeros), begun-logs x (sets (w .pages) 0 zeros))
@@ -190,6 +162,6 @@ pub begin-progress : (c : Core) (w : World) → outcomeOf (resultOf restartBegin
 begin-progress c w e =
     let t = taken-call restartBegin c w e in
     rw (t .core, t .world) (
-      rw (perform-begin w) (begun-progress w (begin-checked c w t)),
+      rw (perform-begin w) (begun-progress w (begin-restartable c w t)),
       memory-devices (restartBeginTask w .actions) w (nothing-stored restartBegin c w refl),
     )

@@ -91,7 +91,7 @@ made-sound c made =
 
 -- A format that is taken gives the same on a new state.
 beyond-stage : (c : Core) (w : World) (s : Sizes) → verdict (formatRows c w s) ≡ accepted
-    → verdict (row 2 (anchorWrong w) ∷ row 4 (sizesWrong s) ∷ row 5 (lengthsWrong s w) ∷ []) ≡ accepted
+    → verdict (row 2 (anchorWrong (w .anchor)) ∷ row 4 (sizesWrong s) ∷ row 5 (lengthsWrong s w) ∷ []) ≡ accepted
 unfolding formatRows
 beyond-stage c w s ok = row-passed _ _ ok .1
 

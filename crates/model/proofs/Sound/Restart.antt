@@ -1,5 +1,5 @@
 -- Format and restart begin, step and end hand back a state that passes the first test.
-use mathlib.Core.Path.{_≡_, refl, sym}
+use mathlib.Core.Path.{_≡_, refl, sym, _∙_}
 use mathlib.Core.List.{List}
 use mathlib.Core.Bool.{Bool, true, false, cond}
 use Prim.Native.Nat.{ℕ, _+_, _-_, _≤_, _<_}
@@ -18,17 +18,16 @@ use Rattle.model.specs.Sizes.{sizesInBounds}
 use Rattle.model.specs.Anchor.{sizesOn, startOn}
 use Rattle.model.specs.World.{World}
 use Rattle.model.specs.State.{withReplay, places, limit, noTable, emptyLogs, openCore, startOf, tailOf, endOf, numberAt, servedBy, reservedOn, servingSound, sound}
-use Rattle.model.specs.Refusal.{accepted, verdict}
-use Rattle.model.specs.Causes.{whenReplaying, sizesWrong, tailOn, tailWrong, wrongTail, sourceMissing, spent}
+use Rattle.model.specs.Refusal.{Row, accepted, verdict}
+use Rattle.model.specs.Causes.{whenReplaying, sizesWrong, lengthsWrong, tailOn, sourceMissing, spent}
 use Rattle.model.specs.Format.{formatRows, formatTask}
 use Rattle.model.specs.Restart.{imageRows, restartBeginRows, restartBeginTask, remaining, readDisk, nextRecord, restartStepRows, backupStep, movedTo, recordStep, restartStepTask, restartEndRows, restartEndTask}
-use Rattle.model.proofs.Below.{first-before}
 use Rattle.model.proofs.Decode.{found-change, found-close}
 use Rattle.model.proofs.Bounds.{bounded}
 use Rattle.model.proofs.Store.Rows.{stage-row}
 use Rattle.model.proofs.Sound.Test.{Sized, Passing, serving-test, ReplaySound, replay-sound, replaying-test}
-use Rattle.model.proofs.Booleans.{or-none}
-use Rattle.model.proofs.Verdict.{row-passed}
+use Rattle.model.proofs.Verdict.{row-passed, verdict-append, accepted-first}
+use Rattle.model.proofs.Checked.{rows-restartable}
 use Rattle.model.proofs.PerDisk.{getD-per-disk, length-per-disk}
 use Rattle.model.proofs.Growth.{none-buffered, kept-start}
 
@@ -76,27 +75,15 @@ format-passes c w s ok =
     (λ d h. omega (arith, getD-replicate {A = ℕ} 8 d 0 0 (omega (arith, bounded s bounds .disks-max))))
 
 -- Restart begin: the rows found sizes, tails and the checkpoint number within their bounds.
-tail-bounds : (s : Sizes) (w : World) → ltb (wrongTail s w) (s .disks) ≡ false → (d : ℕ) → d < s .disks
-    → (startOn (w .anchor) d ≤ tailOn s w d) × (tailOn s w d ≤ limit)
-unfolding wrongTail tailWrong
-tail-bounds s w e d h =
-    let a = first-before (tailWrong s w) (s .disks) d (omega (arith, ltb-false (wrongTail s w) (s .disks) e)) in
-    let b = or-none _ _ a in
-    (ltb-false _ _ (or-none _ _ (b .0) .0), ltb-false _ _ (b .1))
-
 pub restart-begin-passes : (c : Core) (w : World) → verdict (restartBeginRows c w) ≡ accepted → Passing (restartBeginTask w .core)
-unfolding restartBeginRows imageRows restartBeginTask sizesWrong spent tailOf
+unfolding restartBeginRows imageRows restartBeginTask spent tailOf
 restart-begin-passes c w ok =
     let s : Sizes = sizesOn (w .anchor) in
-    let stage = row-passed _ _ ok in
-    let anchor = row-passed _ _ (stage .1) in
-    let formatted = row-passed _ _ (anchor .1) in
-    let sizes = row-passed _ _ (formatted .1) in
-    let lengths = row-passed _ _ (sizes .1) in
-    let tails = row-passed _ _ (lengths .1) in
-    let records = row-passed _ _ (tails .1) in
-    let epoch = row-passed _ _ (records .1) in
-    let bounds = not-false _ (sizes .0) in
+    let after = row-passed _ _ ok .1 in
+    let checks : List Row = imageRows (λ s. lengthsWrong s w) (w .anchor) (w .logs) in
+    let found = rows-restartable w (accepted-first checks _ after) .image in
+    let epoch = row-passed _ _ (sym (verdict-append checks _ (accepted-first checks _ after)) ∙ after) in
+    let bounds = found .bounds in
     let eight = bounded s bounds .disks-max in (
       record {
         logs = record { starts = length-per-disk s (startOn (w .anchor)); tails = length-per-disk s (tailOn s w); fills = refl };
@@ -109,8 +96,8 @@ restart-begin-passes c w ok =
             bounds = bounds;
             epoch = leb-false _ _ (epoch .0);
             page = omega arith;
-            tails = λ d h. omega (arith, getD-per-disk s (tailOn s w) d eight h, tail-bounds s w (tails .0) d h .1);
-            positions = λ d h. omega (arith, getD-per-disk s (tailOn s w) d eight h, getD-per-disk s (startOn (w .anchor)) d eight h, tail-bounds s w (tails .0) d h .0);
+            tails = λ d h. omega (arith, getD-per-disk s (tailOn s w) d eight h, found .whole .tails d h);
+            positions = λ d h. omega (arith, getD-per-disk s (tailOn s w) d eight h, getD-per-disk s (startOn (w .anchor)) d eight h, found .whole .tails d h);
           }),
     )
 

@@ -1,84 +1,47 @@
 -- What the checks of a sound store find: a restart can begin, and no call comes upon a malformed record.
 use mathlib.Core.Path.{_≡_, refl, sym, ap, _∙_}
-use mathlib.Core.List.{List, [], _∷_, _++_}
+use mathlib.Core.List.{List, [], _∷_}
 use mathlib.Core.Bool.{Bool, true, false, true≢false, and-eq-true-iff, cond, _&&_, _||_}
 use Prim.Native.Nat.{ℕ, _<_}
 use native.Mathlib.Omega.{arith}
 use lib.Dec.{ltb, eqb}
-use lib.ListN.{length}
-use borrow.Author.Tests.{ltb-true, le-ltb, eq-eqb, ne-eqb}
+use borrow.Author.Tests.{ltb-true, eq-eqb}
 use Rattle.model.specs.declared.Stage.{Stage}
 use Rattle.model.specs.declared.Stage.the-variants.{Shut, Replaying, Open, Copying}
-use Rattle.model.specs.declared.Sizes.{Sizes}
 use Rattle.model.specs.declared.Core.{Core}
 use Rattle.model.specs.declared.Decoded.{Decoded}
 use Rattle.model.specs.declared.Decoded.the-variants.{Change, Close, Malformed}
 use Rattle.model.specs.declared.Fate.the-variants.{Closed}
 use Rattle.model.specs.declared.Fault.the-variants.{NoFault}
-use Rattle.model.specs.Anchor.{anchorWords, epochOn, sizesOn}
+use Rattle.model.specs.Anchor.{epochOn, sizesOn, startOn}
 use Rattle.model.specs.Record.{change, close}
 use Rattle.model.specs.Scan.{Scan, end, bad, item, scan, fateIn}
 use Rattle.model.specs.World.{World}
 use Rattle.model.specs.State.{tailOf, sound}
 use Rattle.model.specs.Refusal.{Row, row, accepted, rejected, verdict, Result, numberOf}
-use Rattle.model.specs.Causes.{whenShut, whenReplaying, whenServing, stageForbids, anchorWrong, unformatted, sizesWrong, lengthsWrong, tailWrong, wrongTail, faultFrom, spent}
+use Rattle.model.specs.Causes.{whenShut, whenReplaying, whenServing, stageForbids, lengthsWrong, spent}
 use Rattle.model.specs.Format.{formatRows}
 use Rattle.model.specs.Transaction.{beginRows, updateRows, readRows, commitRows}
 use Rattle.model.specs.Abort.{abortFault, abortRows}
 use Rattle.model.specs.Checkpoint.{checkpointBeginRows, checkpointStepRows, checkpointEndRows}
 use Rattle.model.specs.Restart.{imageRows, restartBeginRows, positionOf, remaining, readDisk, fateFrom, nextRecord, fateFault, recordFault, stepFault, restartStepRows, restartEndRows}
 use Rattle.model.specs.Call.{Call, format, begin, update, look, read, commit, abort, checkpointBegin, checkpointStep, checkpointEnd, restartBegin, restartStep, restartEnd, newState, rowsOf, resultOf}
-use Rattle.model.proofs.Below.{first-none}
 use Rattle.model.proofs.Storeless.{storeless-finishes}
 use Rattle.model.proofs.Scan.{scan-bad}
 use Rattle.model.proofs.Reading.{ending}
-use Rattle.model.proofs.Faults.{none-fault}
+use Rattle.model.proofs.Checked.{whole-records, Restartable, restartable-rows}
 use Rattle.model.proofs.Restart.Progress.{logLeft, Progress}
 use Rattle.model.proofs.Restart.LogStep.{change-well}
 use Rattle.model.proofs.Restart.Steps.{remaining-log}
 use Rattle.model.proofs.Store.Cases.{call-cases}
 use Rattle.model.proofs.Store.Rows.{stage-row}
-use Rattle.model.proofs.Store.View.{Restartable}
-use Rattle.model.proofs.Verdict.{row-passed}
-
--- Restart begin, rows 2 to 7.
-module _ {w : World} (h : Restartable w) where
-  tail-right : (d : ℕ) → d < sizesOn (w .anchor) .disks → tailWrong (sizesOn (w .anchor)) w d ≡ false
-  unfolding tailWrong
-  tail-right d l =
-      let t = h .tails d l in
-      rw (le-ltb _ _ (t .0), le-ltb _ _ (t .1), le-ltb _ _ (t .2))
-
-  tails-right : ltb (wrongTail (sizesOn (w .anchor)) w) (sizesOn (w .anchor) .disks) ≡ false
-  unfolding wrongTail
-  tails-right =
-      let s : Sizes = sizesOn (w .anchor) in
-      rw (first-none (tailWrong s w) (s .disks) tail-right) (le-ltb (s .disks) (s .disks) (omega arith))
-
-  pub no-fault : faultFrom (sizesOn (w .anchor)) w (sizesOn (w .anchor) .disks) 0 ≡ NoFault
-  no-fault =
-      let s : Sizes = sizesOn (w .anchor) in
-      none-fault s w (s .disks) 0 (λ d from l. h .clean d (omega arith))
-
-  -- what a restart can be begun on passes all checks of an image
-  pub restartable-rows : verdict (imageRows w) ≡ accepted
-  unfolding verdict imageRows anchorWrong unformatted sizesWrong lengthsWrong
-  restartable-rows =
-      rw (eq-eqb (length (w .anchor)) anchorWords (h .anchor), ne-eqb (epochOn (w .anchor)) 0 (λ e. omega (arith, h .formatted)), h .bounds, h .lengths, tails-right, no-fault)
-
--- rows that accept leave the verdict to those behind them
-verdict-append : (l k : List Row) → verdict l ≡ accepted → verdict (l ++ k) ≡ verdict k
-unfolding verdict
-verdict-append [] k e = refl
-verdict-append (x ∷ l) k e =
-    let f = row-passed x l e in
-    rw (f .0) (verdict-append l k (f .1))
+use Rattle.model.proofs.Verdict.{verdict-append}
 
 pub begin-verdict : (c : Core) (w : World) → c .stage ≡ Shut → Restartable w
     → verdict (restartBeginRows c w) ≡ cond (spent (epochOn (w .anchor))) (rejected 13 0 0) accepted
 unfolding verdict restartBeginRows stageForbids sound
 begin-verdict c w e h =
-    rw e (verdict-append (imageRows w) (row 13 (spent (epochOn (w .anchor))) ∷ []) (restartable-rows h))
+    rw e (verdict-append (imageRows (λ s. lengthsWrong s w) (w .anchor) (w .logs)) (row 13 (spent (epochOn (w .anchor))) ∷ []) (restartable-rows w h))
 
 -- "restart begin in stage shut can give only 13"
 pub restart-begin-answers : (c : Core) (w : World) → c .stage ≡ Shut → Restartable w
@@ -211,7 +174,8 @@ never-seven checkpointBegin c w shut replaying serving e = true≢false (sym (se
 never-seven (checkpointStep budget) c w shut replaying serving e = true≢false (sym (seven-row (checkpointStep budget) c w e))
 never-seven (checkpointEnd budget) c w shut replaying serving e = true≢false (sym (seven-row (checkpointEnd budget) c w e))
 never-seven restartBegin c w shut replaying serving e =
-    stage-first restartBegin c w whenShut _ refl (λ s. rw (no-fault (shut (shut-stage (c .stage) s)))) e
+    stage-first restartBegin c w whenShut _ refl
+    (λ s. rw (whole-records (sizesOn (w .anchor)) (startOn (w .anchor)) (w .logs) (shut (shut-stage (c .stage) s) .image .whole))) e
 never-seven (restartStep source) c w shut replaying serving e =
     stage-first (restartStep source) c w whenReplaying _ refl
     (λ s. rw (step-never-bad c w (replaying (replaying-stage (c .stage) s)) source)) e

@@ -15,7 +15,7 @@ use Rattle.model.specs.World.{World, backups, work, store, write, perfor
 use Rattle.model.specs.Memory.{copyAt, copyOf, lengthsRight}
 use Rattle.model.specs.State.{keptOf, fillOf, endOf}
 use Rattle.model.specs.Refusal.{accepted, verdict}
-use Rattle.model.specs.Causes.{whenOpen, tailOn}
+use Rattle.model.specs.Causes.{whenOpen, tailIn}
 use Rattle.model.specs.Checkpoint.{checkpointBeginRows, checkpointBeginTask, lowestToCopy, checkpointStepRows, copyPage, checkpointStepTask}
 use Rattle.model.specs.Reference.{Reference}
 use Rattle.model.specs.History.{Told}
@@ -157,7 +157,7 @@ module _ {home : ℕ → ℕ} {puts : Told} {c : Core} {w : World} {r : Referenc
   stepped-lengths = simp (length-sets, length-set) (v .safe .devices .lengths)
 
   stepped-link : Link (c .sizes) (c .logs) u F B
-  unfolding tailOn
+  unfolding tailIn
   stepped-link =
       let state = copying ok (v .safe .devices) in
       let right = serving-sound c (copying-serving c (state .0)) (state .1) in

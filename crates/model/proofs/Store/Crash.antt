@@ -15,7 +15,7 @@ use Rattle.model.specs.World.{World}
 use Rattle.model.specs.Scan.{end}
 use Rattle.model.specs.State.{limit, keptOf, tailOf, endOf}
 use Rattle.model.specs.Causes.{tailOn, retained as retainedScan}
-use Rattle.model.specs.Image.{Image, imageOf, retainedWords, logOf, restarted}
+use Rattle.model.specs.Image.{Image, imageOf, retainedWords, logOf, restarted, imageFrom}
 use Rattle.model.specs.Reference.{Reference, wordsIn}
 use Rattle.model.specs.History.{Told}
 use Rattle.model.specs.Promise.{Stored}
@@ -35,7 +35,8 @@ use Rattle.model.proofs.Restart.Words.{xor-below-cong}
 use Rattle.model.proofs.Restart.Gain.{gain, gains, restarted-word, length-restarted}
 use Rattle.model.proofs.Restart.Image.{length-backup}
 use Rattle.model.proofs.Restart.Entries.{gain-entries, sum-by-disk}
-use Rattle.model.proofs.Store.View.{Kept, Restartable, view, Safe, SinceOn, anchor-kept, flushed-laid}
+use Rattle.model.proofs.Checked.{Whole, Restartable}
+use Rattle.model.proofs.Store.View.{Kept, view, Safe, SinceOn, anchor-kept, flushed-laid}
 use Rattle.model.proofs.Parts.{getD-part}
 
 -- entries are read to their end
@@ -75,8 +76,8 @@ module _ {x : ℕ} {home : ℕ → ℕ} {c : Core} {w : World} {r : Reference} {
   part-of i e = mask (chosen (closedIn F) (c .epoch) e) (adds i e)
 
   pub log : (d : ℕ) → d < s .disks → logOf (imageOf w) d ≡ entriesScan (on d F)
-  log d h =
-      image-log (g .link) d h (g .devices .sizes) (anchor-kept (g .devices) d h) fit (flushed-laid g d h)
+  unfolding imageOf
+  log d h = rw (g .devices .sizes) (image-log (g .link) d h _ (startOn (w .anchor)) (w .backups) (anchor-kept (g .devices) d h) fit (flushed-laid g d h))
 
   log-gain : (i d : ℕ) → d < s .disks → gain s (c .epoch) (logOf (imageOf w) d) i ≡ sum (part-of i) (on d F)
   unfolding part-of on
@@ -87,11 +88,11 @@ module _ {x : ℕ} {home : ℕ → ℕ} {c : Core} {w : World} {r : Reference} {
       (all-map (λ e k. sym k) (on d F) (closed-same (g .ordered) d)))
 
   image-sizes : imageOf w .sizes ≡ s
-  unfolding imageOf
+  unfolding imageOf imageFrom
   image-sizes = g .devices .sizes
 
   image-epoch : imageOf w .epoch ≡ c .epoch
-  unfolding imageOf
+  unfolding imageOf imageFrom
   image-epoch = g .devices .epoch
 
   all-gains : (i : ℕ) → gains (imageOf w) (s .disks) i ≡ sum (part-of i) F
@@ -101,11 +102,11 @@ module _ {x : ℕ} {home : ℕ → ℕ} {c : Core} {w : World} {r : Reference} {
       ∙ sum-by-disk (part-of i) (s .disks) F (all-left _ F B (g .ordered .inside))
 
   backup-long : length (imageOf w .backup) ≡ total (imageOf w .sizes)
-  unfolding imageOf
+  unfolding imageOf imageFrom
   backup-long = length-backup w (rw (g .devices .sizes) (g .devices .lengths))
 
   backup-word : (i : ℕ) → i < total s → getD (imageOf w .backup) i 0 ≡ getD (w .backups) (backupAt s (c .epoch) + i) 0
-  unfolding imageOf
+  unfolding imageOf imageFrom
   backup-word i h = rw (g .devices .sizes, g .devices .epoch) (getD-part (backupAt s (c .epoch)) (total s) (w .backups) i h)
 
   word : (i : ℕ) → i < total s → getD (restarted (imageOf w)) i 0 ≡ getD (wordsIn (r .committed)) i 0
@@ -123,15 +124,23 @@ module _ {x : ℕ} {home : ℕ → ℕ} {c : Core} {w : World} {r : Reference} {
       let e = g .ends d h in
       (omega (arith, g .link .tail d h), omega arith, omega arith)
 
+  whole : (start : ℕ → ℕ) → ((d : ℕ) → d < s .disks → start d ≡ keptOf (c .logs) d) → Whole s start (w .logs)
+  whole start same =
+      record {
+        tails = λ d h. rw (same d h, g .link .stored d h) (within-ring d h);
+        clean = λ d h. rw (retained-scan (g .link) d h start (same d h) fit (flushed-laid g d h)) (entries-end (on d F));
+      }
+
   restartable : Restartable w
   restartable =
       record {
-        anchor = g .devices .anchor;
-        bounds = rw (g .devices .sizes) (in-bounds s (g .devices .bounds));
+        image = record {
+          long = g .devices .anchor;
+          formatted = rw (g .devices .epoch) (g .devices .formatted);
+          bounds = rw (g .devices .sizes) (in-bounds s (g .devices .bounds));
+          whole = rw (g .devices .sizes) (whole (startOn (w .anchor)) (anchor-kept (g .devices)));
+        };
         lengths = rw (g .devices .sizes) (g .devices .lengths);
-        formatted = rw (g .devices .epoch) (g .devices .formatted);
-        tails = λ d. rw (g .devices .sizes) (λ h. rw (anchor-kept (g .devices) d h, g .link .stored d h) (within-ring d h));
-        clean = λ d. rw (g .devices .sizes) (λ h. rw (retained-scan (g .link) d h (anchor-kept (g .devices) d h) fit (flushed-laid g d h)) (entries-end (on d F)));
       }
 
   -- the logs of the image are the flushed entries; what is buffered would be lost
@@ -148,8 +157,8 @@ module _ {x : ℕ} {home : ℕ → ℕ} {c : Core} {w : World} {r : Reference} {
         parts = told .all ∙ ap (λ (l : List Record). told .old ++ l) (map-append recordOf (on d F) (on d B));
         start = start ∙ told .from;
         tail = rw (g .devices .sizes) (g .link .stored d h ∙ g .link .tail d h ∙ omega (arith, told .from, long));
-        words = rw (g .devices .sizes) (retained (g .link) d h start);
-        finds = rw (g .devices .sizes, start) (retained-scan (g .link) d h start fit (flushed-laid g d h) ∙ laid);
+        words = rw (g .devices .sizes) (retained (g .link) d h (startOn (w .anchor)) start);
+        finds = rw (g .devices .sizes, start) (retained-scan (g .link) d h (startOn (w .anchor)) start fit (flushed-laid g d h) ∙ laid);
         reads = rw start (log d h ∙ laid);
       }
 

@@ -19,7 +19,7 @@ use Rattle.model.specs.World.{World, Action, store, write, anchor, backu
 use Rattle.model.specs.Memory.{copyAt}
 use Rattle.model.specs.State.{limit, tailOf, replaySound, soundIn, sound}
 use Rattle.model.specs.Refusal.{accepted, verdict}
-use Rattle.model.specs.Causes.{whenReplaying, anchorWrong, lengthsWrong, tailOn}
+use Rattle.model.specs.Causes.{whenReplaying, anchorWrong, lengthsWrong, tailOn, tailIn}
 use Rattle.model.specs.Format.{freshMemory, freshWork}
 use Rattle.model.specs.Restart.{restartEndRows, restartEndTask}
 use Rattle.model.specs.History.{Told}
@@ -169,7 +169,7 @@ module _ (c : Core) (w : World) (r : Reference) (m : AtEnd c w r) (found : EndFo
       ∙ sym (m .sizes)
 
   end-fresh : Freshly s n (c .logs .tails) ended r
-  unfolding tailOn tailOf
+  unfolding tailIn tailOf
   end-fresh =
       record {
         bounds = b;

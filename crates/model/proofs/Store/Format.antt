@@ -16,7 +16,7 @@ use Rattle.model.specs.Anchor.{epochWord, slotsAt, widthsAt, rowsAt, epo
 use Rattle.model.specs.World.{World, store, write, anchor, backups, logs, pages, work, act, perform, each}
 use Rattle.model.specs.Memory.{copyAt, lengthsRight}
 use Rattle.model.specs.Refusal.{accepted, verdict}
-use Rattle.model.specs.Causes.{anchorWrong, sizesWrong, lengthsWrong, tailOn}
+use Rattle.model.specs.Causes.{anchorWrong, sizesWrong, lengthsWrong, tailOn, tailIn}
 use Rattle.model.specs.Format.{formatRows, formatStores, freshMemory, freshWork, formatTask}
 use Rattle.model.specs.History.{nothingTold}
 use Rattle.model.specs.Reference.{blank}
@@ -110,7 +110,7 @@ module _ (s : Sizes) (w : World) (b : Bounded s) (long : length (w .anchor) ≡ 
       ∙ getD-replicate 16 (8 + d) 0 0 (omega arith)
 
   format-tail : (d : ℕ) → d < s .disks → tailOn s formatted d ≡ 0
-  unfolding tailOn tailWord
+  unfolding tailIn tailWord
   format-tail d h =
       set-each-in (tailWord s) (λ d. 0) (s .disks) (w .logs) (tails-apart s) d h (omega (arith, disk-within s d h, right .logs))
 

@@ -10,8 +10,8 @@ use Rattle.model.specs.Record.{Record}
 use Rattle.model.specs.World.{World, perform, run, finishes}
 use Rattle.model.specs.State.{newCore}
 use Rattle.model.specs.Refusal.{Result, Task, verdict, accepted}
-use Rattle.model.specs.Causes.{tailOn, retained}
-use Rattle.model.specs.Image.{retainedWords}
+use Rattle.model.specs.Causes.{tailIn, retainedFrom}
+use Rattle.model.specs.Image.{wordsFrom}
 use Rattle.model.specs.Call.{Call, rowsOf, taskOf, budgetOf}
 use Rattle.model.specs.Reference.{Reference, WriteSet, withSets, taken, outcomeOf, isBegin, afterTaken, heardOf, hear}
 use Rattle.model.specs.Machine.{Machine, call, result, outcome, after, referred, Run}
@@ -40,7 +40,7 @@ pub data Holding (puts : Told) (m : Machine) (r : Reference) : Type 0 where
 pub going-on : {puts : Told} {c now : Core} {v w : World} → SameDevices v w
     → ((d : ℕ) → d < sizesOn (w .anchor) .disks → (l : List Record) → StepReads c w d l → StepReads now v d l)
     → ((d : ℕ) → d < sizesOn (w .anchor) .disks → Going puts c w d) → (d : ℕ) → d < sizesOn (v .anchor) .disks → Going puts now v d
-unfolding stored-same tailOn retained retainedWords
+unfolding stored-same tailIn retainedFrom wordsFrom
 going-on {v = v} {w = w} same further was d l =
     let inside = rw (same .anchor) at l in
     let start = ap (λ (a : List ℕ). startOn a d) (same .anchor) in

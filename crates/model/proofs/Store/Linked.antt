@@ -22,7 +22,8 @@ use Rattle.model.proofs.Ledger.Order.{on}
 use Rattle.model.proofs.Ledger.Lists.{all-left}
 use Rattle.model.proofs.Link.Words.{Fit, Link, retained, retained-scan}
 use Rattle.model.proofs.Restart.Image.{image-same}
-use Rattle.model.proofs.Store.View.{Restartable, Kept, Safe, SinceOn, anchor-kept, flushed-laid}
+use Rattle.model.proofs.Checked.{Restartable}
+use Rattle.model.proofs.Store.View.{Kept, Safe, SinceOn, anchor-kept, flushed-laid}
 use Rattle.model.proofs.Store.Crash.{kept, stored, stored-same}
 use Rattle.model.proofs.Store.Flush.{lengths-same}
 
@@ -40,7 +41,7 @@ module _ {x : ℕ} {home : ℕ → ℕ} {c : Core} {m : Logs} {w v : World} {r :
   start d h = ap (λ (a : List ℕ). startOn a d) anchor ∙ anchor-kept (g .devices) d h ∙ sym (same d)
 
   words : (d : ℕ) → d < s .disks → retainedWords s v d ≡ retainedWords s w d
-  words d h = retained j d h (start d h) ∙ sym (retained (g .link) d h (anchor-kept (g .devices) d h))
+  words d h = retained j d h (startOn (v .anchor)) (start d h) ∙ sym (retained (g .link) d h (startOn (w .anchor)) (anchor-kept (g .devices) d h))
 
   pub image-linked : imageOf v ≡ imageOf w
   image-linked =
@@ -55,21 +56,26 @@ module _ {x : ℕ} {home : ℕ → ℕ} {c : Core} {m : Logs} {w v : World} {r :
   scan-linked : (d : ℕ) → d < s .disks → retainedScan s v d ≡ retainedScan s w d
   scan-linked d h =
       let fit = all-left (Fit s) F B (g .fit) in
-      retained-scan j d h (start d h) fit (rw (same d) (flushed-laid g d h)) ∙ sym (retained-scan (g .link) d h (anchor-kept (g .devices) d h) fit (flushed-laid g d h))
+      retained-scan j d h (startOn (v .anchor)) (start d h) fit (rw (same d) (flushed-laid g d h))
+      ∙ sym (retained-scan (g .link) d h (startOn (w .anchor)) (anchor-kept (g .devices) d h) fit (flushed-laid g d h))
 
   restartable-linked : Restartable w → Restartable v
   restartable-linked h =
       record {
-        anchor = lengths .anchor ∙ h .anchor;
-        bounds = rw anchor (h .bounds);
+        image = record {
+          long = lengths .anchor ∙ h .image .long;
+          formatted = rw anchor (h .image .formatted);
+          bounds = rw anchor (h .image .bounds);
+          whole = record {
+            tails =
+                let was = rw (g .devices .sizes) at (h .image .whole .tails) in
+                λ d. rw (sizes, ap (λ (a : List ℕ). startOn a d) anchor) (λ l. rw (tail-linked d l) (was d l));
+            clean =
+                let was = rw (g .devices .sizes) at (h .image .whole .clean) in
+                λ d. rw sizes (λ l. ap ending (scan-linked d l) ∙ was d l);
+          };
+        };
         lengths = rw sizes (lengths-same s lengths (g .devices .lengths));
-        formatted = rw anchor (h .formatted);
-        tails =
-            let was = rw (g .devices .sizes) at (h .tails) in
-            λ d. rw (sizes, ap (λ (a : List ℕ). startOn a d) anchor) (λ l. rw (tail-linked d l) (was d l));
-        clean =
-            let was = rw (g .devices .sizes) at (h .clean) in
-            λ d. rw sizes (λ l. ap ending (scan-linked d l) ∙ was d l);
       }
 
   -- so what one of them keeps, the other keeps

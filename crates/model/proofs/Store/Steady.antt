@@ -6,9 +6,9 @@ use native.Mathlib.Omega.{arith}
 use Rattle.model.specs.Anchor.{sizesOn}
 use Rattle.model.specs.Record.{Record}
 use Rattle.model.specs.World.{World, Action, run}
-use Rattle.model.specs.Causes.{tailOn, retained}
+use Rattle.model.specs.Causes.{tailIn, retainedFrom}
 use Rattle.model.specs.Anchor.{epochOn}
-use Rattle.model.specs.Image.{retainedWords, restarted}
+use Rattle.model.specs.Image.{restarted, wordsFrom}
 use Rattle.model.specs.Reference.{Reference}
 use Rattle.model.specs.History.{Put, recordsOn, Told, also}
 use Rattle.model.proofs.Bounds.{bounded}
@@ -16,28 +16,29 @@ use Rattle.model.proofs.Run.{SameLengths}
 use Rattle.model.proofs.Ledger.Entry.{All}
 use Rattle.model.proofs.Restart.Image.{SameDevices}
 use Rattle.model.proofs.Restart.Aside.{Aside, Steady, devices-steady, steady-image, steady-run}
-use Rattle.model.proofs.Store.View.{Restartable, Kept}
+use Rattle.model.proofs.Checked.{whole-from, Restartable}
+use Rattle.model.proofs.Store.View.{Kept}
 use Rattle.model.proofs.Store.Crash.{stored-same}
 use Rattle.model.proofs.Store.Flush.{lengths-same}
 use Rattle.model.proofs.Store.OneMore.{records-append}
 
 pub steady-restartable : {v w : World} → Steady v w → Restartable w → Restartable v
-unfolding tailOn retained
 steady-restartable {v} {w} k h =
-    let eight = bounded (sizesOn (w .anchor)) (h .bounds) .disks-max in
+    let eight = bounded (sizesOn (w .anchor)) (h .image .bounds) .disks-max in
     record {
-      anchor = k .lengths .anchor ∙ h .anchor;
-      bounds = rw (k .sizes) (h .bounds);
+      image = record {
+        long = k .lengths .anchor ∙ h .image .long;
+        formatted = rw (k .epoch) (h .image .formatted);
+        bounds = rw (k .sizes) (h .image .bounds);
+        whole = rw (k .sizes, k .logs) (whole-from (sizesOn (w .anchor)) (w .logs) (λ d l. k .starts d (omega arith)) (h .image .whole));
+      };
       lengths = rw (k .sizes) (lengths-same (sizesOn (w .anchor)) (k .lengths) (h .lengths));
-      formatted = rw (k .epoch) (h .formatted);
-      tails = λ d. rw (k .sizes) (λ l. rw (k .logs, k .starts d (omega arith)) (h .tails d l));
-      clean = λ d. rw (k .sizes) (λ l. rw (k .logs, k .starts d (omega arith)) (h .clean d l));
     }
 
 pub steady-kept : {puts : Told} {v w : World} {r : Reference} → Steady v w → Kept puts w r → Kept puts v r
-unfolding tailOn retained retainedWords
+unfolding tailIn retainedFrom wordsFrom
 steady-kept {v = v} {w = w} k h =
-    let eight = bounded (sizesOn (w .anchor)) (h .sound .bounds) .disks-max in
+    let eight = bounded (sizesOn (w .anchor)) (h .sound .image .bounds) .disks-max in
     let same = steady-image k eight in
     record {
       sizes = k .sizes ∙ h .sizes;

@@ -13,7 +13,7 @@ use Rattle.model.specs.Sizes.{total, ringOf, ringWord}
 use Rattle.model.specs.World.{World}
 use Rattle.model.specs.Memory.{copyOf, bufferOf}
 use Rattle.model.specs.State.{limit, startOf, keptOf, tailOf, fillOf, endOf, hasUpdate, placeOf, isOpen, switchedTo}
-use Rattle.model.specs.Causes.{whenOpen, tailOn}
+use Rattle.model.specs.Causes.{whenOpen, tailIn}
 use Rattle.model.specs.Checkpoint.{perDisk, newStart}
 use Rattle.model.specs.Transaction.{diskOf}
 use Rattle.model.specs.Reference.{Reference}
@@ -134,7 +134,7 @@ module _ {home : ℕ → ℕ} {puts : Told} {c : Core} {w : World} {r : Referenc
         rw (moved .logs-same) (rw at at (holds-append _ (keptOf (c .logs) d) (k .front) _ (rw (k .words) at (g .safe .link .held d h)) .1))
 
     link : Link (c .sizes) (now .logs) v (pick kept F) []
-    unfolding tailOn bufferOf part on pick
+    unfolding tailIn bufferOf part on pick
     link =
         record {
           held = λ d h. rw (kept-now d h) (held d h);

@@ -8,23 +8,23 @@ use lib.ListN.{length, getD}
 use native.Mathlib.Omega.{arith}
 use native.Mathlib.Decide.{decLt}
 use Rattle.model.specs.declared.Core.{Core}
-use Rattle.model.specs.Sizes.{total, slotsIn, ringOf, sizesInBounds}
+use Rattle.model.specs.Sizes.{total, slotsIn, ringOf}
 use Rattle.model.specs.Anchor.{anchorWords, epochOn, sizesOn, startOn, backupAt}
 use Rattle.model.specs.World.{World}
 use Rattle.model.specs.Memory.{ownerOf, copyOf, lengthsRight}
 use Rattle.model.specs.State.{limit, startOf, keptOf, endOf, isOpen, placeOf, firstAt, reservedAt, hasUpdate}
-use Rattle.model.specs.Causes.{whenOpen, whenServing, tailOn, retained}
+use Rattle.model.specs.Causes.{whenOpen, whenServing}
 use Rattle.model.specs.Transaction.{diskOf}
 use Rattle.model.specs.Image.{imageOf, restarted}
 use Rattle.model.specs.Reference.{Reference, WriteSet, writesOf, writesSlot, wordsIn, hasSet}
 use Rattle.model.specs.Record.{Record, encodeAll}
-use Rattle.model.specs.Scan.{end, placed, updatesIn}
+use Rattle.model.specs.Scan.{placed, updatesIn}
 use Rattle.model.specs.Machine.{Run}
 use Rattle.model.specs.History.{Told, recordsOn}
 use Rattle.model.specs.Promise.{Stored}
-use Rattle.model.proofs.Reading.{ending}
 use Rattle.model.proofs.Bounds.{Bounded}
 use Rattle.model.proofs.Growth.{kept-start}
+use Rattle.model.proofs.Checked.{Restartable}
 use Rattle.model.proofs.Geometry.{pageOf, slotStart}
 use Rattle.model.proofs.Slots.{patchOf, Fits, Shaped}
 use Rattle.model.proofs.WriteSets.{Distinct}
@@ -36,19 +36,6 @@ use Rattle.model.proofs.Ledger.Good.{Good}
 use Rattle.model.proofs.Link.Words.{Fit, Arrays, Link}
 use Rattle.model.proofs.Booleans.{true-false}
 use Rattle.model.proofs.Ledger.Positions.{laid-append}
-
--- A restart finds nothing to refuse, its number aside: the slices have the anchor's lengths, and each log is well formed from its
--- start to its tail.
-pub record Restartable (w : World) : Type 0 where
-  pub anchor : length (w .anchor) ≡ anchorWords
-  pub bounds : sizesInBounds (sizesOn (w .anchor)) ≡ true
-  pub lengths : lengthsRight (sizesOn (w .anchor)) w ≡ true
-  pub formatted : 1 ≤ epochOn (w .anchor)
-  pub tails : (d : ℕ) → d < sizesOn (w .anchor) .disks
-      → (startOn (w .anchor) d ≤ tailOn (sizesOn (w .anchor)) w d)
-      × (tailOn (sizesOn (w .anchor)) w d ≤ startOn (w .anchor) d + ringOf (sizesOn (w .anchor)) d)
-      × (tailOn (sizesOn (w .anchor)) w d ≤ limit)
-  pub clean : (d : ℕ) → d < sizesOn (w .anchor) .disks → ending (retained (sizesOn (w .anchor)) w d) ≡ end
 
 -- The devices keep what a restart needs: their image restarts to the committed contents, and its logs are of what the calls put.
 pub record Kept (puts : Told) (w : World) (r : Reference) : Type 0 where

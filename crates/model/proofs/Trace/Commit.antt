@@ -15,7 +15,7 @@ use Rattle.model.specs.Sizes.{tailWord}
 use Rattle.model.specs.World.{World, Action, store, write, anchor, backups, logs, pages, work, cost, act, perform, covered, run, finishes}
 use Rattle.model.specs.State.{endOf}
 use Rattle.model.specs.Refusal.{Result, verdict, accepted}
-use Rattle.model.specs.Causes.{whenServing, lengthsWrong, tailOn}
+use Rattle.model.specs.Causes.{whenServing, lengthsWrong, tailOn, tailIn}
 use Rattle.model.specs.Transaction.{diskOf, commitRows, commitTask}
 use Rattle.model.specs.Call.{commit}
 use Rattle.model.specs.Reference.{taken, interrupted, outcomeOf}
@@ -63,7 +63,7 @@ module _ (s : Sizes) (d p : ℕ) where
           within (no h) = rw (set-out l i x (omega arith)) low
 
   act-low : (a : Action) (w : World) → Uncovered a → Low w → Low (act a w)
-  unfolding act tailOn
+  unfolding act tailIn
   act-low (store logs i x) w u low = set-low (w .logs) i x u low
   act-low (store anchor i x) w u low = low
   act-low (store backups i x) w u low = low
@@ -85,7 +85,7 @@ module _ (c : Core) (w : World) (t : ℕ) (k : CommitPoint c w t) where
 
   whole-tail : tailWord (c .sizes) (diskOf c t) < length (w .logs)
       → here (perform (commitTask c w t .actions) w) ≡ endOf (c .logs) (diskOf c t) + 2
-  unfolding tailOn perform
+  unfolding tailIn perform
   whole-tail fits =
       rw (k .last, perform-append) (tail-here (c .sizes) (diskOf c t) _ (perform (k .before) w) (omega (arith, perform-lengths (k .before) w .logs)))
 
