@@ -12,7 +12,7 @@ use Rattle.model.specs.declared.Core.{Core}
 use Rattle.model.specs.declared.Logs.{Logs}
 use Rattle.model.specs.declared.Table.{Table}
 use Rattle.model.specs.Sizes.{ringOf}
-use Rattle.model.specs.State.{limit, startOf, tailOf, fillOf, endOf, reservedOn}
+use Rattle.model.specs.State.{limit, startOf, keptOf, tailOf, fillOf, endOf, reservedOn}
 use Rattle.model.specs.Room.{hasRoom, loadOf, better, idlestBelow}
 use Rattle.table.specs.Parts.{cap, tableOf, coreOf, roomFor}
 use Rattle.table.proofs.Places.{reserved-parts}
@@ -57,7 +57,7 @@ pub room-computed : (disks ring : ℕ) (logs : Logs) (table : Table) (need d sum
     → sum ≡ min cap (reservedOn (tableOf (table .numbers) (table .disks) (table .reserved)) d)
     → r ≡ roomFor (getD (logs .starts) d 0) (getD (logs .tails) d 0 + getD (logs .fills) d 0) sum ring need
     → r ≡ hasRoom (coreOf disks ring logs table) need d
-unfolding hasRoom roomFor ringOf startOf tailOf fillOf endOf
+unfolding hasRoom roomFor ringOf keptOf startOf tailOf fillOf endOf
 room-computed disks ring logs table need d sum r e h =
     rw (h, e, reserved-parts table d)
     (room-capped (getD (logs .starts) d 0) (getD (logs .tails) d 0 + getD (logs .fills) d 0) (reservedOn table d) ring need)

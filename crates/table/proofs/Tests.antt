@@ -12,7 +12,7 @@ use Rattle.model.specs.declared.Logs.{Logs}
 use Rattle.model.specs.declared.Table.{Table}
 use Rattle.model.specs.Below.{within, allBelow}
 use Rattle.model.specs.Sizes.{ringOf, sizesInBounds}
-use Rattle.model.specs.State.{limit, places, startOf, tailOf, fillOf, endOf, numberAt, diskAtPlace, firstAt, reservedAt, hasUpdate, reservedOn, diskSound, placeSound, servingSound, checkpointSound, replaySound}
+use Rattle.model.specs.State.{limit, places, startOf, keptOf, tailOf, fillOf, endOf, numberAt, diskAtPlace, firstAt, reservedAt, hasUpdate, reservedOn, diskSound, placeSound, servingSound, checkpointSound, replaySound}
 use Rattle.model.proofs.Below.{all-cong}
 use Rattle.table.specs.Parts.{coreOf, roomFor, logSound, entrySound, endWithin, positionWithin}
 use Rattle.table.proofs.Places.{reserved-parts}
@@ -39,7 +39,7 @@ within-buffer start tail fill p low past = rw (le-leb start p low) (go (leb (p -
 -- a disk is sound when its log is, by the sums of the table
 module _ (c : Core) (sums : List ℕ) (all : SumsOf sums (c .table)) where
   disk-computed : (d : ℕ) → d < 8 → diskSound c d ≡ logSound (c .sizes .ring) (c .logs) sums d
-  unfolding diskSound logSound ringOf roomFor
+  unfolding diskSound logSound ringOf roomFor keptOf
   disk-computed d h =
       let start : ℕ = startOf (c .logs) d in
       let end : ℕ = endOf (c .logs) d in
