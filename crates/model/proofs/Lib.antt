@@ -53,5 +53,6 @@ pub mod Positions
 pub mod Blunders
 pub mod Idle
 pub mod Example
+pub mod AbortReads
 -- The promises for traces of the code's own calls.
 pub mod Trace
