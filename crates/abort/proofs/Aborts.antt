@@ -1,6 +1,6 @@
 -- What the checks leave an abort to rely on: its log can be read, and there is room for what takes its updates back.
 use mathlib.Core.Path.{_≡_, refl, sym, ap, _∙_}
-use mathlib.Core.List.{List}
+use mathlib.Core.List.{List, []}
 use mathlib.Core.Bool.{Bool, true, false, cond}
 use Prim.Native.Nat.{ℕ, _-_, _≤_, _<_}
 use native.Mathlib.Omega.{arith}
@@ -11,26 +11,23 @@ use Rattle.model.specs.declared.Core.{Core}
 use Rattle.model.specs.declared.Fault.{Fault}
 use Rattle.model.specs.declared.Fault.the-variants.{NoFault, BadRecord}
 use Rattle.model.specs.Sizes.{total}
-use Rattle.model.specs.Scan.{Scan, end, scan, faultIn, updatesIn, updateWords}
-use Rattle.model.specs.World.{World}
-use Rattle.model.specs.State.{limit, startOf, endOf, placeOf, firstAt, reservedAt, isOpen, hasUpdate, servingSound}
+use Rattle.model.specs.Scan.{Scan, end, ringThenBuffer, faultIn, updatesIn, updateWords}
+use Rattle.model.specs.World.{World, worldOf}
+use Rattle.model.specs.State.{limit, startOf, tailOf, endOf, placeOf, firstAt, reservedAt, isOpen, hasUpdate, servingSound}
 use Rattle.model.specs.Transaction.{diskOf}
 use Rattle.model.specs.Abort.{abortScan, updatesLeft, abortFault}
-use Rattle.model.proofs.Scan.{scan-end}
-use Rattle.model.proofs.Reading.{scan-rises}
-use Rattle.model.proofs.Faults.{fault-rest}
+use Rattle.model.proofs.Reading.{ending}
+use Rattle.model.proofs.Faults.{fault-end, fault-own, fault-rest}
+use Rattle.model.proofs.RingThenBuffer.{sound-as-one, parts-end}
 use Rattle.model.proofs.Growth.{tail-end}
 use Rattle.model.proofs.Updates.{abort-words}
 use Rattle.model.proofs.Store.Rows.{sizes-sound, disk-sound}
 use Rattle.model.proofs.Store.Accepted.{small-buffers, open-entry, open-below, own-room, disks-max}
-use Rattle.log.specs.declared.newest.Newest.{Newest}
-use Rattle.log.specs.declared.newest.Newest.the-variants.{Absent, Broken}
-use Rattle.log.specs.Reading.{newestIn}
-use Rattle.log.proofs.NewestBelow.{newest-fault, newest-no-fault}
 use Rattle.frame.specs.Home.{Serves}
 use Rattle.abort.specs.declared.scope.Scope.{Scope}
-use Rattle.abort.specs.Undo.{Serving, reader, logFrom, Undoable}
+use Rattle.abort.specs.Undo.{Serving, reader, logFrom, partsFrom, Undoable}
 use Rattle.abort.specs.Scope.{scopeOf}
+use Rattle.abort.proofs.Search.{sound-end}
 
 -- its disk, and what `scope_of` requires
 module _ (c : Core) (number : ℕ) {logs work : List ℕ} (serves : Serves c logs work) (opened : isOpen (c .table) number ≡ true) where
@@ -57,20 +54,28 @@ module _ (c : Core) (number : ℕ) {logs work : List ℕ} (serves : Serves c log
     unfolding scopeOf
     scope-serves = rw is disk-serves
 
-    pub scope-end : at .end ≡ endOf (c .logs) (at .disk)
-    unfolding scopeOf
-    scope-end = rw is refl
+-- the anchor and the backups are not read
+pub fault-apart : (c : Core) (number : ℕ) (anchor pages backups logs work : List ℕ)
+    → abortFault c (worldOf [] pages [] logs work) number ≡ NoFault → abortFault c (worldOf anchor pages backups logs work) number ≡ NoFault
+unfolding abortFault updatesLeft abortScan
+fault-apart c number anchor pages backups logs work none = none
 
 -- the log from there on
 module _ (c : Core) (number : ℕ) (opened : isOpen (c .table) number ≡ true) {at : Scope} (is : at ≡ scopeOf c number) (w : World) where
   abbrev sc : Scan
   sc = logFrom (c .sizes) (c .logs) (at .disk) (w .logs) (w .work) (at .from)
 
-  -- is what an abort reads
-  pub scope-reads : abortScan c w number ≡ sc
-  unfolding abortScan logFrom scopeOf
+  abbrev parts : Scan
+  parts = partsFrom (c .sizes) (c .logs) (at .disk) (w .logs) (w .work) (at .from)
+
+  -- up to the tail and then in the buffer it is what an abort reads
+  scope-reads : abortScan c w number ≡ parts
+  unfolding abortScan partsFrom scopeOf
   scope-reads = rw (is, opened) (go (hasUpdate (c .table) (placeOf (c .table) number)))
     where
+      tail : ℕ
+      tail = tailOf (c .logs) (diskOf c number)
+
       stop : ℕ
       stop = endOf (c .logs) (diskOf c number)
 
@@ -80,40 +85,41 @@ module _ (c : Core) (number : ℕ) (opened : isOpen (c .table) number ≡ true) 
       first : ℕ
       first = firstAt (c .table) (placeOf (c .table) number)
 
-      go : (b : Bool) → cond b (scan (c .sizes) read stop first) end ≡ scan (c .sizes) read stop (cond b first stop)
+      go : (b : Bool) → cond b (ringThenBuffer (c .sizes) read tail stop first) end ≡ ringThenBuffer (c .sizes) read tail stop (cond b first stop)
       go true = refl
-      go false = sym (scan-end (c .sizes) read stop stop (omega arith))
+      go false = sym (parts-end (c .sizes) read tail stop (tail-end (c .logs) (diskOf c number)) stop (omega arith))
 
-  pub scope-updates : updatesLeft c w number ≡ updatesIn number sc
-  unfolding updatesLeft
-  scope-updates = ap (updatesIn number) scope-reads
+  -- with no malformed record it is the whole as one log
+  as-one : ending parts ≡ end → parts ≡ sc
+  unfolding partsFrom logFrom
+  as-one sound =
+      sound-as-one (c .sizes) (reader (c .sizes) (c .logs) (at .disk) (w .logs) (w .work)) (tailOf (c .logs) (at .disk)) (endOf (c .logs) (at .disk))
+      (tail-end (c .logs) (at .disk)) (at .from) sound
 
   -- the fault that an abort answers
   abbrev long : Fault
-  long = cond (ltb (at .words) (updateWords (updatesIn number sc))) (BadRecord (at .disk) (at .first)) NoFault
+  long = cond (ltb (at .words) (updateWords (updatesIn number parts))) (BadRecord (at .disk) (at .first)) NoFault
 
-  fault-is : abortFault c w number ≡ faultIn (at .disk) sc long
-  unfolding abortFault scopeOf
-  fault-is = rw (scope-updates, scope-reads) (rw is refl)
+  fault-is : abortFault c w number ≡ faultIn (at .disk) parts long
+  unfolding abortFault updatesLeft scopeOf
+  fault-is = rw scope-reads (rw is refl)
 
-  module _ {n : Newest} (e : n ≡ newestIn number (at .end) Absent sc) where
-    pub fault-broken : (q : ℕ) → n ≡ Broken q → BadRecord (at .disk) q ≡ abortFault c w number
-    unfolding logFrom
-    fault-broken q b =
-        sym (fault-is ∙ newest-fault number (at .end) (at .from) sc (scan-rises (c .sizes) _ _ (at .from)) (at .disk) long q (sym e ∙ b))
+  module _ {malformed : Fault} (e : malformed ≡ faultIn (at .disk) parts NoFault) where
+    pub fault-malformed : (d q : ℕ) → malformed ≡ BadRecord d q → BadRecord d q ≡ abortFault c w number
+    fault-malformed d q b = sym (fault-is ∙ fault-own (at .disk) parts long (sym e ∙ b))
 
-    module _ (not-broken : (q : ℕ) → n ≡ Broken q → ⊥) (words : ℕ) (count : words ≡ updateWords (updatesIn number sc)) where
-      clean : faultIn (at .disk) sc long ≡ long
-      unfolding logFrom scopeOf
-      clean =
-          newest-no-fault (c .sizes) (reader (c .sizes) (c .logs) (at .disk) (w .logs) (w .work)) (endOf (c .logs) (at .disk)) number (at .from) (at .disk) long
-          (λ q b. not-broken q (e ∙ ap (λ (x : ℕ). newestIn number x Absent sc) (rw is refl) ∙ b))
+    module _ (none : malformed ≡ NoFault) (words : ℕ) (count : words ≡ updateWords (updatesIn number sc)) where
+      sound : ending parts ≡ end
+      sound = sound-end (at .disk) parts (sym e ∙ none)
+
+      clean : abortFault c w number ≡ cond (ltb (at .words) words) (BadRecord (at .disk) (at .first)) NoFault
+      clean = fault-is ∙ fault-end (at .disk) parts long sound ∙ rw (as-one sound, ← count) refl
 
       pub fault-long : at .words < words → BadRecord (at .disk) (at .first) ≡ abortFault c w number
-      fault-long more = sym (fault-is ∙ clean ∙ rw (← count, lt-ltb (at .words) words more) refl)
+      fault-long more = sym (clean ∙ rw (lt-ltb (at .words) words more) refl)
 
       pub fault-none : words ≤ at .words → NoFault ≡ abortFault c w number
-      fault-none few = sym (fault-is ∙ clean ∙ rw (← count, le-ltb (at .words) words few) refl)
+      fault-none few = sym (clean ∙ rw (le-ltb (at .words) words few) refl)
 
   pub scope-disk : at .disk ≡ diskOf c number
   unfolding scopeOf
@@ -130,18 +136,25 @@ module _ (c : Core) (number : ℕ) (opened : isOpen (c .table) number ≡ true) 
       go false e =
           omega (arith, disk-sound c (diskOf c number) state (open-below c number state opened) .ordered, tail-end (c .logs) (diskOf c number))
 
-  -- where there is none, its updates can be taken back
-  pub scope-undoable : Serves c (w .logs) (w .work) → length (w .pages) ≡ total (c .sizes) → abortFault c w number ≡ NoFault
-      → Undoable (c .sizes) (c .logs) (at .disk) number (at .from) (w .pages) (w .logs) (w .work)
-  scope-undoable serves right sound =
-      let few = abort-words c w number (rw sound refl) in
-      let mine = open-entry c number (serves .state) opened in
-      let room = own-room c number (serves .state) opened (updateWords (updatesLeft c w number)) (omega (arith, mine .sound .reserved)) in
-      let none = fault-rest (at .disk) sc long (sym fault-is ∙ sound) in
-      record {
-        serving = scope-serves c number serves opened is;
-        page-words = right;
-        readable = rw none at (sym fault-is ∙ sound);
-        ring = rw (← scope-updates, scope-disk) (omega (arith, room .0, behind-start (serves .state)));
-        in-limit = rw (← scope-updates, scope-disk) (room .1);
-      }
+  -- where there is none, its updates are those of the log as one, and can be taken back
+  module _ (none : abortFault c w number ≡ NoFault) where
+    whole : ending parts ≡ end
+    whole = sound-end (at .disk) parts (rw (fault-rest (at .disk) parts long (sym fault-is ∙ none)) at (sym fault-is ∙ none))
+
+    pub scope-updates : updatesLeft c w number ≡ updatesIn number sc
+    unfolding updatesLeft
+    scope-updates = ap (updatesIn number) (scope-reads ∙ as-one whole)
+
+    pub scope-undoable : Serves c (w .logs) (w .work) → length (w .pages) ≡ total (c .sizes)
+        → Undoable (c .sizes) (c .logs) (at .disk) number (at .from) (w .pages) (w .logs) (w .work)
+    scope-undoable serves right =
+        let few = abort-words c w number (rw none refl) in
+        let mine = open-entry c number (serves .state) opened in
+        let room = own-room c number (serves .state) opened (updateWords (updatesLeft c w number)) (omega (arith, mine .sound .reserved)) in
+        record {
+          serving = scope-serves c number serves opened is;
+          page-words = right;
+          readable = fault-end (at .disk) sc NoFault (rw (as-one whole) at whole);
+          ring = rw (← scope-updates, scope-disk) (omega (arith, room .0, behind-start (serves .state)));
+          in-limit = rw (← scope-updates, scope-disk) (room .1);
+        }

@@ -99,13 +99,20 @@ module _ {s : Sizes} {l : Logs} {disk : ℕ} {logs work : List ℕ} (at : Servin
     unfolding windowOf
     lent-reader = rw (buffered, e) refl
 
-    pub lent-readable : Readable s logs disk (r .tail) (take (r .stop - r .start) (drop (r .start) work)) (r .end)
+    pub lent-ordered : r .tail ≤ r .end
+    unfolding windowOf endOf
+    lent-ordered = rw e (omega arith)
+
+    pub lent-readable-to : (to : ℕ) → to ≤ r .end → Readable s logs disk (r .tail) (take (r .stop - r .start) (drop (r .start) work)) to
     unfolding windowOf endOf bufferAt
-    lent-readable =
+    lent-readable-to to h =
+        let low : to ≤ tailOf l disk + fillOf l disk = rw e at h in
         rw (buffered, e)
-        (readable s bounds logs disk (tailOf l disk) (bufferOf s work disk (fillOf l disk)) (tailOf l disk + fillOf l disk) (at .log-words)
-        (at .disk-below)
+        (readable s bounds logs disk (tailOf l disk) (bufferOf s work disk (fillOf l disk)) to (at .log-words) (at .disk-below)
         (omega (arith, length-buffer s work disk (fillOf l disk) (omega (arith, small .buffer, fill-small)))) (omega (arith, at .end-small)))
+
+    pub lent-readable : Readable s logs disk (r .tail) (take (r .stop - r .start) (drop (r .start) work)) (r .end)
+    lent-readable = lent-readable-to (r .end) (omega arith)
 
     pub lent : (anchor pages backups : List ℕ)
         → Lent s l (worldOf anchor pages backups logs work) disk (s .ring) (r .start) (r .tail) (r .fill) logs work

@@ -1,5 +1,6 @@
 -- A disk of a serving state, as the functions of `log` are lent it; words taken out of its log.
 pub mod Disks
+pub mod Malformed
 pub mod Spans
 -- One update taken back.
 pub mod Compensated

@@ -8,12 +8,13 @@ use lib.ListN.{length}
 use Rattle.model.specs.declared.Sizes.{Sizes}
 use Rattle.model.specs.declared.Logs.{Logs}
 use Rattle.model.specs.declared.Core.{Core}
+use Rattle.model.specs.declared.Fault.the-variants.{NoFault}
 use Rattle.model.specs.Record.{close, encode, abortKind}
 use Rattle.model.specs.Scan.{Update, updatesIn, updateWords}
 use Rattle.model.specs.World.{World, perform}
 use Rattle.model.specs.State.{endOf, isOpen, withLog}
 use Rattle.model.specs.Append.{Appended, append}
-use Rattle.model.specs.Abort.{undoAll, abortTask}
+use Rattle.model.specs.Abort.{abortFault, undoAll, abortTask}
 use Rattle.model.proofs.Booleans.{true-false}
 use Rattle.model.proofs.Members.{Every}
 use Rattle.model.proofs.Growth.{SizedLogs, Longer}
@@ -51,7 +52,8 @@ module _ (s : Sizes) (l : Logs) (w : World) (number disk from : ℕ) (ok : Undoa
         end-small = omega (arith, grown .end-longer, ok .in-limit);
       }
 
-module _ (c : Core) (number : ℕ) (opened : isOpen (c .table) number ≡ true) {at : Scope} (is : at ≡ scopeOf c number) (w : World) where
+module _ (c : Core) (number : ℕ) (opened : isOpen (c .table) number ≡ true) {at : Scope} (is : at ≡ scopeOf c number) (w : World)
+    (none : abortFault c w number ≡ NoFault) where
   abbrev undone : Appended
   undone = undoAll (c .sizes) (c .logs) w number (at .disk) (updatesIn number (logFrom (c .sizes) (c .logs) (at .disk) (w .logs) (w .work) (at .from)))
 
@@ -64,7 +66,7 @@ module _ (c : Core) (number : ℕ) (opened : isOpen (c .table) number ≡ true) 
         logs = closed (undone .logs) (perform (undone .actions) w .work) .logs;
       }
   unfolding rolledBack abortTask withLog
-  rolled-is = rw (← scope-updates c number opened is w, scope-disk c number opened is w) refl
+  rolled-is = rw (← scope-updates c number opened is w none, scope-disk c number opened is w) refl
 
   module _ {budget rest : ℕ} {v : World} {r : Progress} (did : Did budget rest undone w v r) where
     pub rolled-cut : r .finished ≡ false → Did budget rest (rolledBack c w number) w v r

@@ -14,7 +14,6 @@ scopeOf c number =
     record {
       disk = diskOf c number;
       from = cond (hasUpdate (c .table) (placeOf (c .table) number)) (firstAt (c .table) (placeOf (c .table) number)) (endOf (c .logs) (diskOf c number));
-      end = endOf (c .logs) (diskOf c number);
       first = firstAt (c .table) (placeOf (c .table) number);
       words = reservedAt (c .table) (placeOf (c .table) number) - 2;
     }

@@ -9,7 +9,7 @@ use Rattle.model.specs.declared.Logs.{Logs}
 use Rattle.model.specs.declared.Fault.the-variants.{NoFault}
 use Rattle.model.specs.Sizes.{slotsIn, widthIn, ringOf, total, logWords, sizesInBounds}
 use Rattle.model.specs.Decode.{readLog, span}
-use Rattle.model.specs.Scan.{Scan, scan, faultIn, Update, updatesIn, updateWords}
+use Rattle.model.specs.Scan.{Scan, scan, ringThenBuffer, faultIn, Update, updatesIn, updateWords}
 use Rattle.model.specs.World.{World}
 use Rattle.model.specs.Memory.{bufferAt, workWords, bufferOf}
 use Rattle.model.specs.State.{limit, tailOf, fillOf, endOf}
@@ -57,6 +57,10 @@ reader s l disk logs work = readLog s logs disk (tailOf l disk) (bufferOf s work
 -- its records from a position on
 unfoldable pub logFrom : Sizes → Logs → ℕ → List ℕ → List ℕ → ℕ → Scan
 logFrom s l disk logs work from = scan s (reader s l disk logs work) (endOf l disk) from
+
+-- its records from a position on, up to the tail and then in the buffer
+unfoldable pub partsFrom : Sizes → Logs → ℕ → List ℕ → List ℕ → ℕ → Scan
+partsFrom s l disk logs work from = ringThenBuffer s (reader s l disk logs work) (tailOf l disk) (endOf l disk) from
 
 -- the update whose record stands at a site
 unfoldable pub updateAt : Sizes → Logs → ℕ → List ℕ → List ℕ → Site → Update

@@ -1,8 +1,7 @@
 // No. 7: what an abort finds wrong in the log that it reads.
-use crate::reading::newest_before;
+use crate::reading::malformed_from;
 use crate::reading::words_from;
 use crate::scope::scope_of;
-use log::newest::Newest;
 use model::Core;
 use model::Fault;
 ghost use mathlib.Core.Path.{_≡_};
@@ -22,12 +21,9 @@ pub fn fault_of(core: Core, number: u64, logs: &[u64], work: &[u64]) -> Fault
     let at = scope_of(core, number);
     let sizes = core.sizes;
     let state = core.logs;
-    let newest = newest_before(sizes, state, at.disk, number, at.from, at.end, logs, work);
-    if let Newest::Broken { position } = newest {
-        return Fault::BadRecord {
-            disk: at.disk,
-            position,
-        };
+    let malformed = malformed_from(sizes, state, at.disk, number, at.from, logs, work);
+    if let Fault::BadRecord { disk, position } = malformed {
+        return Fault::BadRecord { disk, position };
     }
     let words = words_from(sizes, state, at.disk, number, at.from, logs, work);
     if at.words < words {

@@ -8,11 +8,10 @@ ghost use Rattle.model.specs.State.{limit, endOf, placeOf, reservedAt};
 ghost use Rattle.model.specs.Transaction.{diskOf};
 ghost use Rattle.abort.specs.Scope.{scopeOf};
 
-// The disk, where the log is read from and where it ends, the first position, and how many words of updates are reserved.
+// The disk, where the log is read from, the first position, and how many words of updates are reserved.
 pub struct Scope {
     pub disk: u64,
     pub from: u64,
-    pub end: u64,
     pub first: u64,
     pub words: u64,
 }
@@ -35,7 +34,6 @@ pub fn scope_of(core: Core, number: u64) -> Scope
         return Scope {
             disk,
             from: first,
-            end,
             first,
             words,
         };
@@ -43,7 +41,6 @@ pub fn scope_of(core: Core, number: u64) -> Scope
     Scope {
         disk,
         from: end,
-        end,
         first,
         words,
     }

@@ -29,6 +29,13 @@ fault-end disk end rest e = refl
 fault-end disk (bad q) rest e = let z : _≡_ {A = ℕ} 0 1 = cc in absurd (omega arith)
 fault-end disk (item q r more) rest e = fault-end disk more rest e
 
+-- a fault of the scan itself is the fault whatever follows
+pub fault-own : (disk : ℕ) (sc : Scan) (rest : Fault) {d p : ℕ} → faultIn disk sc NoFault ≡ BadRecord d p → faultIn disk sc rest ≡ BadRecord d p
+unfolding faultIn
+fault-own disk end rest e = let z : _≡_ {A = ℕ} 0 1 = cc in absurd (omega arith)
+fault-own disk (bad q) rest e = e
+fault-own disk (item q r more) rest e = fault-own disk more rest e
+
 -- Of n disks from `from` on, the lowest whose log, read from its start, has a malformed record, and the first one there.
 pub record LowestFault (s : Sizes) (start : ℕ → ℕ) (logs : List ℕ) (n from disk p : ℕ) : Type 0 where
   pub above : from ≤ disk

@@ -27,6 +27,12 @@ then-fault disk end b rest = refl
 then-fault disk (bad p) b rest = refl
 then-fault disk (item p r more) b rest = then-fault disk more b rest
 
+then-ending : (a b : Scan) → ending (andThen a b) ≡ end → ending a ≡ end
+unfolding andThen ending
+then-ending end b h = refl
+then-ending (bad p) b h = h
+then-ending (item p r more) b h = then-ending more b h
+
 pub then-items : (P : Item → Type 0) (a b : Scan) → Every P (items a) → Every P (items b) → Every P (items (andThen a b))
 unfolding andThen items
 then-items P end b h k = k
@@ -57,7 +63,7 @@ module _ (s : Sizes) (read : ℕ → ℕ) (tail stop : ℕ) (within : tail ≤ s
       let next : ℕ = p + wordsOf (kindField w) (widthField w) in
       further (ltb 3 (kindField w)) (ltb tail next) (ltb stop next) _ formed (λ e. le-ltb stop next (omega (arith, ltb-false tail next e)))
 
-  -- Up to the tail, then from the tail on: where the first part has no malformed record, the log is read as one.
+  -- Where no record that begins before the tail is malformed, or none at all, the log is read as one.
   through : (n p : ℕ) → tail - p ≤ n → p ≤ tail → ending (scan s read tail p) ≡ end
       → andThen (scan s read tail p) (scan s read stop tail) ≡ scan s read stop p
   unfolding andThen ending
@@ -105,6 +111,14 @@ module _ (s : Sizes) (read : ℕ → ℕ) (tail stop : ℕ) (within : tail ≤ s
       go (no k) =
           let from : max tail p ≡ p = omega arith in
           rw (scan-end s read tail p (omega arith), from) refl
+
+  pub sound-as-one : (p : ℕ) → ending (ringThenBuffer s read tail stop p) ≡ end → ringThenBuffer s read tail stop p ≡ scan s read stop p
+  unfolding ringThenBuffer
+  sound-as-one p sound = read-as-one p (then-ending (scan s read tail p) (scan s read stop (max tail p)) sound)
+
+  pub parts-end : (p : ℕ) → stop ≤ p → ringThenBuffer s read tail stop p ≡ end
+  unfolding ending
+  parts-end p past = read-as-one p (ap ending (scan-end s read tail p (omega arith))) ∙ scan-end s read stop p past
 
 -- The positions rise, and what holds of every record that may be read holds of these.
 module _ (s : Sizes) (read : ℕ → ℕ) (tail stop p : ℕ) where

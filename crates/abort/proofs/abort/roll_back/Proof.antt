@@ -3,7 +3,7 @@ use mathlib.Core.List.{[]}
 use borrow.Author.Tests.{not-true, not-false}
 use Rattle.model.specs.World.{worldOf}
 use Rattle.model.proofs.Growth.{SizedLogs}
-use Rattle.abort.proofs.Aborts.{scoped, scoped-disk, scope-undoable}
+use Rattle.abort.proofs.Aborts.{scoped, scoped-disk, fault-apart, scope-undoable}
 use Rattle.abort.proofs.Rolled.{undone-serves, rolled-cut, rolled-whole}
 use borrow.Author.Needs.{needs}
 use Rattle.abort.proofs.abort.roll_back.Statement.{statement}
@@ -23,7 +23,7 @@ undo-all-requires c κs =
     let args = c .before .before .before .before .before .before .before .before .before .before .args in
     let pre = c .before .before .before .before .before .before .before .before .before .before .pre in
     let scope-of = c .before .before .before .before .before .before .scope-of in
-    scope-undoable _ _ (pre .0 .1) (scope-of .ensures) (worldOf [] (args .pages .now) [] (args .logs .now) (args .work .now)) (pre .0 .0) (pre .0 .2) (pre .1)
+    scope-undoable _ _ (pre .0 .1) (scope-of .ensures) (worldOf [] (args .pages .now) [] (args .logs .now) (args .work .now)) (pre .1) (pre .0 .0) (pre .0 .2)
 
 same-length : tie.Need-same-length
 same-length c = search needs
@@ -39,7 +39,7 @@ returns c =
     let pre = c .before .before .before .before .before .before .before .before .before .before .before .before .before .before .before .before .before .before .before .pre in
     let scope-of = c .before .before .before .before .before .before .before .before .before .before .before .before .before .before .before .scope-of in
     let undo-all = c .before .before .before .before .before .before .before .before .undo-all in
-    λ anchor backups. rolled-cut _ _ (pre .0 .1) (scope-of .ensures) _ (undo-all .ensures anchor backups) (not-true _ (c .if1 .taken))
+    λ anchor backups. rolled-cut _ _ (pre .0 .1) (scope-of .ensures) _ (fault-apart _ _ anchor _ backups _ _ (pre .1)) (undo-all .ensures anchor backups) (not-true _ (c .if1 .taken))
 
 log-close-requires : tie.Need-log-close-requires
 log-close-requires c κs =
@@ -47,7 +47,7 @@ log-close-requires c κs =
     let scope-of = c .before .before .before .before .before .before .before .before .before .before .before .before .before .before .before .before .before .before .before .scope-of in
     let undo-all = c .before .before .before .before .before .before .before .before .before .before .before .before .undo-all in
     let w = worldOf [] (start .args .pages .now) [] (start .args .logs .now) (start .args .work .now) in
-    let ok = scope-undoable _ _ (start .pre .0 .1) (scope-of .ensures) w (start .pre .0 .0) (start .pre .0 .2) (start .pre .1) in
+    let ok = scope-undoable _ _ (start .pre .0 .1) (scope-of .ensures) w (start .pre .1) (start .pre .0 .0) (start .pre .0 .2) in
     undone-serves _ _ w _ _ _ ok (sized start) (undo-all .ensures [] []) (not-false _ (c .before .before .before .before .if1 .left))
 
 same-length-4 : tie.Need-same-length-4
@@ -67,7 +67,7 @@ returns-2 c =
     let test1 = c .before .before .before .before .before .before .before .before .before .if1 in
     let log-close = c .before .before .before .before .log-close in
     λ anchor backups.
-    rolled-whole _ _ (pre .0 .1) (scope-of .ensures) _ (undo-all .ensures anchor backups) (not-false _ (test1 .left))
+    rolled-whole _ _ (pre .0 .1) (scope-of .ensures) _ (fault-apart _ _ anchor _ backups _ _ (pre .1)) (undo-all .ensures anchor backups) (not-false _ (test1 .left))
     (log-close .ensures anchor _ backups)
 
 pub roll-back-spec : {M : Type 1} → statement M
