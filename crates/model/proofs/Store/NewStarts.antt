@@ -29,8 +29,8 @@ use Rattle.model.proofs.Ledger.Sums.{all-map, all-zip}
 use Rattle.model.proofs.Ledger.Lists.{all-left, pick-swap, pick-whole, some-pick, words-none, length-words}
 use Rattle.model.proofs.Ledger.Picks.{all-pick, pick-all}
 use Rattle.model.proofs.RoundTrip.{encode-append, updates-append}
-use Rattle.model.proofs.Ledger.Positions.{size-ge, laid-append, laid-from, boundary-from}
-use Rattle.model.proofs.Ledger.Ordered.{keptFrom}
+use Rattle.model.proofs.Ledger.Positions.{size-ge, laid-append, laid-from, boundary-more, boundary-from}
+use Rattle.model.proofs.Ledger.Ordered.{keptFrom, on-switch}
 use Rattle.model.proofs.Ledger.Checkpoint.{MaySwitch}
 use Rattle.model.proofs.Ledger.Switch.{Placed, switch-old, switch-closed, switch-last}
 use Rattle.model.proofs.Store.View.{view, Own, wordsFor, Since, Serving, before}
@@ -57,14 +57,13 @@ boundary-kept p s q (r ∷ l) h b k m = go (eqb s p) refl b (boundary-kept (p + 
         let two = size-ge r in
         rw (lt-leb s (r .position) (omega (arith, h .0))) (ih x (rw (ne-eqb q p (λ z. omega arith)) at k) m)
 
--- so it is one of what is kept of a disk's log
-pub boundary-later : {disks : ℕ} {start home : ℕ → ℕ} {F : List Entry} → Ordered disks start home F [] → (start' : ℕ → ℕ) (d q : ℕ)
-    → d < disks → boundary (start' d) (start d) (on d F) ≡ true → boundary q (start d) (on d F) ≡ true → start' d ≤ q
-    → boundary q (start' d) (on d (pick (keptFrom start') F)) ≡ true
-unfolding on onDisk
-boundary-later {start = start} {F = F} o start' d q h cut b m =
-    rw (pick-swap (onDisk d) (keptFrom start') (λ e. leb (start' d) (e .position)) (λ e x. rw (eqb-true (e .disk) d x)) F)
-    (boundary-kept (start d) (start' d) q (on d F) (laid-append (start d) (on d F) (on d []) (o .laid d h) .0) cut b m)
+-- so it is one of what is kept of a disk's log, the buffered entries among it
+pub boundary-later : {disks : ℕ} {start home : ℕ → ℕ} {F B : List Entry} → Ordered disks start home F B → (start' : ℕ → ℕ) (d q : ℕ)
+    → d < disks → boundary (start' d) (start d) (on d F) ≡ true → boundary q (start d) (on d F ++ on d B) ≡ true → start' d ≤ q
+    → boundary q (start' d) (on d (pick (keptFrom start') F) ++ on d B) ≡ true
+boundary-later {start = start} {F = F} {B = B} o start' d q h cut b m =
+    rw (on-switch o start' d h cut)
+    (boundary-kept (start d) (start' d) q (on d F ++ on d B) (o .laid d h) (boundary-more (start' d) (start d) (on d F) (on d B) cut) b m)
 
 -- a boundary splits the entries into those before it and those from it on
 record Split (p s : ℕ) (l : List Entry) : Type 0 where
@@ -112,10 +111,10 @@ gone-past t p (e ∷ l) h = go (isClose e) refl (λ q. gone-past t q l (h .1))
     go false c ih = rw (c, h .0, and-false (eqb (e .kind) 0), ih)
 
 -- so what is kept of a disk's log is still the last of what was put there
-module _ {disks : ℕ} {start home : ℕ → ℕ} {F : List Entry} (o : Ordered disks start home F []) (start' : ℕ → ℕ) (d : ℕ)
+module _ {disks : ℕ} {start home : ℕ → ℕ} {F B : List Entry} (o : Ordered disks start home F B) (start' : ℕ → ℕ) (d : ℕ)
     (h : d < disks) (edge : boundary (start' d) (start d) (on d F) ≡ true) where
   split : Split (start d) (start' d) (on d F)
-  split = split-at (start d) (start' d) (on d F) (laid-append (start d) (on d F) (on d []) (o .laid d h) .0) edge
+  split = split-at (start d) (start' d) (on d F) (laid-append (start d) (on d F) (on d B) (o .laid d h) .0) edge
 
   others-gone : (t : ℕ) → All (λ e. e .number ≡ t → keptFrom start' e ≡ true) F → All (λ e. eqb (e .number) t ≡ false) (split .gone)
   unfolding on onDisk
@@ -128,7 +127,7 @@ module _ {disks : ℕ} {start home : ℕ → ℕ} {F : List Entry} (o : Ordered 
 
   pub since-later : {b n : ℕ} {live : ℕ → Bool} {puts : List Record}
       → ((t : ℕ) → (t < n → live t ≡ true) → All (λ e. e .number ≡ t → keptFrom start' e ≡ true) F)
-      → Since b (start d) n live puts (on d F) → Since b (start' d) n live puts (on d (pick (keptFrom start') F))
+      → Since b (start d) n live puts (on d F ++ on d B) → Since b (start' d) n live puts (on d (pick (keptFrom start') F) ++ on d B)
   unfolding on onDisk wordsOf
   since-later {b} stay k =
       let m : List Entry = pick (λ e. leb (start' d) (e .position)) (on d F) in
@@ -139,9 +138,10 @@ module _ {disks : ℕ} {start home : ℕ → ℕ} {F : List Entry} (o : Ordered 
       (record {
         old = old ++ gone;
         all =
-            k .all ∙ ap (λ (x : List Entry). old ++ map recordOf x) (split .whole)
-            ∙ ap (λ (x : List Record). old ++ x) (map-append recordOf (split .gone) m)
-            ∙ sym (append-assoc old gone (map recordOf m));
+            k .all ∙ ap (λ (x : List Entry). old ++ map recordOf (x ++ on d B)) (split .whole)
+            ∙ ap (λ (x : List Entry). old ++ map recordOf x) (append-assoc (split .gone) m (on d B))
+            ∙ ap (λ (x : List Record). old ++ x) (map-append recordOf (split .gone) (m ++ on d B))
+            ∙ sym (append-assoc old gone (map recordOf (m ++ on d B)));
         from = omega (arith, k .from, split .cut, long);
         past = λ t y. updates-append t b old gone ∙ rw (gone-past t (b + length (encodeAll old)) (split .gone) (others-gone t (stay t y)), k .past t y);
       })
@@ -169,7 +169,7 @@ module _ {home : ℕ → ℕ} {puts : Told} {c : Core} {w : World} {r : Referenc
   flat-on d = append-nil (on d F)
 
   -- an open transaction's first record begins at a boundary of its disk's log
-  pub first-boundary : (t : ℕ) → isOpen (c .table) t ≡ true → hasUpdate (c .table) (placeOf (c .table) t) ≡ true
+  first-boundary : (t : ℕ) → isOpen (c .table) t ≡ true → hasUpdate (c .table) (placeOf (c .table) t) ≡ true
       → boundary (firstOf c t) (keptOf (c .logs) (diskOf c t)) (on (diskOf c t) F) ≡ true
   first-boundary t o h = rw (flat-on (diskOf c t)) at (g .accounts .firsts t o h)
 
@@ -243,14 +243,13 @@ module _ {home : ℕ → ℕ} {puts : Told} {c : Core} {w : World} {r : Referenc
       (rw (append-nil F) at (g .accounts .reserved t o ne))
 
   -- where the entries lie at the checkpoint's end
-  pub placed : Placed (isOpen (c .table)) (firstOf c) (markOf c) (c .epoch) F
+  pub placed : Placed (isOpen (c .table)) (firstOf c) (markOf c) (c .epoch) F []
   unfolding before
   placed =
       record {
-        opened = all-map (λ e h o. h o .first) F own-entries;
-        settled = all-map (λ e h o. rw (append-nil F) at (h o)) F (flat _ (g .accounts .settled));
-        early = all-map (λ e h l. h (rw (copying, lt-ltb (e .position) (getD (c .checkpoint .ends) (e .disk) 0) l))) F
-            (flat _ (g .copies .early));
+        opened = all-map (λ e h o. h o .first) (F ++ []) (open-entries (isOpen (c .table)) (Own 0 c) (F ++ []) (g .accounts .own));
+        settled = g .accounts .settled;
+        early = all-map (λ e h l. h (rw (copying, lt-ltb (e .position) (getD (c .checkpoint .ends) (e .disk) 0) l))) (F ++ []) (g .copies .early);
       }
 
   -- every page has the checkpoint's copy number
@@ -265,6 +264,6 @@ module _ {home : ℕ → ℕ} {puts : Told} {c : Core} {w : World} {r : Referenc
         flushed = refl;
         all-copied = λ i h. omega (arith, page-copied (pageOf (c .sizes) i) (page-in (c .sizes) i h .0));
         old = λ i h. switch-old (g .safe .ordered) (newStart c) placed (λ d l. new-start c d .at-most-end) i;
-        closed = switch-closed (g .safe .ordered) (newStart c) placed reach;
+        closed = rw (append-nil F) at (switch-closed (g .safe .ordered) (newStart c) placed reach);
         last = switch-last (g .safe .ordered) (newStart c);
       }
