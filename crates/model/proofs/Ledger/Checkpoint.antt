@@ -107,7 +107,7 @@ module _ {size : ℕ} {a : Ledger} {kept : Entry → Bool} (g : Good 0 size a) (
   word : (w : ℕ) → w < size → Inv w (a .epoch + 1) (a .other w) (a .pages w) (a .committed w) R [] (a .opened)
   unfolding D R
   word w i =
-      drop-keeps w (a .epoch + 1) (a .other w) (a .pages w) (a .committed w) D R (a .opened)
+      drop-keeps w (a .epoch + 1) (a .other w) (a .pages w) (a .committed w) D R [] (a .opened)
       (switch-keeps w (a .epoch) (a .epoch + 1) (a .current w) (a .other w) (a .pages w) (a .committed w) (D ++ R) (a .opened) (whole w i)
       (record { page = g .copied w i (may .all-copied w i) .page ∙ ap (λ (y : ℕ). a .other w ⊕ y) (sym (perm _)) }))
       (may .old w i)

@@ -1,19 +1,19 @@
 -- The steps that keep a ledger's entries in order: one more entry, a disk's flush, and a later start of each disk.
 use mathlib.Core.Path.{_≡_, refl, sym, ap, _∙_}
-use mathlib.Core.List.{List, [], _∷_, _++_, append-assoc, append-nil}
+use mathlib.Core.List.{List, [], _∷_, _++_, append-assoc}
 use mathlib.Core.Bool.{Bool, true, false, not, _&&_}
 use Prim.Native.Nat.{ℕ, _+_, _≤_, _<_}
 use native.Mathlib.Omega.{arith}
 use native.Mathlib.Decide.{ℕ-discrete}
 use lib.Dec.{leb, eqb}
-use lib.ListN.{length}
-use borrow.Author.Tests.{eqb-true, eq-eqb, ne-eqb}
+use lib.ListN.{length, length-append}
+use borrow.Author.Tests.{le-leb, eqb-true, eq-eqb, ne-eqb}
 use Rattle.model.proofs.Ledger.Entry.{Entry, isClose, All, pick, closedIn, onDisk}
 use Rattle.model.proofs.Ledger.Order.{sizeOf, wordsOf, on, Laid, boundary, Ordered}
-use Rattle.model.proofs.Ledger.Sums.{all-map, all-zip, all-append}
+use Rattle.model.proofs.Ledger.Sums.{all-map, all-zip, all-append, all-right}
 use Rattle.model.proofs.Ledger.Picks.{all-pick, pick-all, none-some}
-use Rattle.model.proofs.Ledger.Lists.{all-left, all-flush, pick-only, pick-swap, some-pick, on-append, on-more, on-less, off-more, on-flush}
-use Rattle.model.proofs.Ledger.Positions.{laid-append, append-laid, laid-within, laid-after, Suffix, boundary-suffix}
+use Rattle.model.proofs.Ledger.Lists.{all-left, all-flush, pick-append, pick-whole, pick-only, pick-swap, some-pick, on-append, on-more, on-less, off-more, on-flush}
+use Rattle.model.proofs.Ledger.Positions.{laid-append, append-laid, laid-from, laid-within, laid-after, Suffix, boundary-suffix}
 use Rattle.model.proofs.Booleans.{true-false}
 
 -- a closing record of t has its number
@@ -124,27 +124,66 @@ ordered-commit B r o = rw (on-more (r .disk) B r refl, off-more (r .disk) B r re
 abbrev pub keptFrom : (ℕ → ℕ) → Entry → Bool
 keptFrom start r = leb (start (r .disk)) (r .position)
 
--- Later starts, each a boundary of its disk's entries: what lies before them goes.
-module _ {disks : ℕ} {start home : ℕ → ℕ} {F : List Entry} (o : Ordered disks start home F []) (start' : ℕ → ℕ) where
+-- what holds of each disk's entries holds of all
+each-disk : (n : ℕ) (P : Entry → Type 0) (l : List Entry) → All (λ r. r .disk < n) l → ((d : ℕ) → d < n → All (λ r. r .disk ≡ d → P r) l) → All P l
+each-disk n P [] inside h = tt
+each-disk n P (r ∷ l) inside h = (h (r .disk) (inside .0) .0 refl, each-disk n P l (inside .1) (λ d m. h d m .1))
+
+-- Later starts, each a boundary of its disk's flushed entries: what lies before them goes, and what is buffered stays.
+module _ {disks : ℕ} {start home : ℕ → ℕ} {F B : List Entry} (o : Ordered disks start home F B) (start' : ℕ → ℕ) where
   on-kept : (d : ℕ) → on d (pick (keptFrom start') F) ≡ pick (λ r. leb (start' d) (r .position)) (on d F)
   unfolding on onDisk
   on-kept d = pick-swap (onDisk d) (keptFrom start') (λ r. leb (start' d) (r .position)) (λ r x. rw (eqb-true (r .disk) d x)) F
 
-  all-kept : (P : Entry → Type 0) → All P (F ++ []) → All P (pick (keptFrom start') F ++ [])
-  all-kept P h = rw append-nil (all-pick P (keptFrom start') F (all-left P F [] h))
+  pub all-kept : (P : Entry → Type 0) → All P (F ++ B) → All P (pick (keptFrom start') F ++ B)
+  all-kept P h = all-append P (pick (keptFrom start') F) B (all-pick P (keptFrom start') F (all-left P F B h)) (all-right P F B h)
 
-  -- a disk's entries and its words are what is left from the start on
-  pub switch-suffix : (d : ℕ) → d < disks → boundary (start' d) (start d) (on d F) ≡ true
-      → Suffix (start d) (start' d) (on d F) (on d (pick (keptFrom start') F))
-  switch-suffix d h cut =
-      rw (on-kept d) (boundary-suffix (start d) (start' d) (on d F) (laid-append (start d) (on d F) (on d []) (o .laid d h) .0) cut)
+  -- One disk.
+  module _ (d : ℕ) (h : d < disks) (cut : boundary (start' d) (start d) (on d F) ≡ true) where
+    -- its flushed entries and their words are what is left from the start on
+    pub switch-suffix : Suffix (start d) (start' d) (on d F) (on d (pick (keptFrom start') F))
+    switch-suffix = rw (on-kept d) (boundary-suffix (start d) (start' d) (on d F) (laid-append (start d) (on d F) (on d B) (o .laid d h) .0) cut)
 
-  pub ordered-switch : ((d : ℕ) → d < disks → boundary (start' d) (start d) (on d F) ≡ true)
-      → Ordered disks start' home (pick (keptFrom start') F) []
-  unfolding on pick
-  ordered-switch cut = record {
-    laid = λ d h. rw append-nil (switch-suffix d h (cut d h) .laid);
-    inside = all-kept _ (o .inside);
-    homed = all-kept _ (o .homed);
-    last = all-kept _ (all-map (λ r h. all-kept _ h) (F ++ []) (o .last));
-  }
+    -- they end where they did
+    same-end : start' d + length (wordsOf (on d (pick (keptFrom start') F))) ≡ start d + length (wordsOf (on d F))
+    same-end =
+        let k = switch-suffix in
+        omega (arith, k .cut, ap length (k .words) ∙ length-append (k .front) (wordsOf (on d (pick (keptFrom start') F))))
+
+    -- so what is buffered lies after the start
+    buffer-after : All (λ r. start' d ≤ r .position) (on d B)
+    buffer-after =
+        all-map (λ r x. omega (arith, same-end)) (on d B)
+        (laid-from (start d + length (wordsOf (on d F))) (on d B) (laid-append (start d) (on d F) (on d B) (o .laid d h) .1))
+
+    pub laid-switch : Laid (start' d) (on d (pick (keptFrom start') F) ++ on d B)
+    laid-switch =
+        append-laid (start' d) (on d (pick (keptFrom start') F)) (on d B) (switch-suffix .laid)
+        (rw same-end (laid-append (start d) (on d F) (on d B) (o .laid d h) .1))
+
+    -- the entries from the start on
+    pub on-switch : on d (pick (keptFrom start') F) ++ on d B ≡ pick (λ r. leb (start' d) (r .position)) (on d F ++ on d B)
+    on-switch =
+        rw (on-kept d, pick-append, pick-whole (λ r. leb (start' d) (r .position)) (on d B) (all-map (λ r x. le-leb (start' d) (r .position) x) (on d B) buffer-after))
+
+  -- All disks.
+  module _ (cut : (d : ℕ) → d < disks → boundary (start' d) (start d) (on d F) ≡ true) where
+    buffer-stays : All (λ r. keptFrom start' r ≡ true) B
+    unfolding on onDisk
+    buffer-stays = each-disk disks _ B (all-right _ F B (o .inside)) one
+      where
+        one : (d : ℕ) → d < disks → All (λ r. r .disk ≡ d → keptFrom start' r ≡ true) B
+        one d h =
+            all-map (λ r x same. rw same (le-leb (start' d) (r .position) (x (eq-eqb (r .disk) d same)))) B
+            (pick-only (λ r. start' d ≤ r .position) (onDisk d) B (buffer-after d h (cut d h)))
+
+    pub kept-switch : pick (keptFrom start') (F ++ B) ≡ pick (keptFrom start') F ++ B
+    kept-switch = rw (pick-append, pick-whole (keptFrom start') B buffer-stays)
+
+    pub ordered-switch : Ordered disks start' home (pick (keptFrom start') F) B
+    ordered-switch = record {
+      laid = λ d h. laid-switch d h (cut d h);
+      inside = all-kept _ (o .inside);
+      homed = all-kept _ (o .homed);
+      last = all-kept _ (all-map (λ r h. all-kept _ h) (F ++ B) (o .last));
+    }

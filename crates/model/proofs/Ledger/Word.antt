@@ -170,11 +170,11 @@ pub switch-keeps : (w c n b nb v res : ℕ) (F : List Entry) (O : ℕ → Bool) 
     → Inv w n nb v res F [] O
 switch-keeps w c n b nb v res F O h k = record { page = k .page; late = tt; apart = tt; loose = h .loose; cancel = h .cancel; book = h .book }
 
-shed : (f : Entry → ℕ) (D R : List Entry) → All (λ r. f r ≡ 0) D → sum f ((D ++ R) ++ []) ≡ sum f (R ++ [])
-shed f D R h = rw (append-assoc D R []) (sum-append f D (R ++ []) ∙ rw (sum-zero f D h) (⊕-zero-l _))
+shed : (f : Entry → ℕ) (D R B : List Entry) → All (λ r. f r ≡ 0) D → sum f ((D ++ R) ++ B) ≡ sum f (R ++ B)
+shed f D R B h = rw (append-assoc D R B) (sum-append f D (R ++ B) ∙ rw (sum-zero f D h) (⊕-zero-l _))
 
--- records before the new start go: of closed transactions, and in the backup
-module _ (w c b v res : ℕ) (D R : List Entry) (O : ℕ → Bool) (h : Inv w c b v res (D ++ R) [] O)
+-- Flushed records before a new start go: of transactions that the flushed log closes, and in the backup. The buffer stays.
+module _ (w c b v res : ℕ) (D R B : List Entry) (O : ℕ → Bool) (h : Inv w c b v res (D ++ R) B O)
     (old : All (λ r. mask (leb c (r .copy)) (adds w r) ≡ 0) D)
     (closed : All (λ r. closedIn (D ++ R) (r .number) ≡ true) D)
     (mono : (t : ℕ) → closedIn (D ++ R) t ≡ false → closedIn R t ≡ false)
@@ -187,21 +187,23 @@ module _ (w c b v res : ℕ) (D R : List Entry) (O : ℕ → Bool) (h : Inv w c 
   not-open r y false e = refl
 
   -- no record of the transaction is left, or all that are left are all that there were
-  left : (t : ℕ) → closedIn R t ≡ false → O t ≡ false → (k : Bool) → closedIn (D ++ R) t ≡ k → ofTxn w t (R ++ []) ≡ 0
-  left t x y false e = sym (shed _ D R (all-map (other t e) D closed)) ∙ h .cancel t e y
-  left t x y true e = sum-zero _ (R ++ []) (all-append _ R [] (all-map gone R (last t e x)) tt)
+  left : (t : ℕ) → closedIn R t ≡ false → O t ≡ false → (k : Bool) → closedIn (D ++ R) t ≡ k → ofTxn w t (R ++ B) ≡ 0
+  left t x y false e = sym (shed _ D R B (all-map (other t e) D closed)) ∙ h .cancel t e y
+  left t x y true e =
+      sum-zero _ (R ++ B)
+      (all-append _ R B (all-map gone R (last t e x)) (all-map (λ r z. gone r (ne-eqb (r .number) t (λ s. true-false e (rw s at z)))) B (h .apart)))
     where
       gone : (r : Entry) → eqb (r .number) t ≡ false → mask (eqb (r .number) t) (adds w r) ≡ 0
       gone r e = rw e
 
-  pub drop-keeps : Inv w c b v res R [] O
+  pub drop-keeps : Inv w c b v res R B O
   drop-keeps = record {
-    page = h .page ∙ ap (λ (x : ℕ). b ⊕ x) (shed _ D R old);
-    late = tt;
-    apart = tt;
+    page = h .page ∙ ap (λ (x : ℕ). b ⊕ x) (shed _ D R B old);
+    late = h .late;
+    apart = all-map (λ r x. mono (r .number) x) B (h .apart);
     loose = λ t x. mono t (h .loose t x);
     cancel = λ t x y. left t x y (closedIn (D ++ R) t) refl;
-    book = h .book ∙ ap (λ (x : ℕ). v ⊕ x) (shed _ D R (all-map (λ r y. not-open r y (O (r .number)) refl) D closed));
+    book = h .book ∙ ap (λ (x : ℕ). v ⊕ x) (shed _ D R B (all-map (λ r y. not-open r y (O (r .number)) refl) D closed));
   }
 
 -- a restart's end, and a format: nothing is logged, and the backup is the page memory

@@ -56,10 +56,10 @@ split-at p s (r ∷ l) h b = go (eqb s p) refl b (split-at (p + sizeOf r) s l (h
         }
 
 -- so what is kept of a disk's log is still the last of what was put there
-module _ {disks : ℕ} {start home : ℕ → ℕ} {F : List Entry} (o : Ordered disks start home F []) (start' : ℕ → ℕ) (d : ℕ)
+module _ {disks : ℕ} {start home : ℕ → ℕ} {F B : List Entry} (o : Ordered disks start home F B) (start' : ℕ → ℕ) (d : ℕ)
     (h : d < disks) (edge : boundary (start' d) (start d) (on d F) ≡ true) where
   split : Split (start d) (start' d) (on d F)
-  split = split-at (start d) (start' d) (on d F) (laid-append (start d) (on d F) (on d []) (o .laid d h) .0) edge
+  split = split-at (start d) (start' d) (on d F) (laid-append (start d) (on d F) (on d B) (o .laid d h) .0) edge
 
   others-gone : (t : ℕ) → All (λ e. e .number ≡ t → keptFrom start' e ≡ true) F → All (λ e. eqb (e .number) t ≡ false) (split .gone)
   unfolding on onDisk
@@ -72,7 +72,7 @@ module _ {disks : ℕ} {start home : ℕ → ℕ} {F : List Entry} (o : Ordered 
 
   pub since-later : {b n : ℕ} {live : ℕ → Bool} {puts : List Record}
       → ((t : ℕ) → (t < n → live t ≡ true) → All (λ e. e .number ≡ t → keptFrom start' e ≡ true) F)
-      → Since b (start d) n live puts (on d F) → Since b (start' d) n live puts (on d (pick (keptFrom start') F))
+      → Since b (start d) n live puts (on d F ++ on d B) → Since b (start' d) n live puts (on d (pick (keptFrom start') F) ++ on d B)
   unfolding on onDisk wordsOf
   since-later {b} stay k =
       let m : List Entry = pick (λ e. leb (start' d) (e .position)) (on d F) in
@@ -83,9 +83,10 @@ module _ {disks : ℕ} {start home : ℕ → ℕ} {F : List Entry} (o : Ordered 
       (record {
         old = old ++ gone;
         all =
-            k .all ∙ ap (λ (x : List Entry). old ++ map recordOf x) (split .whole)
-            ∙ ap (λ (x : List Record). old ++ x) (map-append recordOf (split .gone) m)
-            ∙ sym (append-assoc old gone (map recordOf m));
+            k .all ∙ ap (λ (x : List Entry). old ++ map recordOf (x ++ on d B)) (split .whole)
+            ∙ ap (λ (x : List Entry). old ++ map recordOf x) (append-assoc (split .gone) m (on d B))
+            ∙ ap (λ (x : List Record). old ++ x) (map-append recordOf (split .gone) (m ++ on d B))
+            ∙ sym (append-assoc old gone (map recordOf (m ++ on d B)));
         from = omega (arith, k .from, split .cut, long);
         past = λ t y. updates-append t b old gone ∙ rw (updates-none t (b + length (encodeAll old)) (split .gone) (others-gone t (stay t y)), k .past t y);
       })

@@ -24,9 +24,9 @@ use Rattle.model.proofs.Places.{open-place, place-open, place-holds, se
 use Rattle.model.proofs.Ledger.Entry.{Entry, some, All, pick, onDisk}
 use Rattle.model.proofs.Ledger.Order.{Ordered, sizeOf, on, Laid, boundary}
 use Rattle.model.proofs.Ledger.Sums.{all-map, all-zip}
-use Rattle.model.proofs.Ledger.Lists.{all-left, pick-swap, pick-whole, some-pick}
-use Rattle.model.proofs.Ledger.Positions.{size-ge, laid-append, laid-from, boundary-from}
-use Rattle.model.proofs.Ledger.Ordered.{keptFrom}
+use Rattle.model.proofs.Ledger.Lists.{all-left, pick-whole, some-pick}
+use Rattle.model.proofs.Ledger.Positions.{size-ge, laid-append, laid-from, boundary-more, boundary-from}
+use Rattle.model.proofs.Ledger.Ordered.{keptFrom, on-switch}
 use Rattle.model.proofs.Ledger.Checkpoint.{MaySwitch}
 use Rattle.model.proofs.Ledger.Switch.{Placed, switch-old, switch-closed, switch-last}
 use Rattle.model.proofs.Store.View.{view, Own, wordsFor, Serving, before}
@@ -53,14 +53,13 @@ boundary-kept p s q (r ∷ l) h b k m = go (eqb s p) refl b (boundary-kept (p + 
         let two = size-ge r in
         rw (lt-leb s (r .position) (omega (arith, h .0))) (ih x (rw (ne-eqb q p (λ z. omega arith)) at k) m)
 
--- so it is one of what is kept of a disk's log
-pub boundary-later : {disks : ℕ} {start home : ℕ → ℕ} {F : List Entry} → Ordered disks start home F [] → (start' : ℕ → ℕ) (d q : ℕ)
-    → d < disks → boundary (start' d) (start d) (on d F) ≡ true → boundary q (start d) (on d F) ≡ true → start' d ≤ q
-    → boundary q (start' d) (on d (pick (keptFrom start') F)) ≡ true
-unfolding on onDisk
-boundary-later {start = start} {F = F} o start' d q h cut b m =
-    rw (pick-swap (onDisk d) (keptFrom start') (λ e. leb (start' d) (e .position)) (λ e x. rw (eqb-true (e .disk) d x)) F)
-    (boundary-kept (start d) (start' d) q (on d F) (laid-append (start d) (on d F) (on d []) (o .laid d h) .0) cut b m)
+-- so it is one of what is kept of a disk's log, the buffered entries among it
+pub boundary-later : {disks : ℕ} {start home : ℕ → ℕ} {F B : List Entry} → Ordered disks start home F B → (start' : ℕ → ℕ) (d q : ℕ)
+    → d < disks → boundary (start' d) (start d) (on d F) ≡ true → boundary q (start d) (on d F ++ on d B) ≡ true → start' d ≤ q
+    → boundary q (start' d) (on d (pick (keptFrom start') F) ++ on d B) ≡ true
+boundary-later {start = start} {F = F} {B = B} o start' d q h cut b m =
+    rw (on-switch o start' d h cut)
+    (boundary-kept (start d) (start' d) q (on d F ++ on d B) (o .laid d h) (boundary-more (start' d) (start d) (on d F) (on d B) cut) b m)
 
 -- what holds of each open transaction's entries, as a property of all entries
 open-entries : (O : ℕ → Bool) (P : ℕ → Entry → Type 0) (l : List Entry)
@@ -85,7 +84,7 @@ module _ {home : ℕ → ℕ} {puts : Told} {c : Core} {w : World} {r : Referenc
   flat-on d = append-nil (on d F)
 
   -- an open transaction's first record begins at a boundary of its disk's log
-  pub first-boundary : (t : ℕ) → isOpen (c .table) t ≡ true → hasUpdate (c .table) (placeOf (c .table) t) ≡ true
+  first-boundary : (t : ℕ) → isOpen (c .table) t ≡ true → hasUpdate (c .table) (placeOf (c .table) t) ≡ true
       → boundary (firstOf c t) (keptOf (c .logs) (diskOf c t)) (on (diskOf c t) F) ≡ true
   first-boundary t o h = rw (flat-on (diskOf c t)) at (g .accounts .firsts t o h)
 
@@ -159,14 +158,13 @@ module _ {home : ℕ → ℕ} {puts : Told} {c : Core} {w : World} {r : Referenc
       (rw (append-nil F) at (g .accounts .reserved t o ne))
 
   -- where the entries lie at the checkpoint's end
-  pub placed : Placed (isOpen (c .table)) (firstOf c) (markOf c) (c .epoch) F
+  pub placed : Placed (isOpen (c .table)) (firstOf c) (markOf c) (c .epoch) F []
   unfolding before
   placed =
       record {
-        opened = all-map (λ e h o. h o .first) F own-entries;
-        settled = all-map (λ e h o. rw (append-nil F) at (h o)) F (flat _ (g .accounts .settled));
-        early = all-map (λ e h l. h (rw (copying, lt-ltb (e .position) (getD (c .checkpoint .ends) (e .disk) 0) l))) F
-            (flat _ (g .copies .early));
+        opened = all-map (λ e h o. h o .first) (F ++ []) (open-entries (isOpen (c .table)) (Own 0 c) (F ++ []) (g .accounts .own));
+        settled = g .accounts .settled;
+        early = all-map (λ e h l. h (rw (copying, lt-ltb (e .position) (getD (c .checkpoint .ends) (e .disk) 0) l))) (F ++ []) (g .copies .early);
       }
 
   -- every page has the checkpoint's copy number
@@ -181,6 +179,6 @@ module _ {home : ℕ → ℕ} {puts : Told} {c : Core} {w : World} {r : Referenc
         flushed = refl;
         all-copied = λ i h. omega (arith, page-copied (pageOf (c .sizes) i) (page-in (c .sizes) i h .0));
         old = λ i h. switch-old (g .safe .ordered) (newStart c) placed (λ d l. new-start c d .at-most-end) i;
-        closed = switch-closed (g .safe .ordered) (newStart c) placed reach;
+        closed = rw (append-nil F) at (switch-closed (g .safe .ordered) (newStart c) placed reach);
         last = switch-last (g .safe .ordered) (newStart c);
       }

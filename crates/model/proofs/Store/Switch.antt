@@ -1,7 +1,7 @@
 -- A checkpoint's last store keeps what holds of an open store: with all flushed and copied, the other backup counts and the log
 -- begins at the new starts.
 use mathlib.Core.Path.{_≡_, refl, sym, ap, _∙_}
-use mathlib.Core.List.{List, [], _++_, append-nil}
+use mathlib.Core.List.{List, [], _++_}
 use mathlib.Core.Bool.{Bool, true, false}
 use Prim.Native.Nat.{ℕ, _+_, _≤_, _<_}
 use native.Mathlib.Omega.{arith}
@@ -25,10 +25,9 @@ use Rattle.model.proofs.Ledger.Entry.{Entry, All, pick}
 use Rattle.model.proofs.Ledger.State.{switched, Same}
 use Rattle.model.proofs.Ledger.Order.{Ordered, wordsOf, on, boundary}
 use Rattle.model.proofs.Ledger.Sums.{all-map}
-use Rattle.model.proofs.Ledger.Picks.{all-pick}
-use Rattle.model.proofs.Ledger.Lists.{all-left, words-none}
+use Rattle.model.proofs.Ledger.Lists.{words-none}
 use Rattle.model.proofs.Ledger.Positions.{Suffix, boundary-from}
-use Rattle.model.proofs.Ledger.Ordered.{keptFrom, switch-suffix, ordered-switch}
+use Rattle.model.proofs.Ledger.Ordered.{keptFrom, all-kept, switch-suffix, ordered-switch}
 use Rattle.model.proofs.Ledger.Good.{good-same}
 use Rattle.model.proofs.Ledger.Checkpoint.{switch-good}
 use Rattle.model.proofs.Ledger.Switch.{placed-kept}
@@ -36,7 +35,7 @@ use Rattle.model.proofs.Link.Words.{Link}
 use Rattle.model.proofs.Store.View.{view, Devices, Safe, Accounts, Copies, SinceOn, Serving, before}
 use Rattle.model.proofs.Store.Same.{sets-same, owners-same}
 use Rattle.model.proofs.Store.Flush.{lengths-same}
-use Rattle.model.proofs.Store.NewStarts.{firstOf, boundary-later, first-boundary, new-boundary, start-early, first-stays, reserved-stays, placed, page-copied, may, live-kept}
+use Rattle.model.proofs.Store.NewStarts.{firstOf, boundary-later, new-boundary, start-early, first-stays, reserved-stays, placed, page-copied, may, live-kept}
 use Rattle.model.proofs.Store.Later.{since-later}
 use Rattle.model.proofs.Store.Starts.{Moved, backup-back}
 use Rattle.model.proofs.Booleans.{true-false}
@@ -154,7 +153,7 @@ module _ {home : ℕ → ℕ} {puts : Told} {c : Core} {w : World} {r : Referenc
 
     -- what holds of all entries holds of those that are kept
     thin : (P : Entry → Type 0) → All P (F ++ []) → All P (pick kept F ++ [])
-    thin P h = rw (append-nil (pick kept F)) (all-pick P kept F (all-left P F [] h))
+    thin P h = all-kept (g .safe .ordered) (newStart c) P h
 
     -- a log ends where it did, and it begins no earlier
     ends : (d : ℕ) → d < c .sizes .disks
@@ -181,13 +180,12 @@ module _ {home : ℕ → ℕ} {puts : Told} {c : Core} {w : World} {r : Referenc
 
     first-kept : (t : ℕ) → isOpen (c .table) t ≡ true → hasUpdate (c .table) (placeOf (c .table) t) ≡ true
         → boundary (firstOf c t) (keptOf (now .logs) (diskOf c t)) (on (diskOf c t) (pick kept F) ++ on (diskOf c t) []) ≡ true
-    unfolding on pick
     first-kept t o h =
         let d : ℕ = diskOf c t in
         let below : d < c .sizes .disks = g .accounts .disks t o in
-        rw (kept-now d below, append-nil (on d (pick kept F)))
+        rw (kept-now d below)
         (boundary-later (g .safe .ordered) (newStart c) d (firstOf c t) below (cut d below)
-        (first-boundary g copying copied t o h) (start-early g copying copied t o h))
+        (g .accounts .firsts t o h) (start-early g copying copied t o h))
 
     accounts : Accounts 0 home now (pick kept F) []
     unfolding diskOf
@@ -203,7 +201,7 @@ module _ {home : ℕ → ℕ} {puts : Told} {c : Core} {w : World} {r : Referenc
           disks = g .accounts .disks;
           started = first-stays g copying copied;
           reserved = reserved-stays g copying copied;
-          settled = rw (append-nil (pick kept F)) (placed-kept (g .safe .ordered) (newStart c) (placed g copying copied) .settled);
+          settled = placed-kept (g .safe .ordered) (newStart c) (placed g copying copied) cut .settled;
           numbered = thin _ (g .accounts .numbered);
         }
 
@@ -220,10 +218,9 @@ module _ {home : ℕ → ℕ} {puts : Told} {c : Core} {w : World} {r : Referenc
 
     -- what goes is the older part of what was put
     told : (d : ℕ) → d < c .sizes .disks → SinceOn puts now d (on d (pick kept F) ++ on d [])
-    unfolding on pick
     told d h =
-        rw (append-nil (on d (pick kept F)), kept-now d h)
-        (since-later (g .safe .ordered) (newStart c) d h (cut d h) (live-kept g copying copied) (rw (append-nil (on d F)) at (g .told d h)))
+        rw (kept-now d h)
+        (since-later (g .safe .ordered) (newStart c) d h (cut d h) (live-kept g copying copied) (g .told d h))
 
     -- the store is open, with the other backup current
     pub switch-serving : Serving 0 home puts now v r (pick kept F) []
