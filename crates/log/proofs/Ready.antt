@@ -7,8 +7,7 @@ use lib.ListN.{length}
 use Rattle.model.specs.declared.Sizes.{Sizes}
 use Rattle.model.specs.Sizes.{ringOf, diskAt, tailWord, logWords}
 use Rattle.model.specs.State.{limit}
-use Rattle.model.specs.World.{World}
-use Rattle.model.specs.Causes.{tailOn}
+use Rattle.model.specs.Causes.{tailIn}
 use Rattle.model.proofs.Bounds.{Bounded}
 use Rattle.model.proofs.Ring.{disk-within}
 use Rattle.log.specs.Reading.{Readable, Checkable}
@@ -25,10 +24,9 @@ module _ (s : Sizes) (b : Bounded s) where
         stop-low = low;
       }
 
-  pub checkable : (w : World) → length (w .logs) ≡ logWords s → ((d : ℕ) → d < s .disks → tailOn s w d ≤ limit)
-      → Checkable s (w .logs)
-  unfolding logWords diskAt tailWord tailOn
-  checkable w right tails =
+  pub checkable : (logs : List ℕ) → length logs ≡ logWords s → ((d : ℕ) → d < s .disks → tailIn s logs d ≤ limit) → Checkable s logs
+  unfolding logWords diskAt tailWord tailIn
+  checkable logs right tails =
       record {
         disks-le = b .disks-max;
         ring-pos = omega (arith, b .ring-min);

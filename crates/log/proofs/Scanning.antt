@@ -1,11 +1,10 @@
 -- A loop over a log, by what is decoded at its position: the answer from there is the answer from the next position.
-use Prim.Native.Nat.{ℕ, zero, suc, _+_, _-_, _≤_, _<_}
+use Prim.Native.Nat.{ℕ, suc, _+_, _-_, _≤_, _<_}
 use mathlib.Core.Path.{_≡_, refl, sym, ap, _∙_}
 use mathlib.Core.List.{List, [], _∷_}
 use mathlib.Core.Bool.{Bool, true, false, cond, _&&_}
 use native.Mathlib.Omega.{arith}
 use native.Mathlib.Decide.{decLt}
-use lib.ListN.{getD}
 use lib.Dec.{eqb}
 use borrow.Author.Tests.{lt-ltb, le-ltb, eq-eqb, ne-eqb}
 use Rattle.model.specs.declared.Sizes.{Sizes}
@@ -14,19 +13,17 @@ use Rattle.model.specs.declared.Decoded.the-variants.{Change, Close, Malformed}
 use Rattle.model.specs.declared.Fate.the-variants.{Closed, Unclosed, Unreadable}
 use Rattle.model.specs.declared.Fault.{Fault}
 use Rattle.model.specs.declared.Fault.the-variants.{NoFault, BadRecord}
-use Rattle.model.specs.Anchor.{startOn}
 use Rattle.model.specs.Record.{updateKind}
-use Rattle.model.specs.Decode.{span, decodeAt}
+use Rattle.model.specs.Decode.{readLog, span, decodeAt}
 use Rattle.model.specs.Scan.{Scan, scanned, scan, fateIn, faultIn, Update, updatesIn, updateWords}
-use Rattle.model.specs.World.{World}
-use Rattle.model.specs.Causes.{tailOn, retained, faultFrom}
+use Rattle.model.specs.Causes.{tailIn, retainedFrom, faultFrom}
 use Rattle.model.proofs.Decode.{ChangeAt, CloseAt, found-change, found-close}
 use Rattle.model.proofs.Restart.Gain.{length-span}
 use Rattle.model.proofs.Updates.{update-words-append}
 use Rattle.model.proofs.Scan.{scan-end, scan-step, scan-change, scan-close, scan-bad}
 use Rattle.log.specs.declared.newest.Newest.{Newest}
 use Rattle.log.specs.declared.newest.Newest.the-variants.{Broken}
-use Rattle.log.specs.Reading.{scanDisk, faultsFrom, isUpdateOf, foundAt, newerOf, newestIn}
+use Rattle.log.specs.Reading.{isUpdateOf, foundAt, newerOf, newestIn}
 
 -- an update of the transaction takes the place of what was found before, no other record does
 module _ (t p : ℕ) (sofar : Newest) {r : Decoded} {kind page slot number copy width next : ℕ} {b : Bool}
@@ -174,26 +171,17 @@ module _ (s : Sizes) (read : ℕ → ℕ) (stop : ℕ) where
     words-bad e u = omega (arith, ap (λ (x : Scan). updateWords (updatesIn t x)) (scan-bad s read stop h (sym is ∙ e)))
 
 -- the check of all disks, a disk at a time
-module _ (s : Sizes) (logs starts : List ℕ) where
+module _ (s : Sizes) (start : ℕ → ℕ) (logs : List ℕ) where
   pub faults-step : (disks d : ℕ) → d < disks
-      → faultsFrom s logs starts (disks - d) d
-      ≡ faultIn d (scanDisk s logs d (getD starts d 0)) (faultsFrom s logs starts (disks - (d + 1)) (d + 1))
-  unfolding faultsFrom
+      → faultFrom s start logs (disks - d) d
+      ≡ faultIn d (scan s (readLog s logs d (tailIn s logs d) []) (tailIn s logs d) (start d)) (faultFrom s start logs (disks - (d + 1)) (d + 1))
+  unfolding faultFrom retainedFrom
   faults-step disks d h =
       let e : disks - d ≡ suc (disks - (d + 1)) = omega arith in
-      ap (λ (n : ℕ). faultsFrom s logs starts n d) e
+      ap (λ (n : ℕ). faultFrom s start logs n d) e
 
-  pub faults-done : (disks d : ℕ) → disks ≤ d → faultsFrom s logs starts (disks - d) d ≡ NoFault
-  unfolding faultsFrom
+  pub faults-done : (disks d : ℕ) → disks ≤ d → faultFrom s start logs (disks - d) d ≡ NoFault
+  unfolding faultFrom
   faults-done disks d h =
       let e : disks - d ≡ 0 = omega arith in
-      ap (λ (n : ℕ). faultsFrom s logs starts n d) e
-
--- with the current row's starts it is what restart begin checks
-pub faults-from : (s : Sizes) (w : World) (starts : List ℕ) (n d : ℕ)
-    → ((e : ℕ) → d ≤ e → e < d + n → getD starts e 0 ≡ startOn (w .anchor) e)
-    → faultsFrom s (w .logs) starts n d ≡ faultFrom s w n d
-unfolding faultsFrom faultFrom retained tailOn
-faults-from s w starts zero d same = refl
-faults-from s w starts (suc n) d same =
-    rw (same d (omega arith) (omega arith), faults-from s w starts n (d + 1) (λ e l m. same e (omega arith) (omega arith)))
+      ap (λ (n : ℕ). faultFrom s start logs n d) e

@@ -1,5 +1,5 @@
 -- What the readers of a log need, and what they give beyond model's definitions.
-use Prim.Native.Nat.{ℕ, zero, suc, _+_, _*_, _/_, _^_, _≤_, _<_}
+use Prim.Native.Nat.{ℕ, _+_, _*_, _/_, _^_, _≤_, _<_}
 use mathlib.Core.List.{List, [], _∷_}
 use mathlib.Core.Bool.{Bool, false, cond, _&&_}
 use lib.ListN.{length, getD}
@@ -7,12 +7,9 @@ use lib.Dec.{ltb, eqb}
 use Rattle.model.specs.declared.Sizes.{Sizes}
 use Rattle.model.specs.declared.Decoded.{Decoded}
 use Rattle.model.specs.declared.Decoded.the-variants.{Change, Close, Malformed}
-use Rattle.model.specs.declared.Fault.{Fault}
-use Rattle.model.specs.declared.Fault.the-variants.{NoFault}
-use Rattle.model.specs.Sizes.{tailWord}
 use Rattle.model.specs.Record.{change, close, updateKind}
-use Rattle.model.specs.Decode.{readLog, kindField, pageField, slotField, widthField, misplaced}
-use Rattle.model.specs.Scan.{Scan, end, bad, item, scan, faultIn, Update}
+use Rattle.model.specs.Decode.{kindField, pageField, slotField, widthField, misplaced}
+use Rattle.model.specs.Scan.{Scan, end, bad, item, Update}
 use Rattle.log.specs.declared.newest.Newest.{Newest}
 use Rattle.log.specs.declared.newest.Newest.the-variants.{At, Absent, Broken}
 
@@ -38,16 +35,6 @@ pub record Checkable (s : Sizes) (logs : List ℕ) : Type 0 where
   pub ring-pos : 1 ≤ s .ring
   pub logs-length : s .disks * (s .ring + 1) ≤ length logs
   pub tails-low : (d : ℕ) → d < s .disks → getD logs (d * (s .ring + 1)) 0 ≤ 2 ^ 63
-
--- a disk's log on the device, from a position up to its tail
-abbrev pub scanDisk : Sizes → List ℕ → ℕ → ℕ → Scan
-scanDisk s logs disk p = scan s (readLog s logs disk (getD logs (tailWord s disk) 0) []) (getD logs (tailWord s disk) 0) p
-
--- of n disks from `disk` on, each from its start: "lowest disk, first position there"
-unfoldable pub faultsFrom : Sizes → List ℕ → List ℕ → ℕ → ℕ → Fault
-faultsFrom s logs starts zero disk = NoFault
-faultsFrom s logs starts (suc n) disk =
-    faultIn disk (scanDisk s logs disk (getD starts disk 0)) (faultsFrom s logs starts n (disk + 1))
 
 -- is it an update record of the transaction
 abbrev pub isUpdateOf : ℕ → Decoded → Bool

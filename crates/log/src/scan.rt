@@ -7,10 +7,10 @@ use model::Sizes;
 ghost use mathlib.Core.Path.{_≡_};
 ghost use Prim.Native.Nat.{_+_, _*_, _≤_};
 ghost use lib.ListN.{length, getD};
-ghost use Rattle.model.specs.Sizes.{tailWord};
 ghost use Rattle.model.specs.Decode.{readLog};
 ghost use Rattle.model.specs.Scan.{scan, fateIn};
-ghost use Rattle.log.specs.Reading.{Readable, Checkable, faultsFrom};
+ghost use Rattle.model.specs.Causes.{tailIn, faultFrom};
+ghost use Rattle.log.specs.Reading.{Readable, Checkable};
 
 // The search ahead for a transaction's closing record.
 pub fn fate_from(
@@ -53,16 +53,16 @@ pub fn fate_from(
 // A disk's tail.
 fn tail_of(logs: &[u64], disk: u64, ring: u64) -> u64
     requires { ⌜ disk * (ring + 1) + (ring + 1) ≤ length (now logs) ⌝ }
-    ensures { λ r. ⌜ ((s : Sizes) → s .ring ≡ ring → r ≡ getD (now (logs .entry)) (tailWord s disk) 0) ⌝ }
+    ensures { λ r. ⌜ ((s : Sizes) → s .ring ≡ ring → r ≡ tailIn s (now (logs .entry)) disk) ⌝ }
 {
     let at = (disk * (ring + 1)) as usize;
     logs[at]
 }
 
-// The check of every disk's retained log: the first malformed record of the lowest disk that has one.
+// The check of every disk's log, read from its start: the first malformed record of the lowest disk that has one.
 pub fn check_disks(sizes: Sizes, logs: &[u64], starts: [u64; 8]) -> Fault
     requires { ⌜ Checkable sizes (now logs) ⌝ }
-    ensures { λ r. ⌜ r ≡ faultsFrom sizes (now (logs .entry)) starts (sizes .disks) 0 ⌝ }
+    ensures { λ r. ⌜ r ≡ faultFrom sizes (λ d. getD starts d 0) (now (logs .entry)) (sizes .disks) 0 ⌝ }
 {
     let disks = sizes.disks;
     let ring = sizes.ring;

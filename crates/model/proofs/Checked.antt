@@ -16,12 +16,12 @@ use Rattle.model.specs.World.{World}
 use Rattle.model.specs.Memory.{lengthsRight}
 use Rattle.model.specs.State.{limit}
 use Rattle.model.specs.Refusal.{accepted, verdict}
-use Rattle.model.specs.Causes.{anchorWrong, unformatted, sizesWrong, lengthsWrong, tailIn, tailWrong, wrongTail, retainedFrom, faultFrom}
+use Rattle.model.specs.Causes.{anchorWrong, unformatted, sizesWrong, lengthsWrong, tailIn, tailWrong, wrongTail, retainedFrom, faultFrom, logRows}
 use Rattle.model.specs.Restart.{imageRows}
 use Rattle.model.proofs.Booleans.{or-none}
-use Rattle.model.proofs.Below.{first-none, first-before}
+use Rattle.model.proofs.Below.{first-none, first-before, first-cong}
 use Rattle.model.proofs.Reading.{ending}
-use Rattle.model.proofs.Faults.{fault-none, none-fault, no-fault}
+use Rattle.model.proofs.Faults.{fault-none, none-fault, fault-same, no-fault}
 use Rattle.model.proofs.Verdict.{row-passed}
 
 -- Logs that can be read from these starts: each tail lies within its ring, and each log is well formed up to it.
@@ -53,7 +53,17 @@ module _ (s : Sizes) (start : ℕ → ℕ) (logs : List ℕ) where
         clean = λ d l. fault-none s start logs (s .disks) 0 seven d (omega arith) (omega arith);
       }
 
--- they are read the same from equal starts
+-- equal starts give equal rows
+pub rows-same : (s : Sizes) (logs : List ℕ) (start other : ℕ → ℕ) → ((d : ℕ) → d < s .disks → other d ≡ start d)
+    → logRows s other logs ≡ logRows s start logs
+unfolding wrongTail tailWrong
+rows-same s logs start other same =
+    rw (
+      first-cong (tailWrong s other logs) (tailWrong s start logs) (s .disks) (λ d l. rw (same d l)),
+      fault-same s logs start other (s .disks) 0 (λ d from l. same d (omega arith)),
+    )
+
+-- so the logs are whole from either
 pub whole-from : (s : Sizes) (logs : List ℕ) {start other : ℕ → ℕ} → ((d : ℕ) → d < s .disks → other d ≡ start d)
     → Whole s start logs → Whole s other logs
 unfolding retainedFrom

@@ -106,6 +106,14 @@ module _ (s : Sizes) (start : ℕ → ℕ) (logs : List ℕ) where
       fault-end from (retainedFrom s start logs from) (faultFrom s start logs n (from + 1)) (h from (omega arith) (omega arith))
       ∙ none-fault n (from + 1) (λ d l m. h d (omega arith) (omega arith))
 
+-- the same from equal starts
+pub fault-same : (s : Sizes) (logs : List ℕ) (start other : ℕ → ℕ) (n d : ℕ) → ((e : ℕ) → d ≤ e → e < d + n → other e ≡ start e)
+    → faultFrom s other logs n d ≡ faultFrom s start logs n d
+unfolding faultFrom retainedFrom
+fault-same s logs start other zero d same = refl
+fault-same s logs start other (suc n) d same =
+    rw (same d (omega arith) (omega arith), fault-same s logs start other n (d + 1) (λ e l m. same e (omega arith) (omega arith)))
+
 -- so what a check returns is the first malformed position of the lowest disk that has one
 pub retained-bad : (s : Sizes) (start : ℕ → ℕ) (logs : List ℕ) (disk p : ℕ) → ending (retainedFrom s start logs disk) ≡ bad p
     → FirstBad s (readLog s logs disk (tailIn s logs disk) []) (tailIn s logs disk) (start disk) p

@@ -44,6 +44,18 @@ verdict-append (x ∷ l) k e =
     let f = row-passed x l e in
     rw (f .0) (verdict-append l k (f .1))
 
+-- and the first that applies decides
+pub refused-append : (l k : List Row) (n first second : ℕ) → verdict l ≡ rejected n first second → verdict (l ++ k) ≡ rejected n first second
+unfolding verdict
+refused-append [] k n first second e = let z : _≡_ {A = ℕ} 0 1 = cc in absurd (omega arith)
+refused-append (x ∷ l) k n first second e = go (x .applies) e (refused-append l k n first second)
+  where
+    go : (b : Bool) → cond b (rejected (x .number) (x .first) (x .second)) (verdict l) ≡ rejected n first second
+        → (verdict l ≡ rejected n first second → verdict (l ++ k) ≡ rejected n first second)
+        → cond b (rejected (x .number) (x .first) (x .second)) (verdict (l ++ k)) ≡ rejected n first second
+    go true e rest = e
+    go false e rest = rest e
+
 pub accepted-first : (l k : List Row) → verdict (l ++ k) ≡ accepted → verdict l ≡ accepted
 unfolding verdict
 accepted-first [] k e = refl

@@ -2,7 +2,7 @@
 -- no disk)", is `hasRoom` and `idlest` (specs/Room.antt); row 15, "an end call while items remain, or a step where none remain",
 -- `lowestToCopy` and `remaining` (specs/Checkpoint.antt, specs/Restart.antt); row 16, "list longer than the allowance", `finishes`.
 use Prim.Native.Nat.{ℕ, zero, suc, _+_}
-use mathlib.Core.List.{List, []}
+use mathlib.Core.List.{List, [], _∷_}
 use mathlib.Core.Bool.{Bool, true, false, not, _&&_, _||_}
 use lib.ListN.{length, getD}
 use lib.Dec.{leb, ltb, eqb}
@@ -111,6 +111,10 @@ retained s w = retainedFrom s (startOn (w .anchor)) (w .logs)
 abbrev pub faultRow : Fault → Row
 faultRow NoFault = record { number = 7; applies = false; first = 0; second = 0 }
 faultRow (BadRecord disk p) = record { number = 7; applies = true; first = disk; second = p }
+
+-- rows 6 and 7 of all disks
+abbrev pub logRows : Sizes → (start : ℕ → ℕ) → (logs : List ℕ) → List Row
+logRows s start logs = tailRow s start logs ∷ faultRow (faultFrom s start logs (s .disks) 0) ∷ []
 
 -- 8. "page, slot or source number too large"
 unfoldable pub slotMissing : Sizes → ℕ → ℕ → Bool

@@ -22,7 +22,7 @@ use Rattle.model.specs.Scan.{scan, fateIn}
 use Rattle.model.specs.World.{World, store, write, anchor, backups, pages, each}
 use Rattle.model.specs.State.{openCore, replayingCore, withReplay, tailOf}
 use Rattle.model.specs.Refusal.{Row, row, Task}
-use Rattle.model.specs.Causes.{whenShut, whenReplaying, stageForbids, anchorWrong, unformatted, sizesWrong, lengthsWrong, tailRow, tailOn, faultFrom, faultRow, sourceMissing, spent}
+use Rattle.model.specs.Causes.{whenShut, whenReplaying, stageForbids, anchorWrong, unformatted, sizesWrong, lengthsWrong, tailOn, faultRow, logRows, sourceMissing, spent}
 use Rattle.model.specs.Abort.{xorIn}
 use Rattle.model.specs.Format.{freshMemory}
 use Rattle.model.specs.Checkpoint.{perDisk}
@@ -31,8 +31,7 @@ use Rattle.model.specs.Checkpoint.{perDisk}
 unfoldable pub imageRows : (others : Sizes → Bool) → (anchor logs : List ℕ) → List Row
 imageRows others a logs =
     let s : Sizes = sizesOn a in
-    row 2 (anchorWrong a) ∷ row 3 (unformatted a) ∷ row 4 (sizesWrong s) ∷ row 5 (others s) ∷ tailRow s (startOn a) logs
-    ∷ faultRow (faultFrom s (startOn a) logs (s .disks) 0) ∷ []
+    row 2 (anchorWrong a) ∷ row 3 (unformatted a) ∷ row 4 (sizesWrong s) ∷ row 5 (others s) ∷ logRows s (startOn a) logs
 
 -- Begin (shut): "all checks; page memory zeroed".
 unfoldable pub restartBeginRows : Core → World → List Row

@@ -5,14 +5,15 @@ use mathlib.Core.Path.{_≡_, refl, sym, _∙_}
 use mathlib.Core.List.{[]}
 use native.Mathlib.Omega.{arith}
 use native.Mathlib.Nat.{sub-zero}
+use lib.ListN.{getD}
 use borrow.Author.Needs.{needs}
 use denote.Ref.{now}
 use Rattle.model.specs.declared.Fault.the-variants.{NoFault}
 use Rattle.model.specs.Sizes.{ringOf, diskAt, tailWord, logWords}
 use Rattle.model.specs.Decode.{readLog}
 use Rattle.model.specs.Scan.{scan, faultIn}
+use Rattle.model.specs.Causes.{tailIn, faultFrom}
 use Rattle.model.proofs.Ring.{disk-within}
-use Rattle.log.specs.Reading.{faultsFrom}
 use Rattle.log.proofs.Scanning.{got-change, got-close, fault-end, fault-change, fault-close, fault-bad, faults-step, faults-done}
 use Rattle.log.proofs.scan.check_disks.Statement.{statement}
 use Rattle.log.proofs.scan.check_disks.Tie as tie
@@ -20,8 +21,8 @@ use Rattle.log.proofs.scan.check_disks.Tie as tie
 abbrev Inv-loop : tie.InvT-loop
 Inv-loop sizes logs starts disks ring none d fault₀ tail p₀ fault p =
     (fault ≡ NoFault)
-    × (faultIn d (scan sizes (readLog sizes logs d tail []) tail p) (faultsFrom sizes logs starts (disks - (d + 1)) (d + 1))
-    ≡ faultsFrom sizes logs starts disks 0)
+    × (faultIn d (scan sizes (readLog sizes logs d tail []) tail p) (faultFrom sizes (λ e. getD starts e 0) logs (disks - (d + 1)) (d + 1))
+    ≡ faultFrom sizes (λ e. getD starts e 0) logs disks 0)
 
 abbrev μ-loop : tie.MeasureT-loop
 μ-loop sizes logs starts disks ring none d fault₀ tail p₀ fault p = tail - p
@@ -29,7 +30,7 @@ abbrev μ-loop : tie.MeasureT-loop
 abbrev Inv-disks : tie.InvT-disks
 Inv-disks sizes logs starts disks ring none d₀ fault₀ d fault =
     (d ≤ disks) × (fault ≡ NoFault)
-    × (faultsFrom sizes logs starts (disks - d) d ≡ faultsFrom sizes logs starts disks 0)
+    × (faultFrom sizes (λ e. getD starts e 0) logs (disks - d) d ≡ faultFrom sizes (λ e. getD starts e 0) logs disks 0)
 
 abbrev μ-disks : tie.MeasureT-disks
 μ-disks sizes logs starts disks ring none d₀ fault₀ d fault = disks - d
@@ -62,11 +63,11 @@ loop-holds : tie.Need-loop-holds Inv-loop μ-loop Inv-disks μ-disks
 loop-holds c =
     let a = c .before .before .before .before .before .args in
     let inv = c .before .before .disks .inv in
-    let step = faults-step (a .sizes) (now (a .logs)) (a .t3) (a .sizes .disks) (c .before .before .disks .d) (c .before .disks-test .taken) in
+    let step = faults-step (a .sizes) (λ e. getD (a .t3) e 0) (now (a .logs)) (a .sizes .disks) (c .before .before .disks .d) (c .before .disks-test .taken) in
     (inv .1, rw (c .tail-of .ensures (a .sizes) refl) (sym step ∙ inv .2))
 
 decode-at-requires : tie.Need-decode-at-requires Inv-loop μ-loop Inv-disks μ-disks
-unfolding tailWord diskAt ringOf logWords
+unfolding tailIn tailWord diskAt ringOf logWords
 decode-at-requires c κs =
     let s = c .before .before .before .before .before .before .before .args .sizes in
     let d = c .before .before .before .before .disks .d in
@@ -123,7 +124,7 @@ returns : tie.Need-returns Inv-loop μ-loop Inv-disks μ-disks
 returns c =
     let a = c .before .before .before .before .args in
     let inv = c .before .disks .inv in
-    inv .1 ∙ sym (faults-done (a .sizes) (now (a .logs)) (a .t3) (a .sizes .disks) _ (c .disks-test .left)) ∙ inv .2
+    inv .1 ∙ sym (faults-done (a .sizes) (λ e. getD (a .t3) e 0) (now (a .logs)) (a .sizes .disks) _ (c .disks-test .left)) ∙ inv .2
 
 returns-2 : tie.Need-returns-2 Inv-loop μ-loop Inv-disks μ-disks
 returns-2 c =

@@ -2,6 +2,7 @@
 use mathlib.Core.Path.{refl}
 use borrow.Author.Needs.{needs}
 use Rattle.model.specs.Sizes.{diskAt, tailWord}
+use Rattle.model.specs.Causes.{tailIn}
 use Rattle.log.proofs.scan.tail_of.Statement.{statement}
 use Rattle.log.proofs.scan.tail_of.Tie as tie
 
@@ -18,7 +19,7 @@ shared-slice-read-result : tie.Need-shared-slice-read-result
 shared-slice-read-result c = search needs
 
 returns : tie.Need-returns
-unfolding tailWord diskAt
+unfolding tailIn tailWord diskAt
 returns c = λ s e. rw e refl
 
 pub tail-of-spec : {M : Type 1} → statement M
