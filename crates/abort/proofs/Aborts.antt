@@ -19,7 +19,7 @@ use Rattle.model.specs.Abort.{abortScan, updatesLeft, abortFault}
 use Rattle.model.proofs.Reading.{ending}
 use Rattle.model.proofs.Faults.{fault-end, fault-own, fault-rest}
 use Rattle.model.proofs.RingThenBuffer.{sound-as-one, parts-end}
-use Rattle.model.proofs.Growth.{tail-end}
+use Rattle.model.proofs.Growth.{tail-end, kept-le}
 use Rattle.model.proofs.Updates.{abort-words}
 use Rattle.model.proofs.Store.Rows.{sizes-sound, disk-sound}
 use Rattle.model.proofs.Store.Accepted.{small-buffers, open-entry, open-below, own-room, disks-max}
@@ -155,6 +155,6 @@ module _ (c : Core) (number : ℕ) (opened : isOpen (c .table) number ≡ true) 
           serving = scope-serves c number serves opened is;
           page-words = right;
           readable = fault-end (at .disk) sc NoFault (rw (as-one whole) at whole);
-          ring = rw (← scope-updates, scope-disk) (omega (arith, room .0, behind-start (serves .state)));
+          ring = rw (← scope-updates, scope-disk) (omega (arith, room .0, behind-start (serves .state), kept-le (c .logs) (diskOf c number)));
           in-limit = rw (← scope-updates, scope-disk) (room .1);
         }
