@@ -1,8 +1,10 @@
-// What restart begin reads: the anchor's sizes and current starts, and the tails.
+// What restart begin reads: the anchor's sizes and current starts, the tails, and what is wrong with the logs.
 use layout::anchor::read_rows;
 use layout::anchor::read_sizes;
 use layout::bounds::in_bounds;
 use layout::bounds::narrow;
+use log::scan::check_disks;
+use model::Fault;
 use model::Sizes;
 use table::room::LIMIT;
 ghost use mathlib.Core.Path.{_≡_};
@@ -10,10 +12,19 @@ ghost use mathlib.Core.Bool.{true};
 ghost use Prim.Native.Nat.{_+_, _*_, _≤_};
 ghost use lib.ListN.{length, getD};
 ghost use Rattle.model.specs.Below.{firstBelow};
-ghost use Rattle.model.specs.Sizes.{tailWord, sizesInBounds};
+ghost use Rattle.model.specs.Sizes.{logWords, sizesInBounds};
 ghost use Rattle.model.specs.Anchor.{anchorWords, sizesOn, startOn};
+ghost use Rattle.model.specs.Refusal.{verdict};
+ghost use Rattle.model.specs.Causes.{tailIn, logRows};
 ghost use Rattle.model.specs.Checkpoint.{eightBelow, perDisk};
-ghost use Rattle.replay.specs.Parts.{anchorRefusal, tailOut};
+ghost use Rattle.replay.specs.Parts.{anchorRefusal, tailOut, findingOf};
+
+// The row that applies, 0 for none, and what it returns.
+pub struct Finding {
+    pub number: u64,
+    pub first: u64,
+    pub second: u64,
+}
 
 // 2 for a wrong length, 3 for an unformatted anchor, 4 for sizes out of bounds, else 0.
 pub fn anchor_refusal(anchor: &[u64]) -> u64
@@ -73,7 +84,7 @@ pub fn current_starts(disks: u64, anchor: &[u64]) -> [u64; 8]
 // The tails, as the log disks have them.
 pub fn tails_on(sizes: Sizes, logs: &[u64]) -> [u64; 8]
     requires { ⌜ (sizes .disks ≤ 8) × (sizes .ring ≤ 65536) × (sizes .disks * (sizes .ring + 1) ≤ length (now logs)) ⌝ }
-    ensures { λ r. ⌜ r ≡ perDisk sizes (λ d. getD (now (logs .entry)) (tailWord sizes d) 0) ⌝ }
+    ensures { λ r. ⌜ r ≡ perDisk sizes (tailIn sizes (now (logs .entry))) ⌝ }
 {
     let disks = sizes.disks;
     let ring = sizes.ring;
@@ -101,7 +112,7 @@ fn tail_out(ring: u64, start: u64, tail: u64) -> bool
 }
 
 // The lowest disk whose tail is wrong, the number of disks where none is.
-pub fn wrong_tail(disks: u64, ring: u64, starts: [u64; 8], tails: [u64; 8]) -> u64
+fn wrong_tail(disks: u64, ring: u64, starts: [u64; 8], tails: [u64; 8]) -> u64
     requires { ⌜ disks ≤ 8 ⌝ }
     ensures { λ r. ⌜ r ≡ firstBelow (λ d. tailOut ring (getD starts d 0) (getD tails d 0)) disks ⌝ }
 {
@@ -113,4 +124,34 @@ pub fn wrong_tail(disks: u64, ring: u64, starts: [u64; 8], tails: [u64; 8]) -> u
         d += 1;
     }
     disks
+}
+
+// Rows 6 and 7 of logs that are read from these starts: a wrong tail, then a malformed record.
+pub fn check_logs(sizes: Sizes, starts: [u64; 8], logs: &[u64]) -> Finding
+    requires { ⌜ (sizesInBounds sizes ≡ true) × (length (now logs) ≡ logWords sizes) ⌝ }
+    ensures { λ r. ⌜ verdict (logRows sizes (λ d. getD starts d 0) (now (logs .entry))) ≡ findingOf r ⌝ }
+{
+    let disks = sizes.disks;
+    let tails = tails_on(sizes, logs);
+    let disk = wrong_tail(disks, sizes.ring, starts, tails);
+    if disk < disks {
+        return Finding {
+            number: 6,
+            first: disk,
+            second: 0,
+        };
+    }
+    let fault = check_disks(sizes, logs, starts);
+    match fault {
+        Fault::BadRecord { disk: d, position } => Finding {
+            number: 7,
+            first: d,
+            second: position,
+        },
+        Fault::NoFault => Finding {
+            number: 0,
+            first: 0,
+            second: 0,
+        },
+    }
 }

@@ -1,6 +1,6 @@
 -- What restart begin and step give once their first rows have passed.
 use mathlib.Core.Path.{_≡_}
-use mathlib.Core.List.{List, [], _∷_}
+use mathlib.Core.List.{List, [], _∷_, _++_}
 use mathlib.Core.Bool.{true}
 use Prim.Native.Nat.{ℕ, _<_}
 use lib.Dec.{eqb}
@@ -10,11 +10,11 @@ use Rattle.model.specs.declared.Core.{Core}
 use Rattle.model.specs.declared.Answer.the-variants.{Finished}
 use Rattle.model.specs.declared.Reply.{Reply}
 use Rattle.model.specs.Sizes.{total, logWords}
-use Rattle.model.specs.Anchor.{epochOn, sizesOn}
+use Rattle.model.specs.Anchor.{epochOn, sizesOn, startOn}
 use Rattle.model.specs.World.{World}
 use Rattle.model.specs.State.{sound}
 use Rattle.model.specs.Refusal.{Row, row, verdict, conclude}
-use Rattle.model.specs.Causes.{whenReplaying, tailRow, faultFrom, faultRow, sourceMissing, spent}
+use Rattle.model.specs.Causes.{whenReplaying, faultRow, logRows, sourceMissing, spent}
 use Rattle.model.specs.Restart.{restartBeginTask, remaining, stepFault, restartStepTask}
 
 -- a replaying state that a call made
@@ -37,7 +37,7 @@ finished c = record { answer = Finished 0 0; core = c }
 unfoldable pub beginRest : World → List Row
 beginRest w =
     let s : Sizes = sizesOn (w .anchor) in
-    tailRow s w ∷ faultRow (faultFrom s w (s .disks) 0) ∷ row 13 (spent (epochOn (w .anchor))) ∷ []
+    logRows s (startOn (w .anchor)) (w .logs) ++ row 13 (spent (epochOn (w .anchor))) ∷ []
 
 unfoldable pub BeginsOn : Core → World → Reply → World → Type 0
 BeginsOn c w r v =

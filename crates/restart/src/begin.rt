@@ -6,10 +6,8 @@ use frame::settle::refuse_at;
 use frame::stages::is_shut;
 use layout::bounds::lengths_right;
 use layout::places::total;
-use log::scan::check_disks;
 use model::Answer;
 use model::Core;
-use model::Fault;
 use model::Logs;
 use model::Replay;
 use model::Reply;
@@ -17,9 +15,9 @@ use model::Sizes;
 use model::Stage;
 use replay::image::anchor_refusal;
 use replay::image::anchor_sizes;
+use replay::image::check_logs;
 use replay::image::current_starts;
 use replay::image::tails_on;
-use replay::image::wrong_tail;
 use table::room::LIMIT;
 use words::fill_words;
 ghost use mathlib.Core.Path.{_≡_};
@@ -62,31 +60,24 @@ fn begin_on(core: Core, sizes: Sizes, anchor: &[u64], pages: &mut [u64], logs: &
     requires { ⌜ (sizes ≡ sizesOn (now anchor)) × (sizesInBounds sizes ≡ true) × (length (now anchor) ≡ anchorWords) × (length (now pages) ≡ total sizes) × (length (now logs) ≡ logWords sizes) ⌝ }
     ensures { λ r. ⌜ ((backups work : List ℕ) → BeginsOn core (worldOf (now (anchor .entry)) (now (pages .entry)) backups (now (logs .entry)) work) r (worldOf (now (anchor .entry)) (now (pages .exit)) backups (now (logs .entry)) work)) ⌝ }
 {
-    let disks = sizes.disks;
-    let starts = current_starts(disks, anchor);
-    let tails = tails_on(sizes, logs);
-    let disk = wrong_tail(disks, sizes.ring, starts, tails);
-    if disk < disks {
-        return refuse_at(core, 6, disk, 0);
+    let starts = current_starts(sizes.disks, anchor);
+    let found = check_logs(sizes, starts, logs);
+    if found.number != 0 {
+        return refuse_at(core, found.number, found.first, found.second);
     }
-    let fault = check_disks(sizes, logs, starts);
-    match fault {
-        Fault::BadRecord { disk: d, position } => refuse_at(core, 7, d, position),
-        Fault::NoFault => {
-            let epoch = anchor[3];
-            if epoch >= LIMIT {
-                return refuse(core, 13);
-            }
-            let words = total(sizes) as usize;
-            fill_words(pages, 0, words, 0);
-            Reply {
-                answer: Answer::Finished {
-                    stores: 0,
-                    value: 0,
-                },
-                core: replaying_core(sizes, epoch, starts, tails),
-            }
-        }
+    let epoch = anchor[3];
+    if epoch >= LIMIT {
+        return refuse(core, 13);
+    }
+    let tails = tails_on(sizes, logs);
+    let words = total(sizes) as usize;
+    fill_words(pages, 0, words, 0);
+    Reply {
+        answer: Answer::Finished {
+            stores: 0,
+            value: 0,
+        },
+        core: replaying_core(sizes, epoch, starts, tails),
     }
 }
 

@@ -5,6 +5,7 @@ use lib.ListN.{getD}
 use native.Mathlib.Omega.{arith}
 use borrow.Author.Needs.{needs}
 use Rattle.model.specs.Sizes.{ringOf, diskAt, tailWord, logWords}
+use Rattle.model.specs.Causes.{tailIn}
 use Rattle.model.specs.Checkpoint.{eightBelow}
 use Rattle.model.proofs.PerDisk.{eight-none, eight-more, eight-per-disk}
 use Rattle.model.proofs.Ring.{disk-within}
@@ -58,7 +59,7 @@ loop-again : tie.Need-loop-again Inv-loop μ-loop
 loop-again c = (omega arith, rw (c .before .before .loop .inv .1) (eight-more _ _ _ (omega arith) refl))
 
 returns : tie.Need-returns Inv-loop μ-loop
-unfolding tailWord diskAt
+unfolding tailIn tailWord diskAt
 returns c = c .before .loop .inv .1 ∙ eight-per-disk (c .before .before .args .sizes) _ _ (omega arith)
 
 pub tails-on-spec : {M : Type 1} → statement M
