@@ -8,12 +8,9 @@ use borrow.Author.Needs.{needs}
 use Rattle.store.proofs.new_state.Statement.{statement}
 use Rattle.store.proofs.new_state.Tie as tie
 
-new-core-requires : tie.Need-new-core-requires
-new-core-requires c κs = search needs
-
 returns : tie.Need-returns
 unfolding Gives resultOf verdict newCore sound run made finishes covered perform stores
 returns c = (λ s w. rw (c .new-core .ensures) refl, rw (c .new-core .ensures) refl)
 
 pub new-state-spec : {M : Type 1} → statement M
-new-state-spec = tie.close (tie.spec new-core-requires returns)
+new-state-spec = tie.close (tie.spec (λ c κs. search needs) returns)

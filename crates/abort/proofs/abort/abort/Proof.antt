@@ -11,27 +11,15 @@ use borrow.Author.Needs.{needs}
 use Rattle.abort.proofs.abort.abort.Statement.{statement}
 use Rattle.abort.proofs.abort.abort.Tie as tie
 
-is-serving-requires : tie.Need-is-serving-requires
-is-serving-requires c κs = search needs
-
 first-refusal-requires : tie.Need-first-refusal-requires
 first-refusal-requires c κs =
     let args = c .before .before .before .before .before .before .before .before .before .args in
     λ e. serving-not-shut (args .core .stage) (sym (c .before .before .before .is-serving .ensures) ∙ e)
 
-refuse-requires : tie.Need-refuse-requires
-refuse-requires c κs = search needs
-
 returns : tie.Need-returns
 returns c =
     let checked = c .before .before in
     given-first _ _ _ _ (checked .before .before .before .before .is-serving .ensures) (checked .first-refusal .ensures) (c .before .if1 .taken) (c .refuse .ensures)
-
-is-open-requires : tie.Need-is-open-requires
-is-open-requires c κs = search needs
-
-refuse-requires-2 : tie.Need-refuse-requires-2
-refuse-requires-2 c κs = search needs
 
 returns-2 : tie.Need-returns-2
 returns-2 c =
@@ -49,27 +37,12 @@ fault-of-requires c κs =
       sym (opened .is-open .ensures) ∙ not-false _ (c .before .before .if2 .left),
     )
 
-enum-known-fault : tie.Need-enum-known-fault
-enum-known-fault c = search needs
-
-refuse-at-requires : tie.Need-refuse-at-requires
-refuse-at-requires c κs = search needs
-
-same-length : tie.Need-same-length
-same-length c = search needs
-
-same-length-2 : tie.Need-same-length-2
-same-length-2 c = search needs
-
 returns-3 : tie.Need-returns-3
 returns-3 c =
     let read = c .before .before .before .before in
     let checked = read .before .before .before .before .before .before in
     given-fault _ _ _ _ (checked .before .before .before .before .is-serving .ensures) (checked .first-refusal .ensures) (omega (arith, read .before .before .before .before .before .if1 .left))
     (sym (read .fault-of .ensures _ _ _) ∙ c .before .before .fault .given .1) (c .refuse-at .ensures)
-
-enum-told : tie.Need-enum-told
-enum-told c = search needs
 
 roll-back-requires : tie.Need-roll-back-requires
 roll-back-requires c κs =
@@ -87,21 +60,6 @@ roll-back-requires c κs =
       sym (read .fault-of .ensures [] _ []) ∙ c .before .before .before .before .before .enum-told .given .1,
     )
 
-without-requires : tie.Need-without-requires
-without-requires c κs = search needs
-
-settle-requires : tie.Need-settle-requires
-settle-requires c κs = search needs
-
-same-length-3 : tie.Need-same-length-3
-same-length-3 c = search needs
-
-same-length-4 : tie.Need-same-length-4
-same-length-4 c = search needs
-
-same-length-5 : tie.Need-same-length-5
-same-length-5 c = search needs
-
 returns-4 : tie.Need-returns-4
 unfolding withLog
 returns-4 c =
@@ -114,56 +72,35 @@ returns-4 c =
     (sym (read .fault-of .ensures _ _ _) ∙ worked .before .before .before .before .before .before .enum-told .given .1)
     (worked .roll-back .ensures _ _) (c .before .before .before .before .without .ensures) (c .settle .ensures)
 
-same-length-6 : tie.Need-same-length-6
-same-length-6 c = search needs
-
-same-length-7 : tie.Need-same-length-7
-same-length-7 c = search needs
-
-same-length-8 : tie.Need-same-length-8
-same-length-8 c = search needs
-
-same-length-9 : tie.Need-same-length-9
-same-length-9 c = search needs
-
-same-length-10 : tie.Need-same-length-10
-same-length-10 c = search needs
-
-same-length-11 : tie.Need-same-length-11
-same-length-11 c = search needs
-
-same-length-12 : tie.Need-same-length-12
-same-length-12 c = search needs
-
 pub abort-spec : {M : Type 1} → statement M
 abort-spec =
     tie.close
     (tie.spec
-    is-serving-requires
+    (λ c κs. search needs)
     first-refusal-requires
-    refuse-requires
-    same-length
-    same-length-2
-    same-length-3
+    (λ c κs. search needs)
+    (λ c. search needs)
+    (λ c. search needs)
+    (λ c. search needs)
     returns
-    is-open-requires
-    refuse-requires-2
-    same-length-4
-    same-length-5
-    same-length-6
+    (λ c κs. search needs)
+    (λ c κs. search needs)
+    (λ c. search needs)
+    (λ c. search needs)
+    (λ c. search needs)
     returns-2
     fault-of-requires
-    enum-known-fault
-    refuse-at-requires
-    same-length-7
-    same-length-8
-    same-length-9
+    (λ c. search needs)
+    (λ c κs. search needs)
+    (λ c. search needs)
+    (λ c. search needs)
+    (λ c. search needs)
     returns-3
-    enum-told
+    (λ c. search needs)
     roll-back-requires
-    without-requires
-    settle-requires
-    same-length-10
-    same-length-11
-    same-length-12
+    (λ c κs. search needs)
+    (λ c κs. search needs)
+    (λ c. search needs)
+    (λ c. search needs)
+    (λ c. search needs)
     returns-4)

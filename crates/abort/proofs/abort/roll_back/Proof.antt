@@ -25,15 +25,6 @@ undo-all-requires c κs =
     let scope-of = c .before .before .before .before .before .before .scope-of in
     scope-undoable _ _ (pre .0 .1) (scope-of .ensures) (worldOf [] (args .pages .now) [] (args .logs .now) (args .work .now)) (pre .1) (pre .0 .0) (pre .0 .2)
 
-same-length : tie.Need-same-length
-same-length c = search needs
-
-same-length-2 : tie.Need-same-length-2
-same-length-2 c = search needs
-
-same-length-3 : tie.Need-same-length-3
-same-length-3 c = search needs
-
 returns : tie.Need-returns
 returns c =
     let pre = c .before .before .before .before .before .before .before .before .before .before .before .before .before .before .before .before .before .before .before .pre in
@@ -49,15 +40,6 @@ log-close-requires c κs =
     let w = worldOf [] (start .args .pages .now) [] (start .args .logs .now) (start .args .work .now) in
     let ok = scope-undoable _ _ (start .pre .0 .1) (scope-of .ensures) w (start .pre .1) (start .pre .0 .0) (start .pre .0 .2) in
     undone-serves _ _ w _ _ _ ok (sized start) (undo-all .ensures [] []) (not-false _ (c .before .before .before .before .if1 .left))
-
-same-length-4 : tie.Need-same-length-4
-same-length-4 c = search needs
-
-same-length-5 : tie.Need-same-length-5
-same-length-5 c = search needs
-
-same-length-6 : tie.Need-same-length-6
-same-length-6 c = search needs
 
 returns-2 : tie.Need-returns-2
 returns-2 c =
@@ -76,12 +58,12 @@ roll-back-spec =
     (tie.spec
     scope-of-requires
     undo-all-requires
-    same-length
-    same-length-2
-    same-length-3
+    (λ c. search needs)
+    (λ c. search needs)
+    (λ c. search needs)
     returns
     log-close-requires
-    same-length-4
-    same-length-5
-    same-length-6
+    (λ c. search needs)
+    (λ c. search needs)
+    (λ c. search needs)
     returns-2)

@@ -23,9 +23,6 @@ loop-holds c = (omega arith, refl)
 add-read-word : tie.Need-add-read-word Inv-loop μ-loop
 add-read-word c = omega arith
 
-read-word-requires : tie.Need-read-word-requires Inv-loop μ-loop
-read-word-requires c κs = search needs
-
 mul-out : tie.Need-mul-out Inv-loop μ-loop
 mul-out c = omega arith
 
@@ -63,7 +60,7 @@ copy-words-of-log-spec =
     μ-loop
     loop-holds
     add-read-word
-    read-word-requires
+    (λ c κs. search needs)
     mul-out
     slice-write-out
     add-i

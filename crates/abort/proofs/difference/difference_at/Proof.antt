@@ -10,9 +10,6 @@ use Rattle.abort.proofs.difference.difference_at.Tie as tie
 window-of-requires : tie.Need-window-of-requires
 window-of-requires c κs = asked (c .before .before .pre .0)
 
-slice-aggregate-copy-words-of-log : tie.Need-slice-aggregate-copy-words-of-log
-slice-aggregate-copy-words-of-log c = search needs
-
 mul-copy-words-of-log : tie.Need-mul-copy-words-of-log
 mul-copy-words-of-log c =
     let pre = c .before .before .before .before .pre in
@@ -33,9 +30,6 @@ part-copy-words-of-log-end c =
     let pre = c .before .before .before .before .pre in
     lies (pre .0) (c .before .window-of .ensures) .inside
 
-add-copy-words-of-log : tie.Need-add-copy-words-of-log
-add-copy-words-of-log c = search needs
-
 copy-words-of-log-requires : tie.Need-copy-words-of-log-requires
 copy-words-of-log-requires c κs =
     let pre = c .before .before .before .before .before .pre in
@@ -54,11 +48,11 @@ difference-at-spec =
     tie.close
     (tie.spec
     window-of-requires
-    slice-aggregate-copy-words-of-log
+    (λ c. search needs)
     mul-copy-words-of-log
     sub-copy-words-of-log
     part-copy-words-of-log-start
     part-copy-words-of-log-end
-    add-copy-words-of-log
+    (λ c. search needs)
     copy-words-of-log-requires
     returns)

@@ -17,12 +17,6 @@ advanced-requires c κs =
     let pre = c .before .before .before .before .before .before .before .before .before .before .before .pre in
     small (pre) .below
 
-same-length : tie.Need-same-length
-same-length c = search needs
-
-same-length-2 : tie.Need-same-length-2
-same-length-2 c = search needs
-
 returns : tie.Need-returns
 returns c =
     let pre = c .before .before .before .before .before .before .before .before .before .before .before .before .pre in
@@ -37,6 +31,6 @@ log-close-spec =
     window-of-requires
     append-close-requires
     advanced-requires
-    same-length
-    same-length-2
+    (λ c. search needs)
+    (λ c. search needs)
     returns)

@@ -25,12 +25,6 @@ advanced-requires c κs =
     let at-window-of = c .before .before .before .before .before .before .before .before .before .before in
     small (at-window-of .before .before .before .before .pre .0) .below
 
-same-length : tie.Need-same-length
-same-length c = search needs
-
-same-length-2 : tie.Need-same-length-2
-same-length-2 c = search needs
-
 returns : tie.Need-returns
 returns c =
     let at-append-change = c .before .before .before .before .before in
@@ -49,6 +43,6 @@ log-compensation-spec =
     page-copy-requires
     append-change-requires
     advanced-requires
-    same-length
-    same-length-2
+    (λ c. search needs)
+    (λ c. search needs)
     returns)

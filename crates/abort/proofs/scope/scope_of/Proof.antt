@@ -8,27 +8,6 @@ use borrow.Author.Needs.{needs}
 use Rattle.abort.proofs.scope.scope_of.Statement.{statement}
 use Rattle.abort.proofs.scope.scope_of.Tie as tie
 
-place-of-requires : tie.Need-place-of-requires
-place-of-requires c κs = search needs
-
-mul-disk : tie.Need-mul-disk
-mul-disk c = search needs
-
-element-copy-out-disk : tie.Need-element-copy-out-disk
-element-copy-out-disk c = search needs
-
-mul-first : tie.Need-mul-first
-mul-first c = search needs
-
-element-copy-out-first : tie.Need-element-copy-out-first
-element-copy-out-first c = search needs
-
-mul-words : tie.Need-mul-words
-mul-words c = search needs
-
-element-copy-out-words : tie.Need-element-copy-out-words
-element-copy-out-words c = search needs
-
 sub-words : tie.Need-sub-words
 unfolding reservedAt
 sub-words c =
@@ -68,9 +47,6 @@ add-end c =
     let place-of = c .before .before .before .before .before .place-of in
     rw (place-of .ensures) (omega (arith, pre .1 .1))
 
-has-update-requires : tie.Need-has-update-requires
-has-update-requires c κs = search needs
-
 returns : tie.Need-returns
 unfolding scopeOf diskOf diskAtPlace endOf tailOf fillOf firstAt reservedAt
 returns c =
@@ -87,19 +63,19 @@ pub scope-of-spec : {M : Type 1} → statement M
 scope-of-spec =
     tie.close
     (tie.spec
-    place-of-requires
-    mul-disk
-    element-copy-out-disk
-    mul-first
-    element-copy-out-first
-    mul-words
-    element-copy-out-words
+    (λ c κs. search needs)
+    (λ c. search needs)
+    (λ c. search needs)
+    (λ c. search needs)
+    (λ c. search needs)
+    (λ c. search needs)
+    (λ c. search needs)
     sub-words
     mul-end
     element-copy-out-end
     mul-end-2
     element-copy-out-end-2
     add-end
-    has-update-requires
+    (λ c κs. search needs)
     returns
     returns-2)

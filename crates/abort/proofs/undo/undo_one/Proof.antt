@@ -31,12 +31,6 @@ log-compensation-requires c κs =
     let difference-at = c .before .before .before .before .difference-at in
     (pre .serving, rw (lent-difference _ _ _ _ (difference-at .ensures)) (pre .slotted))
 
-same-length : tie.Need-same-length
-same-length c = search needs
-
-same-length-2 : tie.Need-same-length-2
-same-length-2 c = search needs
-
 returns : tie.Need-returns
 unfolding updateAt
 returns c =
@@ -49,9 +43,6 @@ slot-base-requires c κs =
     let pre = c .before .before .before .before .before .before .before .before .before .before .before .before .before .before .before .before .before .pre in
     low-slot (pre .serving) (pre .slotted)
 
-slice-aggregate-xor-in : tie.Need-slice-aggregate-xor-in
-slice-aggregate-xor-in c = search needs
-
 xor-in-requires : tie.Need-xor-in-requires
 xor-in-requires c κs =
     let pre = c .before .before .before .before .before .before .before .before .before .before .before .before .before .before .before .before .before .before .before .before .pre in
@@ -59,15 +50,6 @@ xor-in-requires c κs =
     let n = slim (pre .serving) s in
     let fits = slot-end-total _ _ _ (s .page-in) (s .slot-in) in
     (omega (arith, fits, s .width-is, c .before .before .slot-base .ensures .0, pre .page-words), omega arith)
-
-same-length-3 : tie.Need-same-length-3
-same-length-3 c = search needs
-
-same-length-4 : tie.Need-same-length-4
-same-length-4 c = search needs
-
-same-length-5 : tie.Need-same-length-5
-same-length-5 c = search needs
 
 returns-2 : tie.Need-returns-2
 unfolding updateAt part
@@ -86,13 +68,13 @@ undo-one-spec =
     array-share-prefix-words
     slice-aggregate-log-compensation
     log-compensation-requires
-    same-length
-    same-length-2
+    (λ c. search needs)
+    (λ c. search needs)
     returns
     slot-base-requires
-    slice-aggregate-xor-in
+    (λ c. search needs)
     xor-in-requires
-    same-length-3
-    same-length-4
-    same-length-5
+    (λ c. search needs)
+    (λ c. search needs)
+    (λ c. search needs)
     returns-2)

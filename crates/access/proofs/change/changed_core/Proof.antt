@@ -16,9 +16,6 @@ with-disk-requires c κs =
     let x = c .args in
     omega (arith, disk-there (x .core) (diskOf (x .core) (x .number)) (c .pre .2), open-below (x .core) (x .number) (c .pre .0) (c .pre .1), disks-max (x .core) (c .pre .0))
 
-add-updated-table : tie.Need-add-updated-table
-add-updated-table c = search needs
-
 updated-table-requires : tie.Need-updated-table-requires
 updated-table-requires c κs =
     let x = c .before .args in
@@ -37,4 +34,4 @@ returns c =
     rw (c .before .before .before .before .with-disk .ensures, grown-updated (x .core) (x .number) (ok .0) (ok .1) (3 + x .width) (ok .2) (c .before .before .before .updated-table .ensures), disk-there (x .core) (diskOf (x .core) (x .number)) (ok .2)) refl
 
 pub changed-core-spec : {M : Type 1} → statement M
-changed-core-spec = tie.close (tie.spec with-disk-requires add-updated-table updated-table-requires returns)
+changed-core-spec = tie.close (tie.spec with-disk-requires (λ c. search needs) updated-table-requires returns)

@@ -6,27 +6,12 @@ use borrow.Author.Needs.{needs}
 use Rattle.access.proofs.change.log_change.Statement.{statement}
 use Rattle.access.proofs.change.log_change.Tie as tie
 
-slice-aggregate-difference : tie.Need-slice-aggregate-difference
-slice-aggregate-difference c = search needs
-
-difference-requires : tie.Need-difference-requires
-difference-requires c κs = search needs
-
-array-share-prefix-diff : tie.Need-array-share-prefix-diff
-array-share-prefix-diff c = search needs
-
 slice-aggregate-append-change : tie.Need-slice-aggregate-append-change
 slice-aggregate-append-change c = sym (ap length (difference-taken (c .before .before .before .before .before .before .before .before .before .before .args .at) (c .before .before .before .before .before .before .before .before .before .before .args .value .now) (c .before .before .before .before .before .before .before .before .before .before .args .pages .now) (c .before .before .before .before .before .before .before .before .before .before .pre .2) (c .before .before .before .before .before .before .before .before .before .before .pre .1 .width-small) (c .before .before .before .before .difference .ensures .0)) ∙ difference-length (c .before .before .before .before .before .before .before .before .before .before .args .at) (c .before .before .before .before .before .before .before .before .before .before .args .value .now) (c .before .before .before .before .before .before .before .before .before .before .args .pages .now) (c .before .before .before .before .before .before .before .before .before .before .pre .2))
 
 append-change-requires : tie.Need-append-change-requires
 append-change-requires c κs =
     (c .before .before .before .before .before .before .before .before .before .before .before .pre .0, rw (difference-taken (c .before .before .before .before .before .before .before .before .before .before .before .args .at) (c .before .before .before .before .before .before .before .before .before .before .before .args .value .now) (c .before .before .before .before .before .before .before .before .before .before .before .args .pages .now) (c .before .before .before .before .before .before .before .before .before .before .before .pre .2) (c .before .before .before .before .before .before .before .before .before .before .before .pre .1 .width-small) (c .before .before .before .before .before .difference .ensures .0), difference-length (c .before .before .before .before .before .before .before .before .before .before .before .args .at) (c .before .before .before .before .before .before .before .before .before .before .before .args .value .now) (c .before .before .before .before .before .before .before .before .before .before .before .args .pages .now) (c .before .before .before .before .before .before .before .before .before .before .before .pre .2)) (c .before .before .before .before .before .before .before .before .before .before .before .pre .1))
-
-same-length : tie.Need-same-length
-same-length c = search needs
-
-same-length-2 : tie.Need-same-length-2
-same-length-2 c = search needs
 
 returns : tie.Need-returns
 returns c =
@@ -38,11 +23,11 @@ pub log-change-spec : {M : Type 1} → statement M
 log-change-spec =
     tie.close
     (tie.spec
-    slice-aggregate-difference
-    difference-requires
-    array-share-prefix-diff
+    (λ c. search needs)
+    (λ c κs. search needs)
+    (λ c. search needs)
     slice-aggregate-append-change
     append-change-requires
-    same-length
-    same-length-2
+    (λ c. search needs)
+    (λ c. search needs)
     returns)

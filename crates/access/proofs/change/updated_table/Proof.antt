@@ -8,9 +8,6 @@ use borrow.Author.Needs.{needs}
 use Rattle.access.proofs.change.updated_table.Statement.{statement}
 use Rattle.access.proofs.change.updated_table.Tie as tie
 
-place-of-requires : tie.Need-place-of-requires
-place-of-requires c κs = search needs
-
 mul-reserved : tie.Need-mul-reserved
 mul-reserved c =
     let at : c .place-of .result < 16 = omega (arith, c .place-of .ensures) in
@@ -31,12 +28,6 @@ element-copy-out-first-position c =
     let at : c .before .place-of .result < 16 = omega (arith, c .before .place-of .ensures) in
     search (needs, at)
 
-add-first-position : tie.Need-add-first-position
-add-first-position c = search needs
-
-first-position-requires : tie.Need-first-position-requires
-first-position-requires c κs = search needs
-
 add-put-place : tie.Need-add-put-place
 unfolding reservedAt
 add-put-place c = record { fits = rw (c .before .before .before .before .place-of .ensures) (omega arith) }
@@ -52,13 +43,13 @@ pub updated-table-spec : {M : Type 1} → statement M
 updated-table-spec =
     tie.close
     (tie.spec
-    place-of-requires
+    (λ c κs. search needs)
     mul-reserved
     element-copy-out-reserved
     mul-first-position
     element-copy-out-first-position
-    add-first-position
-    first-position-requires
+    (λ c. search needs)
+    (λ c κs. search needs)
     add-put-place
     put-place-requires
     returns)

@@ -10,18 +10,6 @@ use borrow.Author.Needs.{needs}
 use Rattle.access.proofs.read.read.Statement.{statement}
 use Rattle.access.proofs.read.read.Tie as tie
 
-read-refusal-requires : tie.Need-read-refusal-requires
-read-refusal-requires c κs = search needs
-
-sub-result : tie.Need-sub-result
-sub-result c = search needs
-
-part-result-start : tie.Need-part-result-start
-part-result-start c = search needs
-
-part-result-end : tie.Need-part-result-end
-part-result-end c = search needs
-
 returns : tie.Need-returns
 unfolding readWords slotWords
 returns c = rw (c .before .before .read-refusal .ensures, ne-eqb (c .before .before .read-refusal .result) 0 (c .before .if1 .taken)) refl
@@ -44,10 +32,10 @@ pub read-spec : {M : Type 1} → statement M
 read-spec =
     tie.close
     (tie.spec
-    read-refusal-requires
-    sub-result
-    part-result-start
-    part-result-end
+    (λ c κs. search needs)
+    (λ c. search needs)
+    (λ c. search needs)
+    (λ c. search needs)
     returns
     slot-part-requires
     returns-2)

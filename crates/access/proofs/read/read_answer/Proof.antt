@@ -9,9 +9,6 @@ use borrow.Author.Needs.{needs}
 use Rattle.access.proofs.read.read_answer.Statement.{statement}
 use Rattle.access.proofs.read.read_answer.Tie as tie
 
-read-refusal-requires : tie.Need-read-refusal-requires
-read-refusal-requires c κs = search needs
-
 returns : tie.Need-returns
 returns c =
     let x = c .before .before .before .before .before .before .before .args in
@@ -29,4 +26,4 @@ returns-2 c =
     (task-storeless (lookTask (x .core)) w refl)
 
 pub read-answer-spec : {M : Type 1} → statement M
-read-answer-spec = tie.close (tie.spec read-refusal-requires returns returns-2)
+read-answer-spec = tie.close (tie.spec (λ c κs. search needs) returns returns-2)

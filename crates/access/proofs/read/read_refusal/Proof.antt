@@ -13,9 +13,6 @@ use borrow.Author.Needs.{needs}
 use Rattle.access.proofs.read.read_refusal.Statement.{statement}
 use Rattle.access.proofs.read.read_refusal.Tie as tie
 
-is-serving-requires : tie.Need-is-serving-requires
-is-serving-requires c κs = search needs
-
 first-refusal-requires : tie.Need-first-refusal-requires
 first-refusal-requires c κs = λ e. serving-not-shut (c .before .before .before .before .before .before .args .core .stage) (sym (c .is-serving .ensures) ∙ e)
 
@@ -38,9 +35,6 @@ returns-2 c =
     let w = (worldOf (x .anchor .now) (x .pages .now) (x .backups .now) (x .logs .now) (x .work .now)) in
     read-missing (x .core) w (x .reader) (x .page) (x .slot) (c .before .before .before .before .is-serving .ensures) (c .before .before .before .first-refusal .ensures) (omega (arith, c .before .before .if1 .left))
     (sym (c .before .slot-missing .ensures) ∙ c .if2 .taken)
-
-reader-missing-requires : tie.Need-reader-missing-requires
-reader-missing-requires c κs = search needs
 
 returns-3 : tie.Need-returns-3
 returns-3 c =
@@ -79,12 +73,12 @@ pub read-refusal-spec : {M : Type 1} → statement M
 read-refusal-spec =
     tie.close
     (tie.spec
-    is-serving-requires
+    (λ c κs. search needs)
     first-refusal-requires
     returns
     slot-missing-requires
     returns-2
-    reader-missing-requires
+    (λ c κs. search needs)
     returns-3
     is-locked-requires
     returns-4

@@ -7,18 +7,6 @@ use borrow.Author.Needs.{needs}
 use Rattle.access.proofs.slots.is_locked.Statement.{statement}
 use Rattle.access.proofs.slots.is_locked.Tie as tie
 
-slot-base-requires : tie.Need-slot-base-requires
-slot-base-requires c κs = search needs
-
-mul-owner : tie.Need-mul-owner
-mul-owner c = search needs
-
-shared-slice-read-owner : tie.Need-shared-slice-read-owner
-shared-slice-read-owner c = search needs
-
-is-open-requires : tie.Need-is-open-requires
-is-open-requires c κs = search needs
-
 returns : tie.Need-returns
 unfolding ownerOf ownerAt isOpen
 returns c = rw (← c .before .before .before .slot-base .ensures .0, ← c .before .is-open .ensures, not-true (c .before .is-open .result) (c .if1 .taken)) refl
@@ -31,9 +19,9 @@ pub is-locked-spec : {M : Type 1} → statement M
 is-locked-spec =
     tie.close
     (tie.spec
-    slot-base-requires
-    mul-owner
-    shared-slice-read-owner
-    is-open-requires
+    (λ c κs. search needs)
+    (λ c. search needs)
+    (λ c. search needs)
+    (λ c κs. search needs)
     returns
     returns-2)

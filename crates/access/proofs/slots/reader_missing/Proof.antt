@@ -8,11 +8,8 @@ use Rattle.access.proofs.slots.reader_missing.Tie as tie
 returns : tie.Need-returns
 returns c = rw (eq-eqb _ _ (c .if1 .taken)) refl
 
-is-open-requires : tie.Need-is-open-requires
-is-open-requires c κs = search needs
-
 returns-2 : tie.Need-returns-2
 returns-2 c = rw (ne-eqb _ _ (c .before .if1 .left), c .is-open .ensures) refl
 
 pub reader-missing-spec : {M : Type 1} → statement M
-reader-missing-spec = tie.close (tie.spec returns is-open-requires returns-2)
+reader-missing-spec = tie.close (tie.spec returns (λ c κs. search needs) returns-2)

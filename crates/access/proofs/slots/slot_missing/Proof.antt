@@ -11,15 +11,9 @@ returns : tie.Need-returns
 unfolding slotMissing slotsIn
 returns c = rw (le-leb _ _ (c .if1 .taken)) refl
 
-array-read-word-of : tie.Need-array-read-word-of
-array-read-word-of c = search needs
-
-word-of-requires : tie.Need-word-of-requires
-word-of-requires c κs = search needs
-
 returns-2 : tie.Need-returns-2
 unfolding slotMissing slotsIn
 returns-2 c = rw (lt-leb _ _ (c .before .before .if1 .left), ← c .word-of .ensures .0) refl
 
 pub slot-missing-spec : {M : Type 1} → statement M
-slot-missing-spec = tie.close (tie.spec returns array-read-word-of word-of-requires returns-2)
+slot-missing-spec = tie.close (tie.spec returns (λ c. search needs) (λ c κs. search needs) returns-2)

@@ -11,9 +11,6 @@ use borrow.Author.Needs.{needs}
 use Rattle.access.proofs.update.has_update_room.Statement.{statement}
 use Rattle.access.proofs.update.has_update_room.Tie as tie
 
-place-of-requires : tie.Need-place-of-requires
-place-of-requires c κs = search needs
-
 mul-disk : tie.Need-mul-disk
 mul-disk c =
     let x = c .before .before .args in
@@ -27,15 +24,6 @@ element-copy-out-disk c =
     let ok = c .before .before .pre in
     let at : c .place-of .result < 16 = omega (arith, c .place-of .ensures, open-entry (x .core) (x .number) (ok .0) (ok .1) .at) in
     search (needs, at)
-
-slot-width-requires : tie.Need-slot-width-requires
-slot-width-requires c κs = search needs
-
-add-has-room : tie.Need-add-has-room
-add-has-room c = search needs
-
-mul-has-room : tie.Need-mul-has-room
-mul-has-room c = search needs
 
 has-room-requires : tie.Need-has-room-requires
 unfolding diskOf diskAtPlace
@@ -55,11 +43,11 @@ pub has-update-room-spec : {M : Type 1} → statement M
 has-update-room-spec =
     tie.close
     (tie.spec
-    place-of-requires
+    (λ c κs. search needs)
     mul-disk
     element-copy-out-disk
-    slot-width-requires
-    add-has-room
-    mul-has-room
+    (λ c κs. search needs)
+    (λ c. search needs)
+    (λ c. search needs)
     has-room-requires
     returns)

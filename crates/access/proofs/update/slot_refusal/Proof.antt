@@ -23,9 +23,6 @@ returns c = λ w same.
     slot-verdict (x .core) w (x .number) (x .page) (x .slot) (x .value .now)
     (sym (c .before .slot-missing .ensures) ∙ c .if1 .taken) refl refl refl refl
 
-is-open-requires : tie.Need-is-open-requires
-is-open-requires c κs = search needs
-
 returns-2 : tie.Need-returns-2
 unfolding verdict
 returns-2 c = λ w same.
@@ -91,7 +88,7 @@ slot-refusal-spec =
     (tie.spec
     slot-missing-requires
     returns
-    is-open-requires
+    (λ c κs. search needs)
     returns-2
     slot-width-requires
     returns-3

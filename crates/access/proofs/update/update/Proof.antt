@@ -18,14 +18,8 @@ use borrow.Author.Needs.{needs}
 use Rattle.access.proofs.update.update.Statement.{statement}
 use Rattle.access.proofs.update.update.Tie as tie
 
-is-serving-requires : tie.Need-is-serving-requires
-is-serving-requires c κs = search needs
-
 first-refusal-requires : tie.Need-first-refusal-requires
 first-refusal-requires c κs = λ e. serving-not-shut (c .before .before .before .before .before .before .before .before .before .before .args .core .stage) (sym (c .before .before .before .is-serving .ensures) ∙ e)
-
-refuse-requires : tie.Need-refuse-requires
-refuse-requires c κs = search needs
 
 returns : tie.Need-returns
 returns c =
@@ -41,9 +35,6 @@ slot-refusal-requires c κs =
     let w = worldOf (x .anchor .now) (x .pages .now) (x .backups .now) (x .logs .now) (x .work .now) in
     let serves = serves-passed (x .core) w (first-passed whenServing (x .core) w (c .before .before .before .before .before .before .is-serving .ensures) (c .before .before .first-refusal .ensures) (omega (arith, c .before .if1 .left))) in
     (serves .state, serves .work-words)
-
-refuse-requires-2 : tie.Need-refuse-requires-2
-refuse-requires-2 c κs = search needs
 
 returns-2 : tie.Need-returns-2
 returns-2 c =
@@ -86,9 +77,6 @@ log-and-set-requires c κs =
       rw at (changes-owner ok),
     )
 
-settle-requires : tie.Need-settle-requires
-settle-requires c κs = search needs
-
 returns-3 : tie.Need-returns-3
 returns-3 c =
     let x = c .before .before .before .before .before .before .before .before .before .before .before .before .before .before .before .before .before .before .before .before .before .before .before .before .before .before .before .before .before .before .before .before .before .before .args in
@@ -108,9 +96,6 @@ changed-core-requires c κs =
     let ok = update-taken (x .core) w (x .number) (x .page) (x .slot) (x .value .now) (update-accepted (x .core) w (x .number) (x .page) (x .slot) (x .value .now) (c .before .before .before .before .before .before .before .before .before .before .before .before .before .before .before .before .before .before .before .before .before .before .before .before .before .before .is-serving .ensures) (c .before .before .before .before .before .before .before .before .before .before .before .before .before .before .before .before .before .before .before .before .before .before .first-refusal .ensures) (omega (arith, c .before .before .before .before .before .before .before .before .before .before .before .before .before .before .before .before .before .before .before .before .before .if1 .left)) (c .before .before .before .before .before .before .before .before .before .before .before .before .before .before .before .before .before .before .before .slot-refusal .ensures w refl) (c .before .before .before .before .before .before .before .before .before .before .before .before .before .before .before .before .before .before .if2 .left)) in
     (ok .serves .state, ok .opened, c .before .before .before .before .before .before .before .before .before .before .before .before .before .before .before .before .home-of-transaction .ensures .0, omega (arith, changes-slot ok .width-max, ok .width))
 
-settle-requires-2 : tie.Need-settle-requires-2
-settle-requires-2 c κs = search needs
-
 returns-4 : tie.Need-returns-4
 returns-4 c =
     let x = c .before .before .before .before .before .before .before .before .before .before .before .before .before .before .before .before .before .before .before .before .before .before .before .before .before .before .before .before .before .before .before .before .before .before .before .args in
@@ -123,71 +108,35 @@ returns-4 c =
     (c .before .before .before .before .before .before .before .before .before .before .log-and-set .ensures (x .core .sizes) (x .core .logs) w (lent-there (x .core) (diskOf (x .core) (x .number)) home w refl refl) refl)
     (rw (whole, ← c .before .changed-core .ensures) (c .settle2 .ensures)))
 
-same-length : tie.Need-same-length
-same-length c = search needs
-
-same-length-2 : tie.Need-same-length-2
-same-length-2 c = search needs
-
-same-length-3 : tie.Need-same-length-3
-same-length-3 c = search needs
-
-same-length-4 : tie.Need-same-length-4
-same-length-4 c = search needs
-
-same-length-5 : tie.Need-same-length-5
-same-length-5 c = search needs
-
-same-length-6 : tie.Need-same-length-6
-same-length-6 c = search needs
-
-same-length-7 : tie.Need-same-length-7
-same-length-7 c = search needs
-
-same-length-8 : tie.Need-same-length-8
-same-length-8 c = search needs
-
-same-length-9 : tie.Need-same-length-9
-same-length-9 c = search needs
-
-same-length-10 : tie.Need-same-length-10
-same-length-10 c = search needs
-
-same-length-11 : tie.Need-same-length-11
-same-length-11 c = search needs
-
-same-length-12 : tie.Need-same-length-12
-same-length-12 c = search needs
-
 pub update-spec : {M : Type 1} → statement M
 update-spec =
     tie.close
     (tie.spec
-    is-serving-requires
+    (λ c κs. search needs)
     first-refusal-requires
-    refuse-requires
-    same-length
-    same-length-2
-    same-length-3
+    (λ c κs. search needs)
+    (λ c. search needs)
+    (λ c. search needs)
+    (λ c. search needs)
     returns
     slot-refusal-requires
-    refuse-requires-2
-    same-length-4
-    same-length-5
-    same-length-6
+    (λ c κs. search needs)
+    (λ c. search needs)
+    (λ c. search needs)
+    (λ c. search needs)
     returns-2
     home-of-transaction-requires
     head-of-requires
     slot-base-requires
     log-and-set-requires
-    settle-requires
-    same-length-7
-    same-length-8
-    same-length-9
+    (λ c κs. search needs)
+    (λ c. search needs)
+    (λ c. search needs)
+    (λ c. search needs)
     returns-3
     changed-core-requires
-    settle-requires-2
-    same-length-10
-    same-length-11
-    same-length-12
+    (λ c κs. search needs)
+    (λ c. search needs)
+    (λ c. search needs)
+    (λ c. search needs)
     returns-4)

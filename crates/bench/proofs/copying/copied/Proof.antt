@@ -12,41 +12,17 @@ Inv-loop count anchor pages backups₀ logs work₀ budget₀ s₀ i₀ backups 
 abbrev μ-loop : tie.MeasureT-loop
 μ-loop count anchor pages backups₀ logs work₀ budget₀ s₀ i₀ backups work budget s i = count - i
 
-loop-holds : tie.Need-loop-holds Inv-loop μ-loop
-loop-holds c = search needs
-
-add-i : tie.Need-add-i Inv-loop μ-loop
-add-i c = search needs
-
-checkpoint-step-requires : tie.Need-checkpoint-step-requires Inv-loop μ-loop
-checkpoint-step-requires c κs = search needs
-
-loop-less : tie.Need-loop-less Inv-loop μ-loop
-loop-less c = search needs
-
-loop-again : tie.Need-loop-again Inv-loop μ-loop
-loop-again c = search needs
-
-same-length : tie.Need-same-length Inv-loop μ-loop
-same-length c = search needs
-
-same-length-2 : tie.Need-same-length-2 Inv-loop μ-loop
-same-length-2 c = search needs
-
-returns : tie.Need-returns Inv-loop μ-loop
-returns c = search needs
-
 pub copied-spec : {M : Type 1} → statement M
 copied-spec =
     tie.close
     (tie.spec
     Inv-loop
     μ-loop
-    loop-holds
-    add-i
-    checkpoint-step-requires
-    loop-less
-    loop-again
-    same-length
-    same-length-2
-    returns)
+    (λ c. search needs)
+    (λ c. search needs)
+    (λ c κs. search needs)
+    (λ c. search needs)
+    (λ c. search needs)
+    (λ c. search needs)
+    (λ c. search needs)
+    (λ c. search needs))

@@ -11,8 +11,5 @@ mul-result c =
     let h : c .args .a % 4294967296 ≤ 4294967295 = omega arith in
     omega (arith, mul-le-mul-right (c .args .b % 4294967296) h)
 
-returns : tie.Need-returns
-returns c = search needs
-
 pub product-spec : {M : Type 1} → statement M
-product-spec = tie.close (tie.spec mul-result returns)
+product-spec = tie.close (tie.spec mul-result (λ c. search needs))

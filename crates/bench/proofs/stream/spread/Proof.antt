@@ -13,29 +13,8 @@ Inv-loop value₀ r k₀ value k = (k ≤ length value) × (length value ≡ len
 abbrev μ-loop : tie.MeasureT-loop
 μ-loop value₀ r k₀ value k = length value₀ - k
 
-loop-holds : tie.Need-loop-holds Inv-loop μ-loop
-loop-holds c = search needs
-
-mul-value : tie.Need-mul-value Inv-loop μ-loop
-mul-value c = search needs
-
-slice-write-value : tie.Need-slice-write-value Inv-loop μ-loop
-slice-write-value c = search needs
-
-add-k : tie.Need-add-k Inv-loop μ-loop
-add-k c = search needs
-
-loop-less : tie.Need-loop-less Inv-loop μ-loop
-loop-less c = search needs
-
 loop-again : tie.Need-loop-again Inv-loop μ-loop
 loop-again c = (simp length-set (omega arith), simp length-set (omega arith))
-
-same-length : tie.Need-same-length Inv-loop μ-loop
-same-length c = search needs
-
-returns : tie.Need-returns Inv-loop μ-loop
-returns c = search needs
 
 pub spread-spec : {M : Type 1} → statement M
 spread-spec =
@@ -43,11 +22,11 @@ spread-spec =
     (tie.spec
     Inv-loop
     μ-loop
-    loop-holds
-    mul-value
-    slice-write-value
-    add-k
-    loop-less
+    (λ c. search needs)
+    (λ c. search needs)
+    (λ c. search needs)
+    (λ c. search needs)
+    (λ c. search needs)
     loop-again
-    same-length
-    returns)
+    (λ c. search needs)
+    (λ c. search needs))

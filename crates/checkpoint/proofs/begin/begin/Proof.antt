@@ -12,14 +12,8 @@ use borrow.Author.Needs.{needs}
 use Rattle.checkpoint.proofs.begin.begin.Statement.{statement}
 use Rattle.checkpoint.proofs.begin.begin.Tie as tie
 
-is-open-requires : tie.Need-is-open-requires
-is-open-requires c κs = search needs
-
 first-refusal-requires : tie.Need-first-refusal-requires
 first-refusal-requires c κs = let core = c .before .before .before .before .before .before .args .core in λ e. serving-not-shut (core .stage) (open-serving core (sym (c .is-open .ensures) ∙ e))
-
-refuse-requires : tie.Need-refuse-requires
-refuse-requires c κs = search needs
 
 returns : tie.Need-returns
 returns c =
@@ -27,9 +21,6 @@ returns c =
     let w = worldOf (x .anchor .now) (x .pages .now) (x .backups .now) (x .logs .now) (x .work .now) in
     rw (c .refuse .ensures)
     (refusal-given checkpointBegin (x .core) w _ 0 0 (begin-refused (x .core) w (c .before .before .before .is-open .ensures) (c .before .before .first-refusal .ensures) (c .before .if1 .taken)))
-
-refuse-requires-2 : tie.Need-refuse-requires-2
-refuse-requires-2 c κs = search needs
 
 returns-2 : tie.Need-returns-2
 returns-2 c =
@@ -59,11 +50,11 @@ pub begin-spec : {M : Type 1} → statement M
 begin-spec =
     tie.close
     (tie.spec
-    is-open-requires
+    (λ c κs. search needs)
     first-refusal-requires
-    refuse-requires
+    (λ c κs. search needs)
     returns
-    refuse-requires-2
+    (λ c κs. search needs)
     returns-2
     marked-requires
     returns-3)

@@ -4,12 +4,9 @@ use borrow.Author.Needs.{needs}
 use Rattle.checkpoint.proofs.begin.marked.Statement.{statement}
 use Rattle.checkpoint.proofs.begin.marked.Tie as tie
 
-ends-of-requires : tie.Need-ends-of-requires
-ends-of-requires c κs = search needs
-
 returns : tie.Need-returns
 unfolding checkpointBeginTask
 returns c = λ w. rw (c .before .before .before .before .ends-of .ensures)
 
 pub marked-spec : {M : Type 1} → statement M
-marked-spec = tie.close (tie.spec ends-of-requires returns)
+marked-spec = tie.close (tie.spec (λ c κs. search needs) returns)

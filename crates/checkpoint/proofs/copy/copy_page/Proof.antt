@@ -17,9 +17,6 @@ page-words-requires c κs = let pre = c .before .before .before .before .pre in 
 backup-at-requires : tie.Need-backup-at-requires
 backup-at-requires c κs = bounded _ (c .before .before .before .before .before .pre .sizes) .pages-max
 
-add-store-copy : tie.Need-add-store-copy
-add-store-copy c = search needs
-
 store-copy-requires : tie.Need-store-copy-requires
 store-copy-requires c κs =
     let at-backup-at = c .before .before in
@@ -27,9 +24,6 @@ store-copy-requires c κs =
     let words = at-backup-at .before .page-words .ensures .0 in
     let pre = at-backup-at .before .before .before .before .before .before .pre in
     (copy-fits _ _ (pre .page-below) base words _ (at-backup-at .backup-at .ensures .1) (pre .backup-words), page-fits _ _ (pre .page-below) base words (pre .page-words))
-
-same-length : tie.Need-same-length
-same-length c = search needs
 
 returns : tie.Need-returns
 returns c =
@@ -45,19 +39,10 @@ copy-at-requires c κs =
     let b = bounded _ (pre .sizes) in
     (b .pages-max, b .disks-max, omega (arith, pre .page-below, b .pages-max))
 
-mul-work : tie.Need-mul-work
-mul-work c = search needs
-
 slice-write-work : tie.Need-slice-write-work
 slice-write-work c =
     let pre = c .before .before .before .before .before .before .before .before .before .before .before .before .before .pre in
     copy-number-fits _ _ (omega (arith, pre .page-below, bounded _ (pre .sizes) .pages-max)) (c .copy-at .ensures .0) (pre .work-words)
-
-same-length-2 : tie.Need-same-length-2
-same-length-2 c = search needs
-
-same-length-3 : tie.Need-same-length-3
-same-length-3 c = search needs
 
 returns-2 : tie.Need-returns-2
 returns-2 c =
@@ -75,13 +60,13 @@ copy-page-spec =
     page-base-requires
     page-words-requires
     backup-at-requires
-    add-store-copy
+    (λ c. search needs)
     store-copy-requires
-    same-length
+    (λ c. search needs)
     returns
     copy-at-requires
-    mul-work
+    (λ c. search needs)
     slice-write-work
-    same-length-2
-    same-length-3
+    (λ c. search needs)
+    (λ c. search needs)
     returns-2)

@@ -11,14 +11,8 @@ use borrow.Author.Needs.{needs}
 use Rattle.checkpoint.proofs.end.end.Statement.{statement}
 use Rattle.checkpoint.proofs.end.end.Tie as tie
 
-is-copying-requires : tie.Need-is-copying-requires
-is-copying-requires c κs = search needs
-
 first-refusal-requires : tie.Need-first-refusal-requires
 first-refusal-requires c κs = let core = c .before .before .before .before .before .before .before .before .args .core in λ e. serving-not-shut (core .stage) (copying-serving core (sym (c .before .before .is-copying .ensures) ∙ e))
-
-refuse-requires : tie.Need-refuse-requires
-refuse-requires c κs = search needs
 
 returns : tie.Need-returns
 returns c =
@@ -26,9 +20,6 @@ returns c =
     let w = worldOf (x .anchor .now) (x .pages .now) (x .backups .now) (x .logs .now) (x .work .now) in
     rw (c .refuse .ensures)
     (refusal-given (checkpointEnd (x .budget .now)) (x .core) w _ 0 0 (end-refused (x .core) w (c .before .before .before .before .before .is-copying .ensures) (c .before .before .first-refusal .ensures) (c .before .if1 .taken)))
-
-refuse-requires-2 : tie.Need-refuse-requires-2
-refuse-requires-2 c κs = search needs
 
 returns-2 : tie.Need-returns-2
 returns-2 c =
@@ -44,12 +35,6 @@ finish-requires c κs =
     let w = worldOf (x .anchor .now) (x .pages .now) (x .backups .now) (x .logs .now) (x .work .now) in
     endable (x .core) w (c .before .before .before .before .before .before .before .before .before .before .before .is-copying .ensures) (c .before .before .before .before .before .before .before .before .first-refusal .ensures) (omega (arith, c .before .before .before .before .before .before .before .if1 .left))
 
-same-length : tie.Need-same-length
-same-length c = search needs
-
-same-length-2 : tie.Need-same-length-2
-same-length-2 c = search needs
-
 returns-3 : tie.Need-returns-3
 returns-3 c =
     let x = c .before .before .before .before .before .before .before .before .before .before .before .before .before .before .before .before .before .before .before .before .before .before .args in
@@ -58,33 +43,21 @@ returns-3 c =
     (end-accepted (x .core) w (c .before .before .before .before .before .before .before .before .before .before .before .before .before .before .before .before .is-copying .ensures) (c .before .before .before .before .before .before .before .before .before .before .before .before .before .first-refusal .ensures) (omega (arith, c .before .before .before .before .before .before .before .before .before .before .before .before .if1 .left)) (c .before .before .before .before .before .before .before .before .if2 .left))
     (c .before .before .before .before .finish .ensures (x .pages .now) (x .backups .now))
 
-same-length-3 : tie.Need-same-length-3
-same-length-3 c = search needs
-
-same-length-4 : tie.Need-same-length-4
-same-length-4 c = search needs
-
-same-length-5 : tie.Need-same-length-5
-same-length-5 c = search needs
-
-same-length-6 : tie.Need-same-length-6
-same-length-6 c = search needs
-
 pub end-spec : {M : Type 1} → statement M
 end-spec =
     tie.close
     (tie.spec
-    is-copying-requires
+    (λ c κs. search needs)
     first-refusal-requires
-    refuse-requires
-    same-length
-    same-length-2
+    (λ c κs. search needs)
+    (λ c. search needs)
+    (λ c. search needs)
     returns
-    refuse-requires-2
-    same-length-3
-    same-length-4
+    (λ c κs. search needs)
+    (λ c. search needs)
+    (λ c. search needs)
     returns-2
     finish-requires
-    same-length-5
-    same-length-6
+    (λ c. search needs)
+    (λ c. search needs)
     returns-3)

@@ -10,21 +10,6 @@ use Rattle.checkpoint.proofs.end.finish.Tie as tie
 new-starts-requires : tie.Need-new-starts-requires
 new-starts-requires c κs = disks-max _ (c .before .before .before .before .pre .serves .state)
 
-store-end-requires : tie.Need-store-end-requires
-store-end-requires c κs = search needs
-
-closed-requires : tie.Need-closed-requires
-closed-requires c κs = search needs
-
-settle-requires : tie.Need-settle-requires
-settle-requires c κs = search needs
-
-same-length : tie.Need-same-length
-same-length c = search needs
-
-same-length-2 : tie.Need-same-length-2
-same-length-2 c = search needs
-
 returns : tie.Need-returns
 unfolding checkpointEndTask
 returns c =
@@ -38,9 +23,9 @@ finish-spec =
     tie.close
     (tie.spec
     new-starts-requires
-    store-end-requires
-    closed-requires
-    settle-requires
-    same-length
-    same-length-2
+    (λ c κs. search needs)
+    (λ c κs. search needs)
+    (λ c κs. search needs)
+    (λ c. search needs)
+    (λ c. search needs)
     returns)

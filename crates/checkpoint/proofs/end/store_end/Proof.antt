@@ -7,12 +7,6 @@ use borrow.Author.Needs.{needs}
 use Rattle.checkpoint.proofs.end.store_end.Statement.{statement}
 use Rattle.checkpoint.proofs.end.store_end.Tie as tie
 
-flush-all-requires : tie.Need-flush-all-requires
-flush-all-requires c κs = search needs
-
-same-length : tie.Need-same-length
-same-length c = search needs
-
 returns : tie.Need-returns
 returns c =
     let pre = c .before .before .before .before .before .before .before .before .before .pre in
@@ -21,17 +15,8 @@ returns c =
     let w = worldOf (x .anchor .now) pages backups (x .logs .now) (x .work .now) in
     end-cut (x .core) w (disks-max (x .core) (pre .0 .serves .state)) (c .before .before .before .flush-all .ensures (x .anchor .now) pages backups) (not-true _ (c .if1 .taken))
 
-add-switch-to : tie.Need-add-switch-to
-add-switch-to c = search needs
-
 switch-to-requires : tie.Need-switch-to-requires
 switch-to-requires c κs = let pre = c .before .before .before .before .before .before .before .before .before .before .before .before .pre in (pre .0 .anchor-words, disks-max _ (pre .0 .serves .state))
-
-same-length-2 : tie.Need-same-length-2
-same-length-2 c = search needs
-
-same-length-3 : tie.Need-same-length-3
-same-length-3 c = search needs
 
 returns-2 : tie.Need-returns-2
 returns-2 c =
@@ -46,11 +31,11 @@ pub store-end-spec : {M : Type 1} → statement M
 store-end-spec =
     tie.close
     (tie.spec
-    flush-all-requires
-    same-length
+    (λ c κs. search needs)
+    (λ c. search needs)
     returns
-    add-switch-to
+    (λ c. search needs)
     switch-to-requires
-    same-length-2
-    same-length-3
+    (λ c. search needs)
+    (λ c. search needs)
     returns-2)

@@ -20,33 +20,9 @@ abbrev μ-loop : tie.MeasureT-loop
 loop-holds : tie.Need-loop-holds Inv-loop μ-loop
 loop-holds c = (omega arith, disks-max _ (c .before .pre), eight-none _)
 
-mul-ends : tie.Need-mul-ends Inv-loop μ-loop
-mul-ends c = search needs
-
-element-copy-out-ends : tie.Need-element-copy-out-ends Inv-loop μ-loop
-element-copy-out-ends c = search needs
-
-mul-ends-2 : tie.Need-mul-ends-2 Inv-loop μ-loop
-mul-ends-2 c = search needs
-
-element-copy-out-ends-2 : tie.Need-element-copy-out-ends-2 Inv-loop μ-loop
-element-copy-out-ends-2 c = search needs
-
 add-ends : tie.Need-add-ends Inv-loop μ-loop
 unfolding endOf tailOf fillOf
 add-ends c = omega (arith, disk-sound (c .before .before .before .before .before .args .core) (c .before .before .before .loop .d) (c .before .before .before .before .before .pre) (search needs) .limit)
-
-mul-ends-3 : tie.Need-mul-ends-3 Inv-loop μ-loop
-mul-ends-3 c = search needs
-
-array-write-ends : tie.Need-array-write-ends Inv-loop μ-loop
-array-write-ends c = search needs
-
-add-d : tie.Need-add-d Inv-loop μ-loop
-add-d c = search needs
-
-loop-less : tie.Need-loop-less Inv-loop μ-loop
-loop-less c = search needs
 
 loop-again : tie.Need-loop-again Inv-loop μ-loop
 unfolding endOf tailOf fillOf
@@ -62,14 +38,14 @@ ends-of-spec =
     Inv-loop
     μ-loop
     loop-holds
-    mul-ends
-    element-copy-out-ends
-    mul-ends-2
-    element-copy-out-ends-2
+    (λ c. search needs)
+    (λ c. search needs)
+    (λ c. search needs)
+    (λ c. search needs)
     add-ends
-    mul-ends-3
-    array-write-ends
-    add-d
-    loop-less
+    (λ c. search needs)
+    (λ c. search needs)
+    (λ c. search needs)
+    (λ c. search needs)
     loop-again
     returns)

@@ -41,30 +41,9 @@ loop-holds c =
       λ s _ _ anchor pages backups. ran-zero (flush s (start .args .core .logs) (start .args .work .now)) (start .args .budget .now) _,
     )
 
-mul-tail : tie.Need-mul-tail Inv-loop μ-loop
-mul-tail c = search needs
-
-element-copy-out-tail : tie.Need-element-copy-out-tail Inv-loop μ-loop
-element-copy-out-tail c = search needs
-
-mul-fill : tie.Need-mul-fill Inv-loop μ-loop
-mul-fill c = search needs
-
-element-copy-out-fill : tie.Need-element-copy-out-fill Inv-loop μ-loop
-element-copy-out-fill c = search needs
-
-mul-flush-disk : tie.Need-mul-flush-disk Inv-loop μ-loop
-mul-flush-disk c = search needs
-
-add-flush-disk : tie.Need-add-flush-disk Inv-loop μ-loop
-add-flush-disk c = search needs
-
 flush-disk-requires : tie.Need-flush-disk-requires Inv-loop μ-loop
 flush-disk-requires c κs = let start = c .before .before .before .before .before .before .before .before .before .before in
     disk-lies (start .args .core) (c .before .before .before .before .before .loop .d) _ (start .pre) (omega arith) (c .before .before .before .before .before .before .before .total .ensures .0) (c .before .before .before .before .before .loop .logs) (c .before .before .before .before .before .loop .inv .2)
-
-same-length : tie.Need-same-length Inv-loop μ-loop
-same-length c = search needs
 
 returns : tie.Need-returns Inv-loop μ-loop
 returns c =
@@ -74,12 +53,6 @@ returns c =
     ran-stop (flush (core .sizes) (core .logs) (start .args .work .now)) (core .sizes .disks) (c .before .before .before .before .before .before .before .before .before .loop .d) (omega arith)
     (c .before .before .before .before .before .before .before .before .before .loop .inv .3 (core .sizes) refl (sym (c .before .before .before .before .before .before .before .before .before .before .before .total .ensures .0)) anchor pages backups)
     (not-true _ (c .if1 .taken)) (c .before .before .before .flush-disk .ensures (core .sizes) (core .logs) (worldOf anchor pages backups (c .before .before .before .before .before .before .before .before .before .loop .logs) (start .args .work .now)) (disk-lent (core .sizes) (core .logs) (c .before .before .before .before .before .before .before .before .before .loop .d) refl (sym (c .before .before .before .before .before .before .before .before .before .before .before .total .ensures .0)) anchor pages backups _ _))
-
-add-d : tie.Need-add-d Inv-loop μ-loop
-add-d c = search needs
-
-loop-less : tie.Need-loop-less Inv-loop μ-loop
-loop-less c = search needs
 
 loop-again : tie.Need-loop-again Inv-loop μ-loop
 loop-again c =
@@ -93,9 +66,6 @@ loop-again c =
           (c .before .before .before .before .before .before .before .before .before .loop .inv .3 s one two anchor pages backups)
           (not-false _ (c .if1 .left)) (c .before .before .before .flush-disk .ensures s (core .logs) (worldOf anchor pages backups (c .before .before .before .before .before .before .before .before .before .loop .logs) (start .args .work .now)) (disk-lent s (core .logs) (c .before .before .before .before .before .before .before .before .before .loop .d) one two anchor pages backups _ _)),
     )
-
-same-length-2 : tie.Need-same-length-2 Inv-loop μ-loop
-same-length-2 c = search needs
 
 returns-2 : tie.Need-returns-2 Inv-loop μ-loop
 returns-2 c =
@@ -113,17 +83,17 @@ flush-all-spec =
     μ-loop
     total-requires
     loop-holds
-    mul-tail
-    element-copy-out-tail
-    mul-fill
-    element-copy-out-fill
-    mul-flush-disk
-    add-flush-disk
+    (λ c. search needs)
+    (λ c. search needs)
+    (λ c. search needs)
+    (λ c. search needs)
+    (λ c. search needs)
+    (λ c. search needs)
     flush-disk-requires
-    same-length
+    (λ c. search needs)
     returns
-    add-d
-    loop-less
+    (λ c. search needs)
+    (λ c. search needs)
     loop-again
-    same-length-2
+    (λ c. search needs)
     returns-2)

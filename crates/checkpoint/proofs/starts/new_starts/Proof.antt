@@ -19,27 +19,6 @@ abbrev μ-loop : tie.MeasureT-loop
 loop-holds : tie.Need-loop-holds Inv-loop μ-loop
 loop-holds c = (omega arith, c .before .before .pre, eight-none _)
 
-mul-least-first : tie.Need-mul-least-first Inv-loop μ-loop
-mul-least-first c = search needs
-
-element-copy-out-least-first : tie.Need-element-copy-out-least-first Inv-loop μ-loop
-element-copy-out-least-first c = search needs
-
-least-first-requires : tie.Need-least-first-requires Inv-loop μ-loop
-least-first-requires c κs = search needs
-
-mul-starts : tie.Need-mul-starts Inv-loop μ-loop
-mul-starts c = search needs
-
-array-write-starts : tie.Need-array-write-starts Inv-loop μ-loop
-array-write-starts c = search needs
-
-add-d : tie.Need-add-d Inv-loop μ-loop
-add-d c = search needs
-
-loop-less : tie.Need-loop-less Inv-loop μ-loop
-loop-less c = search needs
-
 loop-again : tie.Need-loop-again Inv-loop μ-loop
 loop-again c = (omega arith, omega arith, rw (c .before .before .before .loop .inv .2) (eight-more _ (c .before .before .before .loop .d) _ (omega arith) (c .least-first .ensures)))
 
@@ -54,12 +33,12 @@ new-starts-spec =
     Inv-loop
     μ-loop
     loop-holds
-    mul-least-first
-    element-copy-out-least-first
-    least-first-requires
-    mul-starts
-    array-write-starts
-    add-d
-    loop-less
+    (λ c. search needs)
+    (λ c. search needs)
+    (λ c κs. search needs)
+    (λ c. search needs)
+    (λ c. search needs)
+    (λ c. search needs)
+    (λ c. search needs)
     loop-again
     returns)

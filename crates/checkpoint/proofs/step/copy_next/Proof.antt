@@ -7,24 +7,6 @@ use borrow.Author.Needs.{needs}
 use Rattle.checkpoint.proofs.step.copy_next.Statement.{statement}
 use Rattle.checkpoint.proofs.step.copy_next.Tie as tie
 
-add-copy-page : tie.Need-add-copy-page
-add-copy-page c = search needs
-
-copy-page-requires : tie.Need-copy-page-requires
-copy-page-requires c κs = search needs
-
-add-settle : tie.Need-add-settle
-add-settle c = search needs
-
-settle-requires : tie.Need-settle-requires
-settle-requires c κs = search needs
-
-same-length : tie.Need-same-length
-same-length c = search needs
-
-same-length-2 : tie.Need-same-length-2
-same-length-2 c = search needs
-
 returns : tie.Need-returns
 unfolding checkpointStepTask
 returns c =
@@ -38,10 +20,10 @@ pub copy-next-spec : {M : Type 1} → statement M
 copy-next-spec =
     tie.close
     (tie.spec
-    add-copy-page
-    copy-page-requires
-    add-settle
-    settle-requires
-    same-length
-    same-length-2
+    (λ c. search needs)
+    (λ c κs. search needs)
+    (λ c. search needs)
+    (λ c κs. search needs)
+    (λ c. search needs)
+    (λ c. search needs)
     returns)

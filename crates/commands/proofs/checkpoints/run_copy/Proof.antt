@@ -5,18 +5,6 @@ use Rattle.commands.proofs.Showing.{shows}
 use Rattle.commands.proofs.checkpoints.run_copy.Statement.{statement}
 use Rattle.commands.proofs.checkpoints.run_copy.Tie as tie
 
-checkpoint-step-requires : tie.Need-checkpoint-step-requires
-checkpoint-step-requires c κs = search needs
-
-settled-requires : tie.Need-settled-requires
-settled-requires c κs = search needs
-
-same-length : tie.Need-same-length
-same-length c = search needs
-
-same-length-2 : tie.Need-same-length-2
-same-length-2 c = search needs
-
 returns : tie.Need-returns
 unfolding lineOf
 returns c = shows _ _ _ _ _ _ _ (c .before .before .before .before .before .checkpoint-step .ensures .0) (c .settled .ensures .1) 0 (c .settled .ensures .0)
@@ -24,4 +12,4 @@ returns c = shows _ _ _ _ _ _ _ (c .before .before .before .before .before .chec
 pub run-copy-spec : {M : Type 1} → statement M
 run-copy-spec =
     tie.close
-    (tie.spec checkpoint-step-requires settled-requires same-length same-length-2 returns)
+    (tie.spec (λ c κs. search needs) (λ c κs. search needs) (λ c. search needs) (λ c. search needs) returns)

@@ -5,15 +5,9 @@ use Rattle.commands.proofs.Showing.{shows}
 use Rattle.commands.proofs.checkpoints.run_mark.Statement.{statement}
 use Rattle.commands.proofs.checkpoints.run_mark.Tie as tie
 
-checkpoint-begin-requires : tie.Need-checkpoint-begin-requires
-checkpoint-begin-requires c κs = search needs
-
-settled-requires : tie.Need-settled-requires
-settled-requires c κs = search needs
-
 returns : tie.Need-returns
 unfolding lineOf
 returns c = shows _ _ _ _ _ _ _ (c .before .checkpoint-begin .ensures .0) (c .settled .ensures .1) 0 (c .settled .ensures .0)
 
 pub run-mark-spec : {M : Type 1} → statement M
-run-mark-spec = tie.close (tie.spec checkpoint-begin-requires settled-requires returns)
+run-mark-spec = tie.close (tie.spec (λ c κs. search needs) (λ c κs. search needs) returns)

@@ -4,15 +4,6 @@ use Rattle.commands.proofs.Showing.{shown-finished, shown-refused, show
 use Rattle.commands.proofs.outcome.shown.Statement.{statement}
 use Rattle.commands.proofs.outcome.shown.Tie as tie
 
-enum-known-answer : tie.Need-enum-known-answer
-enum-known-answer c = search needs
-
-enum-known-answer-2 : tie.Need-enum-known-answer-2
-enum-known-answer-2 c = search needs
-
-enum-known-answer-3 : tie.Need-enum-known-answer-3
-enum-known-answer-3 c = search needs
-
 returns : tie.Need-returns
 returns c = let s = c .before .before .before in shown-finished (s .args .answer) (s .args .value) (c .before .answer .given .1)
 
@@ -26,9 +17,9 @@ pub shown-spec : {M : Type 1} → statement M
 shown-spec =
     tie.close
     (tie.spec
-    enum-known-answer
-    enum-known-answer-2
-    enum-known-answer-3
+    (λ c. search needs)
+    (λ c. search needs)
+    (λ c. search needs)
     returns
     returns-2
     returns-3)

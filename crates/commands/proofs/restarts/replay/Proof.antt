@@ -19,43 +19,19 @@ Inv-loop source anchor pages₀ backups logs work called₀ turns₀ pages calle
 abbrev μ-loop : tie.MeasureT-loop
 μ-loop source anchor pages₀ backups logs work called₀ turns₀ pages called turns = turns
 
-restart-remaining-requires : tie.Need-restart-remaining-requires Inv-loop μ-loop
-restart-remaining-requires c κs = search needs
-
 loop-holds : tie.Need-loop-holds Inv-loop μ-loop
 unfolding toEnd
 loop-holds c = (search needs, rw (c .restart-remaining .ensures))
-
-sub-turns : tie.Need-sub-turns Inv-loop μ-loop
-sub-turns c = search needs
-
-is-finished-requires : tie.Need-is-finished-requires Inv-loop μ-loop
-is-finished-requires c κs = search needs
-
-same-length : tie.Need-same-length Inv-loop μ-loop
-same-length c = search needs
 
 returns : tie.Need-returns Inv-loop μ-loop
 returns c =
     let l = c .before .before .before in
     sym (stepped-refused _ _ (l .loop .turns) (sym (c .before .is-finished .ensures) ∙ not-true _ (c .if1 .taken))) ∙ l .loop .inv .1
 
-restart-remaining-requires-2 : tie.Need-restart-remaining-requires-2 Inv-loop μ-loop
-restart-remaining-requires-2 c κs = search needs
-
-same-length-2 : tie.Need-same-length-2 Inv-loop μ-loop
-same-length-2 c = search needs
-
 returns-2 : tie.Need-returns-2 Inv-loop μ-loop
 returns-2 c =
     let l = c .before .before .before .before .before .before in
     sym (stepped-through _ _ (l .loop .turns) (sym (c .before .restart-remaining2 .ensures) ∙ c .if2 .taken)) ∙ l .loop .inv .1
-
-restart-step-requires : tie.Need-restart-step-requires Inv-loop μ-loop
-restart-step-requires c κs = search needs
-
-loop-less : tie.Need-loop-less Inv-loop μ-loop
-loop-less c = search needs
 
 loop-again : tie.Need-loop-again Inv-loop μ-loop
 unfolding Gives
@@ -71,9 +47,6 @@ loop-again c =
           (sym (stepped-on _ _ (l .turns) (test .loop-test .taken) finished (λ e. test2 .if2 .left (test2 .before .restart-remaining2 .ensures ∙ e))) ∙ l .inv .1),
     )
 
-same-length-3 : tie.Need-same-length-3 Inv-loop μ-loop
-same-length-3 c = search needs
-
 returns-3 : tie.Need-returns-3 Inv-loop μ-loop
 unfolding stepped
 returns-3 c =
@@ -86,17 +59,17 @@ replay-spec =
     (tie.spec
     Inv-loop
     μ-loop
-    restart-remaining-requires
+    (λ c κs. search needs)
     loop-holds
-    sub-turns
-    is-finished-requires
-    same-length
+    (λ c. search needs)
+    (λ c κs. search needs)
+    (λ c. search needs)
     returns
-    restart-remaining-requires-2
-    same-length-2
+    (λ c κs. search needs)
+    (λ c. search needs)
     returns-2
-    restart-step-requires
-    loop-less
+    (λ c κs. search needs)
+    (λ c. search needs)
     loop-again
-    same-length-3
+    (λ c. search needs)
     returns-3)

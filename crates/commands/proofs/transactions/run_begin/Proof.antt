@@ -5,18 +5,9 @@ use Rattle.commands.proofs.Showing.{shows-own}
 use Rattle.commands.proofs.transactions.run_begin.Statement.{statement}
 use Rattle.commands.proofs.transactions.run_begin.Tie as tie
 
-begin-requires : tie.Need-begin-requires
-begin-requires c κs = search needs
-
-value-of-requires : tie.Need-value-of-requires
-value-of-requires c κs = search needs
-
-settled-requires : tie.Need-settled-requires
-settled-requires c κs = search needs
-
 returns : tie.Need-returns
 unfolding lineOf
 returns c = shows-own _ _ _ _ _ _ _ (c .before .before .begin .ensures .0) (c .settled .ensures .1) (rw (c .before .value-of .ensures) at (c .settled .ensures .0))
 
 pub run-begin-spec : {M : Type 1} → statement M
-run-begin-spec = tie.close (tie.spec begin-requires value-of-requires settled-requires returns)
+run-begin-spec = tie.close (tie.spec (λ c κs. search needs) (λ c κs. search needs) (λ c κs. search needs) returns)

@@ -5,22 +5,10 @@ use Rattle.commands.proofs.Showing.{shows}
 use Rattle.commands.proofs.transactions.run_commit.Statement.{statement}
 use Rattle.commands.proofs.transactions.run_commit.Tie as tie
 
-commit-requires : tie.Need-commit-requires
-commit-requires c κs = search needs
-
-settled-requires : tie.Need-settled-requires
-settled-requires c κs = search needs
-
-same-length : tie.Need-same-length
-same-length c = search needs
-
-same-length-2 : tie.Need-same-length-2
-same-length-2 c = search needs
-
 returns : tie.Need-returns
 unfolding lineOf
 returns c = shows _ _ _ _ _ _ _ (c .before .before .before .before .before .commit .ensures .0) (c .settled .ensures .1) 0 (c .settled .ensures .0)
 
 pub run-commit-spec : {M : Type 1} → statement M
 run-commit-spec =
-    tie.close (tie.spec commit-requires settled-requires same-length same-length-2 returns)
+    tie.close (tie.spec (λ c κs. search needs) (λ c κs. search needs) (λ c. search needs) (λ c. search needs) returns)

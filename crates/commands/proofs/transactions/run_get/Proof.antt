@@ -6,18 +6,9 @@ use Rattle.commands.proofs.Showing.{shows}
 use Rattle.commands.proofs.transactions.run_get.Statement.{statement}
 use Rattle.commands.proofs.transactions.run_get.Tie as tie
 
-slot-word-requires : tie.Need-slot-word-requires
-slot-word-requires c κs = search needs
-
-read-answer-requires : tie.Need-read-answer-requires
-read-answer-requires c κs = search needs
-
-shown-requires : tie.Need-shown-requires
-shown-requires c κs = search needs
-
 returns : tie.Need-returns
 unfolding lineOf
 returns c = rw (← c .before .before .slot-word .ensures) (shows _ _ _ _ _ _ _ (c .before .read-answer .ensures) refl _ (c .shown .ensures))
 
 pub run-get-spec : {M : Type 1} → statement M
-run-get-spec = tie.close (tie.spec slot-word-requires read-answer-requires shown-requires returns)
+run-get-spec = tie.close (tie.spec (λ c κs. search needs) (λ c κs. search needs) (λ c κs. search needs) returns)

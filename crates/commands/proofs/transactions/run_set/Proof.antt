@@ -8,9 +8,6 @@ use Rattle.commands.proofs.transactions.run_set.Tie as tie
 slot-word-requires : tie.Need-slot-word-requires
 slot-word-requires c κs = tt
 
-slice-aggregate-update : tie.Need-slice-aggregate-update
-slice-aggregate-update c = search needs
-
 update-requires : tie.Need-update-requires
 update-requires c κs = tt
 
@@ -37,7 +34,7 @@ run-set-spec =
     tie.close
     (tie.spec
     slot-word-requires
-    slice-aggregate-update
+    (λ c. search needs)
     update-requires
     settled-requires
     same-length

@@ -5,20 +5,8 @@ use borrow.Author.Needs.{needs}
 use Rattle.format.proofs.anchor.store_anchor.Statement.{statement}
 use Rattle.format.proofs.anchor.store_anchor.Tie as tie
 
-store-front-requires : tie.Need-store-front-requires
-store-front-requires c κs = search needs
-
-same-length : tie.Need-same-length
-same-length c = search needs
-
 returns : tie.Need-returns
 returns c = λ memory backups logs work. ran-cut (c .before .before .before .store-front .ensures memory backups logs work) _ (not-true _ (c .if1 .taken))
-
-store-arrays-requires : tie.Need-store-arrays-requires
-store-arrays-requires c κs = search needs
-
-same-length-2 : tie.Need-same-length-2
-same-length-2 c = search needs
 
 returns-2 : tie.Need-returns-2
 returns-2 c =
@@ -29,9 +17,9 @@ pub store-anchor-spec : {M : Type 1} → statement M
 store-anchor-spec =
     tie.close
     (tie.spec
-    store-front-requires
-    same-length
+    (λ c κs. search needs)
+    (λ c. search needs)
     returns
-    store-arrays-requires
-    same-length-2
+    (λ c κs. search needs)
+    (λ c. search needs)
     returns-2)

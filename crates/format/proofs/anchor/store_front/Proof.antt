@@ -5,26 +5,11 @@ use borrow.Author.Needs.{needs}
 use Rattle.format.proofs.anchor.store_front.Statement.{statement}
 use Rattle.format.proofs.anchor.store_front.Tie as tie
 
-store-word-requires : tie.Need-store-word-requires
-store-word-requires c κs = search needs
-
-same-length : tie.Need-same-length
-same-length c = search needs
-
 returns : tie.Need-returns
 returns c =
     let x = c .before .before .before .before .before .before .before .args in
     λ memory backups logs work.
     front-cut memory backups logs work (x .pages) (x .disks) (x .ring) (c .before .before .before .store-word .ensures) (not-true _ (c .if1 .taken))
-
-slice-aggregate-store-copy : tie.Need-slice-aggregate-store-copy
-slice-aggregate-store-copy c = search needs
-
-store-copy-requires : tie.Need-store-copy-requires
-store-copy-requires c κs = search needs
-
-same-length-2 : tie.Need-same-length-2
-same-length-2 c = search needs
 
 returns-2 : tie.Need-returns-2
 returns-2 c =
@@ -36,10 +21,10 @@ pub store-front-spec : {M : Type 1} → statement M
 store-front-spec =
     tie.close
     (tie.spec
-    store-word-requires
-    same-length
+    (λ c κs. search needs)
+    (λ c. search needs)
     returns
-    slice-aggregate-store-copy
-    store-copy-requires
-    same-length-2
+    (λ c. search needs)
+    (λ c κs. search needs)
+    (λ c. search needs)
     returns-2)

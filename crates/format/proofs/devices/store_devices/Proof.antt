@@ -9,27 +9,12 @@ use Rattle.format.proofs.devices.store_devices.Tie as tie
 total-requires : tie.Need-total-requires
 total-requires c κs = bounded _ (c .before .before .before .pre .0 .sizes) .pages-max
 
-store-anchor-requires : tie.Need-store-anchor-requires
-store-anchor-requires c κs = search needs
-
-same-length : tie.Need-same-length
-same-length c = search needs
-
 returns : tie.Need-returns
 returns c =
     let pre = c .before .before .before .before .before .before .before .before .before .before .pre in
     let x = c .before .before .before .before .before .before .before .before .before .before .args in
     λ memory work.
     anchor-cut (x .sizes) (pre .1) (pre .2) (c .before .before .before .store-anchor .ensures memory (x .backups .now) (x .logs .now) work) (not-true _ (c .if1 .taken))
-
-store-tails-requires : tie.Need-store-tails-requires
-store-tails-requires c κs = search needs
-
-same-length-2 : tie.Need-same-length-2
-same-length-2 c = search needs
-
-same-length-3 : tie.Need-same-length-3
-same-length-3 c = search needs
 
 returns-2 : tie.Need-returns-2
 returns-2 c =
@@ -38,18 +23,6 @@ returns-2 c =
     λ memory work.
     tails-cut (x .sizes) (pre .1) (pre .2) (c .before .before .before .before .before .before .before .before .before .store-anchor .ensures memory (x .backups .now) (x .logs .now) work) (not-false _ (c .before .before .before .before .before .before .if1 .left))
     (c .before .before .before .store-tails .ensures _ memory (x .backups .now) work) (not-true _ (c .if2 .taken))
-
-store-last-requires : tie.Need-store-last-requires
-store-last-requires c κs = search needs
-
-same-length-4 : tie.Need-same-length-4
-same-length-4 c = search needs
-
-same-length-5 : tie.Need-same-length-5
-same-length-5 c = search needs
-
-same-length-6 : tie.Need-same-length-6
-same-length-6 c = search needs
 
 returns-3 : tie.Need-returns-3
 returns-3 c =
@@ -65,15 +38,15 @@ store-devices-spec =
     tie.close
     (tie.spec
     total-requires
-    store-anchor-requires
-    same-length
+    (λ c κs. search needs)
+    (λ c. search needs)
     returns
-    store-tails-requires
-    same-length-2
-    same-length-3
+    (λ c κs. search needs)
+    (λ c. search needs)
+    (λ c. search needs)
     returns-2
-    store-last-requires
-    same-length-4
-    same-length-5
-    same-length-6
+    (λ c κs. search needs)
+    (λ c. search needs)
+    (λ c. search needs)
+    (λ c. search needs)
     returns-3)

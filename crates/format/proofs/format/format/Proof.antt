@@ -12,12 +12,6 @@ use borrow.Author.Needs.{needs}
 use Rattle.format.proofs.format.format.Statement.{statement}
 use Rattle.format.proofs.format.format.Tie as tie
 
-is-shut-requires : tie.Need-is-shut-requires
-is-shut-requires c κs = search needs
-
-refuse-requires : tie.Need-refuse-requires
-refuse-requires c κs = search needs
-
 returns : tie.Need-returns
 returns c =
     let x = c .before .before .before .before .before .before .before .before .args in
@@ -25,21 +19,12 @@ returns c =
     rw (c .refuse .ensures)
     (refusal-given _ (x .core) w 1 0 0 (format-forbidden (x .core) w _ (sym (c .before .before .is-shut .ensures) ∙ not-true _ (c .before .if1 .taken))))
 
-refuse-requires-2 : tie.Need-refuse-requires-2
-refuse-requires-2 c κs = search needs
-
 returns-2 : tie.Need-returns-2
 returns-2 c =
     let x = c .before .before .before .before .before .before .before .before .before .args in
     let w = worldOf (x .anchor .now) (x .pages .now) (x .backups .now) (x .logs .now) (x .work .now) in
     rw (c .refuse2 .ensures)
     (refusal-given _ (x .core) w 2 0 0 (format-anchor (x .core) w _ (sym (c .before .before .before .is-shut .ensures) ∙ not-false _ (c .before .before .if1 .left)) (c .before .if2 .taken)))
-
-in-bounds-requires : tie.Need-in-bounds-requires
-in-bounds-requires c κs = search needs
-
-refuse-requires-3 : tie.Need-refuse-requires-3
-refuse-requires-3 c κs = search needs
 
 returns-3 : tie.Need-returns-3
 returns-3 c =
@@ -55,9 +40,6 @@ narrow-requires c κs = sym (c .before .in-bounds .ensures) ∙ not-false _ (c .
 lengths-right-requires : tie.Need-lengths-right-requires
 lengths-right-requires c κs = rw (c .narrow .ensures) (sym (c .before .before .in-bounds .ensures) ∙ not-false _ (c .before .if3 .left))
 
-refuse-requires-4 : tie.Need-refuse-requires-4
-refuse-requires-4 c κs = search needs
-
 returns-4 : tie.Need-returns-4
 returns-4 c =
     let x = c .before .before .before .before .before .before .before .before .before .before .before .before .before .before .args in
@@ -66,9 +48,6 @@ returns-4 c =
     (refusal-given _ (x .core) w 5 0 0
     (format-lengths (x .core) w _ (sym (c .before .before .before .before .before .before .before .before .is-shut .ensures) ∙ not-false _ (c .before .before .before .before .before .before .before .if1 .left)) (omega (arith, c .before .before .before .before .before .before .if2 .left)) (sym (c .before .before .before .before .before .in-bounds .ensures) ∙ not-false _ (c .before .before .before .before .if3 .left))
     (lengths-tested _ _ w (c .before .before .before .narrow .ensures) (c .before .before .lengths-right .ensures) ∙ not-true _ (c .before .if4 .taken))))
-
-open-core-requires : tie.Need-open-core-requires
-open-core-requires c κs = search needs
 
 store-devices-requires : tie.Need-store-devices-requires
 store-devices-requires c κs =
@@ -80,18 +59,6 @@ store-devices-requires c κs =
       sym (ap (λ (s : Sizes). s .slots) (c .before .before .before .before .before .before .before .before .narrow .ensures)),
       sym (ap (λ (s : Sizes). s .widths) (c .before .before .before .before .before .before .before .before .narrow .ensures)),
     )
-
-settle-requires : tie.Need-settle-requires
-settle-requires c κs = search needs
-
-same-length : tie.Need-same-length
-same-length c = search needs
-
-same-length-2 : tie.Need-same-length-2
-same-length-2 c = search needs
-
-same-length-3 : tie.Need-same-length-3
-same-length-3 c = search needs
 
 returns-5 : tie.Need-returns-5
 returns-5 c =
@@ -110,24 +77,6 @@ make-fresh-requires c κs =
     let inside = sym (c .before .before .before .before .before .before .before .before .before .before .before .before .before .before .before .before .before .before .before .before .in-bounds .ensures) ∙ not-false _ (c .before .before .before .before .before .before .before .before .before .before .before .before .before .before .before .before .before .before .before .if3 .left) in
     memories-right _ _ w (c .before .before .before .before .before .before .before .before .before .before .before .before .before .before .before .before .before .before .narrow .ensures) inside right
 
-settle-requires-2 : tie.Need-settle-requires-2
-settle-requires-2 c κs = search needs
-
-same-length-4 : tie.Need-same-length-4
-same-length-4 c = search needs
-
-same-length-5 : tie.Need-same-length-5
-same-length-5 c = search needs
-
-same-length-6 : tie.Need-same-length-6
-same-length-6 c = search needs
-
-same-length-7 : tie.Need-same-length-7
-same-length-7 c = search needs
-
-same-length-8 : tie.Need-same-length-8
-same-length-8 c = search needs
-
 returns-6 : tie.Need-returns-6
 returns-6 c =
     let x = c .before .before .before .before .before .before .before .before .before .before .before .before .before .before .before .before .before .before .before .before .before .before .before .before .before .before .before .before .before .before .before .before .before .before .before .args in
@@ -142,30 +91,30 @@ pub format-spec : {M : Type 1} → statement M
 format-spec =
     tie.close
     (tie.spec
-    is-shut-requires
-    refuse-requires
+    (λ c κs. search needs)
+    (λ c κs. search needs)
     returns
-    refuse-requires-2
+    (λ c κs. search needs)
     returns-2
-    in-bounds-requires
-    refuse-requires-3
+    (λ c κs. search needs)
+    (λ c κs. search needs)
     returns-3
     narrow-requires
     lengths-right-requires
-    refuse-requires-4
+    (λ c κs. search needs)
     returns-4
-    open-core-requires
+    (λ c κs. search needs)
     store-devices-requires
-    settle-requires
-    same-length
-    same-length-2
-    same-length-3
+    (λ c κs. search needs)
+    (λ c. search needs)
+    (λ c. search needs)
+    (λ c. search needs)
     returns-5
     make-fresh-requires
-    settle-requires-2
-    same-length-4
-    same-length-5
-    same-length-6
-    same-length-7
-    same-length-8
+    (λ c κs. search needs)
+    (λ c. search needs)
+    (λ c. search needs)
+    (λ c. search needs)
+    (λ c. search needs)
+    (λ c. search needs)
     returns-6)

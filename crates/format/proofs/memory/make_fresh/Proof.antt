@@ -8,18 +8,6 @@ use Rattle.format.proofs.memory.make_fresh.Tie as tie
 total-requires : tie.Need-total-requires
 total-requires c κs = bounded _ (c .before .before .pre .sizes) .pages-max
 
-fill-words-requires : tie.Need-fill-words-requires
-fill-words-requires c κs = search needs
-
-fresh-work-requires : tie.Need-fresh-work-requires
-fresh-work-requires c κs = search needs
-
-same-length : tie.Need-same-length
-same-length c = search needs
-
-same-length-2 : tie.Need-same-length-2
-same-length-2 c = search needs
-
 returns : tie.Need-returns
 returns c =
     let at-fresh-work = c .before .before in
@@ -35,8 +23,8 @@ make-fresh-spec =
     tie.close
     (tie.spec
     total-requires
-    fill-words-requires
-    fresh-work-requires
-    same-length
-    same-length-2
+    (λ c κs. search needs)
+    (λ c κs. search needs)
+    (λ c. search needs)
+    (λ c. search needs)
     returns)

@@ -35,9 +35,6 @@ loop-holds c =
     let b = bounded _ (start .pre .0) in
     (omega arith, refl, start .pre .1, b .disks-max, b .ring-max, λ a m k work. ran-zero (tailOn (start .args .sizes .ring)) _ _)
 
-add-store-word : tie.Need-add-store-word Inv-loop μ-loop
-add-store-word c = search needs
-
 mul-store-word : tie.Need-mul-store-word Inv-loop μ-loop
 unfolding logWords diskAt ringOf
 mul-store-word c = omega (arith, disk-within (c .before .before .before .before .args .sizes) (c .before .before .loop .d) (omega arith), c .before .before .loop .inv .2)
@@ -46,9 +43,6 @@ store-word-requires : tie.Need-store-word-requires Inv-loop μ-loop
 unfolding logWords diskAt ringOf
 store-word-requires c κs = omega (arith, disk-within (c .before .before .before .before .before .args .sizes) (c .before .before .before .loop .d) (omega arith), c .before .before .before .loop .inv .1, c .before .before .before .loop .inv .2)
 
-same-length : tie.Need-same-length Inv-loop μ-loop
-same-length c = search needs
-
 returns : tie.Need-returns Inv-loop μ-loop
 unfolding tailStores tailWord diskAt listBelow tailsTo
 returns c =
@@ -56,12 +50,6 @@ returns c =
     λ a m k work.
     ran-stop (tailOn (s .ring)) (s .disks) (c .before .before .before .before .before .before .before .loop .d) (omega arith) (c .before .before .before .before .before .before .before .loop .inv .5 a m k work) (not-true _ (c .if1 .taken))
     (tail-ran a m k work (c .before .before .before .store-word .ensures))
-
-add-d : tie.Need-add-d Inv-loop μ-loop
-add-d c = search needs
-
-loop-less : tie.Need-loop-less Inv-loop μ-loop
-loop-less c = search needs
 
 loop-again : tie.Need-loop-again Inv-loop μ-loop
 unfolding tailsTo
@@ -76,9 +64,6 @@ loop-again c =
           ran-next (tailOn (s .ring)) (c .before .before .before .before .before .before .before .loop .d) (c .before .before .before .before .before .before .before .loop .inv .5 a m k work) (not-false _ (c .if1 .left)) (tail-ran a m k work (c .before .before .before .store-word .ensures)),
     )
 
-same-length-2 : tie.Need-same-length-2 Inv-loop μ-loop
-same-length-2 c = search needs
-
 returns-2 : tie.Need-returns-2 Inv-loop μ-loop
 unfolding tailStores tailWord diskAt listBelow tailsTo
 returns-2 c =
@@ -92,13 +77,13 @@ store-tails-spec =
     Inv-loop
     μ-loop
     loop-holds
-    add-store-word
+    (λ c. search needs)
     mul-store-word
     store-word-requires
-    same-length
+    (λ c. search needs)
     returns
-    add-d
-    loop-less
+    (λ c. search needs)
+    (λ c. search needs)
     loop-again
-    same-length-2
+    (λ c. search needs)
     returns-2)

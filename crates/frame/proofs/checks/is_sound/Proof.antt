@@ -8,18 +8,9 @@ use borrow.Author.Needs.{needs}
 use Rattle.frame.proofs.checks.is_sound.Statement.{statement}
 use Rattle.frame.proofs.checks.is_sound.Tie as tie
 
-is-shut-requires : tie.Need-is-shut-requires
-is-shut-requires c κs = search needs
-
 returns : tie.Need-returns
 returns c =
     rw (sound-by-stage (c .before .before .args .core), ← c .before .is-shut .ensures, c .if1 .taken) refl
-
-is-replaying-requires : tie.Need-is-replaying-requires
-is-replaying-requires c κs = search needs
-
-replay-sound-requires : tie.Need-replay-sound-requires
-replay-sound-requires c κs = search needs
 
 returns-2 : tie.Need-returns-2
 returns-2 c =
@@ -31,9 +22,6 @@ returns-2 c =
       c .before .if2 .taken,
     )
     (c .replay-sound .ensures)
-
-serving-sound-requires : tie.Need-serving-sound-requires
-serving-sound-requires c κs = search needs
 
 returns-3 : tie.Need-returns-3
 returns-3 c =
@@ -47,9 +35,6 @@ returns-3 c =
       not-true (c .before .serving-sound .result) (c .if3 .taken),
     )
     refl
-
-is-open-requires : tie.Need-is-open-requires
-is-open-requires c κs = search needs
 
 returns-4 : tie.Need-returns-4
 returns-4 c =
@@ -89,14 +74,14 @@ pub is-sound-spec : {M : Type 1} → statement M
 is-sound-spec =
     tie.close
     (tie.spec
-    is-shut-requires
+    (λ c κs. search needs)
     returns
-    is-replaying-requires
-    replay-sound-requires
+    (λ c κs. search needs)
+    (λ c κs. search needs)
     returns-2
-    serving-sound-requires
+    (λ c κs. search needs)
     returns-3
-    is-open-requires
+    (λ c κs. search needs)
     returns-4
     checkpoint-bounds-requires
     returns-5)

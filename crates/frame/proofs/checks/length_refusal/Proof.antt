@@ -10,9 +10,6 @@ returns : tie.Need-returns
 unfolding lengthRefusal
 returns c = rw (ne-eqb _ _ (c .if1 .taken)) refl
 
-lengths-right-requires : tie.Need-lengths-right-requires
-lengths-right-requires c κs = search needs
-
 returns-2 : tie.Need-returns-2
 unfolding lengthRefusal
 returns-2 c =
@@ -24,4 +21,4 @@ returns-3 c =
     rw (eq-eqb _ _ (c .before .before .if1 .left), ← c .before .lengths-right .ensures, c .if2 .left) refl
 
 pub length-refusal-spec : {M : Type 1} → statement M
-length-refusal-spec = tie.close (tie.spec returns lengths-right-requires returns-2 returns-3)
+length-refusal-spec = tie.close (tie.spec returns (λ c κs. search needs) returns-2 returns-3)

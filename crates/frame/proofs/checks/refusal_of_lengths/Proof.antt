@@ -11,9 +11,6 @@ returns : tie.Need-returns
 unfolding firstRefusal
 returns c = rw (not-true (c .before .args .allowed) (c .if1 .taken)) refl
 
-is-sound-requires : tie.Need-is-sound-requires
-is-sound-requires c κs = search needs
-
 returns-2 : tie.Need-returns-2
 unfolding firstRefusal
 returns-2 c = rw (not-false (c .before .before .before .args .allowed) (c .before .before .if1 .left), ← c .before .is-sound .ensures, not-true (c .before .is-sound .result) (c .if2 .taken)) refl
@@ -30,4 +27,4 @@ returns-3 c =
 
 pub refusal-of-lengths-spec : {M : Type 1} → statement M
 refusal-of-lengths-spec =
-    tie.close (tie.spec returns is-sound-requires returns-2 length-refusal-requires returns-3)
+    tie.close (tie.spec returns (λ c κs. search needs) returns-2 length-refusal-requires returns-3)

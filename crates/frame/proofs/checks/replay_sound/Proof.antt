@@ -7,9 +7,6 @@ use borrow.Author.Needs.{needs}
 use Rattle.frame.proofs.checks.replay_sound.Statement.{statement}
 use Rattle.frame.proofs.checks.replay_sound.Tie as tie
 
-sizes-in-bounds-requires : tie.Need-sizes-in-bounds-requires
-sizes-in-bounds-requires c κs = search needs
-
 returns : tie.Need-returns
 returns c = rw (replay-split (c .before .before .args .core), ← c .before .sizes-in-bounds .ensures, not-true (c .before .sizes-in-bounds .result) (c .if1 .taken)) refl
 
@@ -21,4 +18,4 @@ returns-2 c = rw (replay-split (c .before .before .before .args .core), ← c .b
 
 pub replay-sound-spec : {M : Type 1} → statement M
 replay-sound-spec =
-    tie.close (tie.spec sizes-in-bounds-requires returns replay-bounds-requires returns-2)
+    tie.close (tie.spec (λ c κs. search needs) returns replay-bounds-requires returns-2)

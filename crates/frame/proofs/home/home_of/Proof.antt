@@ -13,18 +13,6 @@ buffer-place-requires : tie.Need-buffer-place-requires
 unfolding workWords copyAt bufferAt
 buffer-place-requires c κs = (search needs, search needs, omega arith)
 
-mul-t9 : tie.Need-mul-t9
-mul-t9 c = search needs
-
-array-read-t12 : tie.Need-array-read-t12
-array-read-t12 c = search needs
-
-mul-t13 : tie.Need-mul-t13
-mul-t13 c = search needs
-
-array-read-t16 : tie.Need-array-read-t16
-array-read-t16 c = search needs
-
 returns : tie.Need-returns
 unfolding homeOf tailOf fillOf
 returns c =
@@ -35,4 +23,4 @@ returns c =
 
 pub home-of-spec : {M : Type 1} → statement M
 home-of-spec =
-    tie.close (tie.spec buffer-place-requires mul-t9 array-read-t12 mul-t13 array-read-t16 returns)
+    tie.close (tie.spec buffer-place-requires (λ c. search needs) (λ c. search needs) (λ c. search needs) (λ c. search needs) returns)

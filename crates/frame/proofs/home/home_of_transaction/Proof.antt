@@ -11,9 +11,6 @@ use borrow.Author.Needs.{needs}
 use Rattle.frame.proofs.home.home_of_transaction.Statement.{statement}
 use Rattle.frame.proofs.home.home_of_transaction.Tie as tie
 
-place-of-requires : tie.Need-place-of-requires
-place-of-requires c κs = search needs
-
 mul-disk : tie.Need-mul-disk
 mul-disk c =
     let start = c .before .before in
@@ -41,4 +38,4 @@ returns c = (rw (c .home-of .ensures .0, c .before .before .place-of .ensures) r
 
 pub home-of-transaction-spec : {M : Type 1} → statement M
 home-of-transaction-spec =
-    tie.close (tie.spec place-of-requires mul-disk array-read-disk home-of-requires returns)
+    tie.close (tie.spec (λ c κs. search needs) mul-disk array-read-disk home-of-requires returns)

@@ -4,17 +4,11 @@ use borrow.Author.Needs.{needs}
 use Rattle.frame.proofs.settle.settle.Statement.{statement}
 use Rattle.frame.proofs.settle.settle.Tie as tie
 
-saturating-sub-requires : tie.Need-saturating-sub-requires
-saturating-sub-requires c κs = search needs
-
 returns : tie.Need-returns
 returns c = rw (c .if1 .taken, c .before .saturating-sub .ensures) refl
-
-new-core-requires : tie.Need-new-core-requires
-new-core-requires c κs = search needs
 
 returns-2 : tie.Need-returns-2
 returns-2 c = rw (c .before .if1 .left, c .before .before .saturating-sub .ensures, c .new-core .ensures) refl
 
 pub settle-spec : {M : Type 1} → statement M
-settle-spec = tie.close (tie.spec saturating-sub-requires returns new-core-requires returns-2)
+settle-spec = tie.close (tie.spec (λ c κs. search needs) returns (λ c κs. search needs) returns-2)

@@ -6,35 +6,11 @@ use Rattle.hall.proofs.Holding.{piece-read, has-begun}
 use Rattle.hall.proofs.console.feed_line.Statement.{statement}
 use Rattle.hall.proofs.console.feed_line.Tie as tie
 
-sub-line-length : tie.Need-sub-line-length
-sub-line-length c = search needs
-
-part-line-length-start : tie.Need-part-line-length-start
-part-line-length-start c = search needs
-
-part-line-length-end : tie.Need-part-line-length-end
-part-line-length-end c = search needs
-
 line-length-requires : tie.Need-line-length-requires
 line-length-requires c κs = tt
 
-add-end : tie.Need-add-end
-add-end c = search needs
-
-sub-read-piece : tie.Need-sub-read-piece
-sub-read-piece c = search needs
-
-part-read-piece-start : tie.Need-part-read-piece-start
-part-read-piece-start c = search needs
-
-part-read-piece-end : tie.Need-part-read-piece-end
-part-read-piece-end c = search needs
-
 read-piece-requires : tie.Need-read-piece-requires
 read-piece-requires c κs = tt
-
-add-next : tie.Need-add-next
-add-next c = search needs
 
 take-line-requires : tie.Need-take-line-requires
 take-line-requires c κs =
@@ -94,16 +70,16 @@ pub feed-line-spec : {M : Type 1} → statement M
 feed-line-spec =
     tie.close
     (tie.spec
-    sub-line-length
-    part-line-length-start
-    part-line-length-end
+    (λ c. search needs)
+    (λ c. search needs)
+    (λ c. search needs)
     line-length-requires
-    add-end
-    sub-read-piece
-    part-read-piece-start
-    part-read-piece-end
+    (λ c. search needs)
+    (λ c. search needs)
+    (λ c. search needs)
+    (λ c. search needs)
     read-piece-requires
-    add-next
+    (λ c. search needs)
     take-line-requires
     same-length
     same-length-2

@@ -5,23 +5,11 @@ use Rattle.hall.specs.Running.{textOf}
 use Rattle.hall.proofs.output.text_of.Statement.{statement}
 use Rattle.hall.proofs.output.text_of.Tie as tie
 
-put-other-requires : tie.Need-put-other-requires
-put-other-requires c κs = search needs
-
-same-length : tie.Need-same-length
-same-length c = search needs
-
 returns : tie.Need-returns
 unfolding textOf
 returns c =
     let put = c .before .before in
     (put .put-other .ensures .0, rw (eq-eqb _ 17 (put .before .before .if1 .taken)) (put .put-other .ensures .1))
-
-put-line-requires : tie.Need-put-line-requires
-put-line-requires c κs = search needs
-
-same-length-2 : tie.Need-same-length-2
-same-length-2 c = search needs
 
 returns-2 : tie.Need-returns-2
 unfolding textOf
@@ -32,4 +20,4 @@ returns-2 c =
 pub text-of-spec : {M : Type 1} → statement M
 text-of-spec =
     tie.close
-    (tie.spec put-other-requires same-length returns put-line-requires same-length-2 returns-2)
+    (tie.spec (λ c κs. search needs) (λ c. search needs) returns (λ c κs. search needs) (λ c. search needs) returns-2)

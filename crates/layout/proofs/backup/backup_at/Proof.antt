@@ -8,9 +8,6 @@ use Rattle.model.specs.Anchor.{backupAt}
 use Rattle.layout.proofs.backup.backup_at.Statement.{statement}
 use Rattle.layout.proofs.backup.backup_at.Tie as tie
 
-total-requires : tie.Need-total-requires
-total-requires c κs = search needs
-
 returns : tie.Need-returns
 unfolding backupAt
 returns c = (rw (c .if1 .taken, zero-mul), omega arith)
@@ -22,4 +19,4 @@ returns-2 c =
     (rw (odd, one-mul) (c .before .total .ensures .0), omega arith)
 
 pub backup-at-spec : {M : Type 1} → statement M
-backup-at-spec = tie.close (tie.spec total-requires returns returns-2)
+backup-at-spec = tie.close (tie.spec (λ c κs. search needs) returns returns-2)

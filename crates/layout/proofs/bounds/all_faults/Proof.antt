@@ -23,24 +23,6 @@ loop-holds : tie.Need-loop-holds Inv-loop μ-loop
 unfolding allBelow
 loop-holds c = search needs
 
-element-copy-out-unused-fault : tie.Need-element-copy-out-unused-fault Inv-loop μ-loop
-element-copy-out-unused-fault c = search needs
-
-element-copy-out-unused-fault-2 : tie.Need-element-copy-out-unused-fault-2 Inv-loop μ-loop
-element-copy-out-unused-fault-2 c = search needs
-
-unused-fault-requires : tie.Need-unused-fault-requires Inv-loop μ-loop
-unused-fault-requires c κs = search needs
-
-add-faults : tie.Need-add-faults Inv-loop μ-loop
-add-faults c = search needs
-
-add-i : tie.Need-add-i Inv-loop μ-loop
-add-i c = search needs
-
-loop-less : tie.Need-loop-less Inv-loop μ-loop
-loop-less c = search needs
-
 loop-again : tie.Need-loop-again Inv-loop μ-loop
 unfolding entryInBounds usedEntry unusedEntry pageWords slotsIn widthIn
 loop-again c =
@@ -62,11 +44,11 @@ all-faults-spec =
     Inv-loop
     μ-loop
     loop-holds
-    element-copy-out-unused-fault
-    element-copy-out-unused-fault-2
-    unused-fault-requires
-    add-faults
-    add-i
-    loop-less
+    (λ c. search needs)
+    (λ c. search needs)
+    (λ c κs. search needs)
+    (λ c. search needs)
+    (λ c. search needs)
+    (λ c. search needs)
     loop-again
     returns)

@@ -14,26 +14,8 @@ Inv-loop words bytes₀ i₀ bytes i = (i ≤ 64) × (length bytes ≡ 64) × (t
 abbrev μ-loop : tie.MeasureT-loop
 μ-loop words bytes₀ i₀ bytes i = 64 - i
 
-loop-holds : tie.Need-loop-holds Inv-loop μ-loop
-loop-holds c = search needs
-
-mul-bytes : tie.Need-mul-bytes Inv-loop μ-loop
-mul-bytes c = search needs
-
-array-read-bytes : tie.Need-array-read-bytes Inv-loop μ-loop
-array-read-bytes c = search needs
-
 cast-bytes : tie.Need-cast-bytes Inv-loop μ-loop
 cast-bytes c = omega (arith, c .before .before .pre (c .before .loop .i) (omega arith))
-
-array-write-bytes : tie.Need-array-write-bytes Inv-loop μ-loop
-array-write-bytes c = search needs
-
-add-i : tie.Need-add-i Inv-loop μ-loop
-add-i c = search needs
-
-loop-less : tie.Need-loop-less Inv-loop μ-loop
-loop-less c = search needs
 
 loop-again : tie.Need-loop-again Inv-loop μ-loop
 loop-again c =
@@ -57,12 +39,12 @@ bytes-of-spec =
     (tie.spec
     Inv-loop
     μ-loop
-    loop-holds
-    mul-bytes
-    array-read-bytes
+    (λ c. search needs)
+    (λ c. search needs)
+    (λ c. search needs)
     cast-bytes
-    array-write-bytes
-    add-i
-    loop-less
+    (λ c. search needs)
+    (λ c. search needs)
+    (λ c. search needs)
     loop-again
     returns)

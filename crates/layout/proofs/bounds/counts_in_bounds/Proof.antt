@@ -4,14 +4,8 @@ use borrow.Author.Tests.{not-true, not-false}
 use Rattle.layout.proofs.bounds.counts_in_bounds.Statement.{statement}
 use Rattle.layout.proofs.bounds.counts_in_bounds.Tie as tie
 
-is-within-requires : tie.Need-is-within-requires
-is-within-requires c κs = search needs
-
 returns : tie.Need-returns
 returns c = rw (sym (c .before .is-within .ensures) ∙ not-true _ (c .if1 .taken))
-
-is-within-requires-2 : tie.Need-is-within-requires-2
-is-within-requires-2 c κs = search needs
 
 returns-2 : tie.Need-returns-2
 returns-2 c =
@@ -19,9 +13,6 @@ returns-2 c =
       sym (c .before .before .before .is-within .ensures) ∙ not-false _ (c .before .before .if1 .left),
       sym (c .before .is-within2 .ensures) ∙ not-true _ (c .if2 .taken),
     )
-
-is-within-requires-3 : tie.Need-is-within-requires-3
-is-within-requires-3 c κs = search needs
 
 returns-3 : tie.Need-returns-3
 returns-3 c =
@@ -34,9 +25,9 @@ pub counts-in-bounds-spec : {M : Type 1} → statement M
 counts-in-bounds-spec =
     tie.close
     (tie.spec
-    is-within-requires
+    (λ c κs. search needs)
     returns
-    is-within-requires-2
+    (λ c κs. search needs)
     returns-2
-    is-within-requires-3
+    (λ c κs. search needs)
     returns-3)

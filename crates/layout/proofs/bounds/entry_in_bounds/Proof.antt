@@ -13,20 +13,8 @@ returns-2 c =
     let x = c .before .before .args in
     width-large (x .slots) (x .width) (x .used) (c .if2 .taken)
 
-cast-slot-byte : tie.Need-cast-slot-byte
-cast-slot-byte c = search needs
-
-cast-width-byte : tie.Need-cast-width-byte
-cast-width-byte c = search needs
-
-used-fault-requires : tie.Need-used-fault-requires
-used-fault-requires c κs = search needs
-
 returns-3 : tie.Need-returns-3
 returns-3 c = rw (c .before .if3 .taken) (no-fault _ _ (c .used-fault .ensures .1))
-
-unused-fault-requires : tie.Need-unused-fault-requires
-unused-fault-requires c κs = search needs
 
 returns-4 : tie.Need-returns-4
 returns-4 c = rw (c .before .if3 .left) (no-fault _ _ (c .unused-fault .ensures .1))
@@ -34,4 +22,4 @@ returns-4 c = rw (c .before .if3 .left) (no-fault _ _ (c .unused-fault .ensures 
 pub entry-in-bounds-spec : {M : Type 1} → statement M
 entry-in-bounds-spec =
     tie.close
-    (tie.spec returns returns-2 cast-slot-byte cast-width-byte used-fault-requires returns-3 unused-fault-requires returns-4)
+    (tie.spec returns returns-2 (λ c. search needs) (λ c. search needs) (λ c κs. search needs) returns-3 (λ c κs. search needs) returns-4)

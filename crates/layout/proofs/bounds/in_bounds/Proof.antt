@@ -19,41 +19,17 @@ Inv-loop pages disks ring slots widths end i₀ i =
 abbrev μ-loop : tie.MeasureT-loop
 μ-loop pages disks ring slots widths end i₀ i = 64 - i
 
-counts-in-bounds-requires : tie.Need-counts-in-bounds-requires Inv-loop μ-loop
-counts-in-bounds-requires c κs = search needs
-
 returns : tie.Need-returns Inv-loop μ-loop
 returns c = counts-out _ (sym (c .before .counts-in-bounds .ensures) ∙ not-true _ (c .if1 .taken))
 
 loop-holds : tie.Need-loop-holds Inv-loop μ-loop
 loop-holds c = (omega arith, all-none _)
 
-mul-entry-in-bounds : tie.Need-mul-entry-in-bounds Inv-loop μ-loop
-mul-entry-in-bounds c = search needs
-
-array-read-entry-in-bounds : tie.Need-array-read-entry-in-bounds Inv-loop μ-loop
-array-read-entry-in-bounds c = search needs
-
-mul-entry-in-bounds-2 : tie.Need-mul-entry-in-bounds-2 Inv-loop μ-loop
-mul-entry-in-bounds-2 c = search needs
-
-array-read-entry-in-bounds-2 : tie.Need-array-read-entry-in-bounds-2 Inv-loop μ-loop
-array-read-entry-in-bounds-2 c = search needs
-
-entry-in-bounds-requires : tie.Need-entry-in-bounds-requires Inv-loop μ-loop
-entry-in-bounds-requires c κs = search needs
-
 returns-2 : tie.Need-returns-2 Inv-loop μ-loop
 unfolding entryInBounds usedEntry unusedEntry pageWords slotsIn widthIn
 returns-2 c =
     let test = c .before .entry-in-bounds .ensures in
     entry-out _ (c .before .before .before .loop .i) (search needs) (sym test ∙ not-true _ (c .if2 .taken))
-
-add-i : tie.Need-add-i Inv-loop μ-loop
-add-i c = search needs
-
-loop-less : tie.Need-loop-less Inv-loop μ-loop
-loop-less c = search needs
 
 loop-again : tie.Need-loop-again Inv-loop μ-loop
 unfolding entryInBounds usedEntry unusedEntry pageWords slotsIn widthIn
@@ -73,16 +49,16 @@ in-bounds-spec =
     (tie.spec
     Inv-loop
     μ-loop
-    counts-in-bounds-requires
+    (λ c κs. search needs)
     returns
     loop-holds
-    mul-entry-in-bounds
-    array-read-entry-in-bounds
-    mul-entry-in-bounds-2
-    array-read-entry-in-bounds-2
-    entry-in-bounds-requires
+    (λ c. search needs)
+    (λ c. search needs)
+    (λ c. search needs)
+    (λ c. search needs)
+    (λ c κs. search needs)
     returns-2
-    add-i
-    loop-less
+    (λ c. search needs)
+    (λ c. search needs)
     loop-again
     returns-3)

@@ -9,17 +9,8 @@ use Rattle.layout.proofs.Laws.{product-max}
 use Rattle.layout.proofs.bounds.lengths_right.Statement.{statement}
 use Rattle.layout.proofs.bounds.lengths_right.Tie as tie
 
-total-in-bounds-requires : tie.Need-total-in-bounds-requires
-total-in-bounds-requires c κs = search needs
-
-cast-words : tie.Need-cast-words
-cast-words c = search needs
-
 returns : tie.Need-returns
 returns c = rw (← c .before .total-in-bounds .ensures, ne-eqb _ _ (c .if1 .taken))
-
-mul-if2 : tie.Need-mul-if2
-mul-if2 c = search needs
 
 returns-2 : tie.Need-returns-2
 returns-2 c =
@@ -67,10 +58,10 @@ pub lengths-right-spec : {M : Type 1} → statement M
 lengths-right-spec =
     tie.close
     (tie.spec
-    total-in-bounds-requires
-    cast-words
+    (λ c κs. search needs)
+    (λ c. search needs)
     returns
-    mul-if2
+    (λ c. search needs)
     returns-2
     add-if3
     mul-if3

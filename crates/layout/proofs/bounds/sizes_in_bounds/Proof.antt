@@ -7,9 +7,6 @@ use Rattle.layout.proofs.Laws.{counts-out, all-entries}
 use Rattle.layout.proofs.bounds.sizes_in_bounds.Statement.{statement}
 use Rattle.layout.proofs.bounds.sizes_in_bounds.Tie as tie
 
-counts-in-bounds-requires : tie.Need-counts-in-bounds-requires
-counts-in-bounds-requires c κs = search needs
-
 returns : tie.Need-returns
 returns c = counts-out _ (sym (c .before .counts-in-bounds .ensures) ∙ not-true _ (c .if1 .taken))
 
@@ -34,4 +31,4 @@ returns-2 c =
 pub sizes-in-bounds-spec : {M : Type 1} → statement M
 sizes-in-bounds-spec =
     tie.close
-    (tie.spec counts-in-bounds-requires returns used-faults-requires all-faults-requires returns-2)
+    (tie.spec (λ c κs. search needs) returns used-faults-requires all-faults-requires returns-2)

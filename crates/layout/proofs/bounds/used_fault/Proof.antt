@@ -4,9 +4,6 @@ use Rattle.layout.proofs.Faults.{no-words, too-many, too-wide, all-righ
 use Rattle.layout.proofs.bounds.used_fault.Statement.{statement}
 use Rattle.layout.proofs.bounds.used_fault.Tie as tie
 
-words-of-requires : tie.Need-words-of-requires
-words-of-requires c κs = search needs
-
 returns : tie.Need-returns
 returns c = (omega arith, rw (no-words _ _ (rw (c .before .words-of .ensures) at (c .if1 .taken))))
 
@@ -22,4 +19,4 @@ returns-4 c =
     (omega arith, rw (all-right _ _ (rw words at (c .before .before .if1 .left)) (rw words at (c .before .if2 .left)) (c .if3 .left)))
 
 pub used-fault-spec : {M : Type 1} → statement M
-used-fault-spec = tie.close (tie.spec words-of-requires returns returns-2 returns-3 returns-4)
+used-fault-spec = tie.close (tie.spec (λ c κs. search needs) returns returns-2 returns-3 returns-4)

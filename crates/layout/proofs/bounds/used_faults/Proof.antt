@@ -23,24 +23,6 @@ loop-holds : tie.Need-loop-holds Inv-loop μ-loop
 unfolding allBelow
 loop-holds c = search needs
 
-element-copy-out-used-fault : tie.Need-element-copy-out-used-fault Inv-loop μ-loop
-element-copy-out-used-fault c = search needs
-
-element-copy-out-used-fault-2 : tie.Need-element-copy-out-used-fault-2 Inv-loop μ-loop
-element-copy-out-used-fault-2 c = search needs
-
-used-fault-requires : tie.Need-used-fault-requires Inv-loop μ-loop
-used-fault-requires c κs = search needs
-
-add-faults : tie.Need-add-faults Inv-loop μ-loop
-add-faults c = search needs
-
-add-i : tie.Need-add-i Inv-loop μ-loop
-add-i c = search needs
-
-loop-less : tie.Need-loop-less Inv-loop μ-loop
-loop-less c = search needs
-
 loop-again : tie.Need-loop-again Inv-loop μ-loop
 unfolding entryInBounds usedEntry unusedEntry pageWords slotsIn widthIn
 loop-again c =
@@ -62,11 +44,11 @@ used-faults-spec =
     Inv-loop
     μ-loop
     loop-holds
-    element-copy-out-used-fault
-    element-copy-out-used-fault-2
-    used-fault-requires
-    add-faults
-    add-i
-    loop-less
+    (λ c. search needs)
+    (λ c. search needs)
+    (λ c κs. search needs)
+    (λ c. search needs)
+    (λ c. search needs)
+    (λ c. search needs)
     loop-again
     returns)

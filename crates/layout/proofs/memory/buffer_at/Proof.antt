@@ -5,18 +5,9 @@ use Rattle.model.specs.Memory.{bufferAt}
 use Rattle.layout.proofs.memory.buffer_at.Statement.{statement}
 use Rattle.layout.proofs.memory.buffer_at.Tie as tie
 
-total-requires : tie.Need-total-requires
-total-requires c κs = search needs
-
-mul-result : tie.Need-mul-result
-mul-result c = search needs
-
-add-result : tie.Need-add-result
-add-result c = search needs
-
 returns : tie.Need-returns
 unfolding bufferAt
 returns c = (omega arith, omega arith)
 
 pub buffer-at-spec : {M : Type 1} → statement M
-buffer-at-spec = tie.close (tie.spec total-requires mul-result add-result returns)
+buffer-at-spec = tie.close (tie.spec (λ c κs. search needs) (λ c. search needs) (λ c. search needs) returns)

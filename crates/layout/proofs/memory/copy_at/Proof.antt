@@ -5,15 +5,9 @@ use Rattle.model.specs.Memory.{copyAt}
 use Rattle.layout.proofs.memory.copy_at.Statement.{statement}
 use Rattle.layout.proofs.memory.copy_at.Tie as tie
 
-buffer-at-requires : tie.Need-buffer-at-requires
-buffer-at-requires c κs = search needs
-
-add-result : tie.Need-add-result
-add-result c = search needs
-
 returns : tie.Need-returns
 unfolding copyAt
 returns c = (omega arith, omega arith)
 
 pub copy-at-spec : {M : Type 1} → statement M
-copy-at-spec = tie.close (tie.spec buffer-at-requires add-result returns)
+copy-at-spec = tie.close (tie.spec (λ c κs. search needs) (λ c. search needs) returns)

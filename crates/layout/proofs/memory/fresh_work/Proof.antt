@@ -23,9 +23,6 @@ fill-words-requires-2 : tie.Need-fill-words-requires-2
 unfolding workWords copyAt bufferAt
 fill-words-requires-2 c κs = omega arith
 
-same-length : tie.Need-same-length
-same-length c = search needs
-
 returns : tie.Need-returns
 returns c =
     let at-fill-words2 = c .before .before in
@@ -42,5 +39,5 @@ fresh-work-spec =
     copy-at-requires
     fill-words-requires
     fill-words-requires-2
-    same-length
+    (λ c. search needs)
     returns)

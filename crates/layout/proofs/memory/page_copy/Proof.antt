@@ -12,12 +12,6 @@ sub-at : tie.Need-sub-at
 unfolding workWords copyAt
 sub-at c = omega arith
 
-add-at : tie.Need-add-at
-add-at c = search needs
-
-mul-result : tie.Need-mul-result
-mul-result c = search needs
-
 shared-slice-read-result : tie.Need-shared-slice-read-result
 unfolding workWords copyAt
 shared-slice-read-result c = search needs
@@ -30,4 +24,4 @@ returns c =
     rw same refl
 
 pub page-copy-spec : {M : Type 1} → statement M
-page-copy-spec = tie.close (tie.spec sub-at add-at mul-result shared-slice-read-result returns)
+page-copy-spec = tie.close (tie.spec sub-at (λ c. search needs) (λ c. search needs) shared-slice-read-result returns)

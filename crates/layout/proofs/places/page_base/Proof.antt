@@ -21,33 +21,9 @@ loop-holds : tie.Need-loop-holds Inv-loop μ-loop
 unfolding sumBelow
 loop-holds c = search needs
 
-array-read-words-of : tie.Need-array-read-words-of Inv-loop μ-loop
-array-read-words-of c = search needs
-
-array-read-words-of-2 : tie.Need-array-read-words-of-2 Inv-loop μ-loop
-array-read-words-of-2 c = search needs
-
-words-of-requires : tie.Need-words-of-requires Inv-loop μ-loop
-words-of-requires c κs = search needs
-
-cast-sum : tie.Need-cast-sum Inv-loop μ-loop
-cast-sum c = search needs
-
-add-sum : tie.Need-add-sum Inv-loop μ-loop
-add-sum c = search needs
-
-add-i : tie.Need-add-i Inv-loop μ-loop
-add-i c = search needs
-
-loop-less : tie.Need-loop-less Inv-loop μ-loop
-loop-less c = search needs
-
 loop-again : tie.Need-loop-again Inv-loop μ-loop
 loop-again c =
     (omega arith, omega arith, rw (sum-step, c .words-of .ensures, c .before .before .loop .inv .2))
-
-cast-result : tie.Need-cast-result Inv-loop μ-loop
-cast-result c = search needs
 
 returns : tie.Need-returns Inv-loop μ-loop
 unfolding pageBase pageWords slotsIn widthIn
@@ -62,13 +38,13 @@ page-base-spec =
     Inv-loop
     μ-loop
     loop-holds
-    array-read-words-of
-    array-read-words-of-2
-    words-of-requires
-    cast-sum
-    add-sum
-    add-i
-    loop-less
+    (λ c. search needs)
+    (λ c. search needs)
+    (λ c κs. search needs)
+    (λ c. search needs)
+    (λ c. search needs)
+    (λ c. search needs)
+    (λ c. search needs)
     loop-again
-    cast-result
+    (λ c. search needs)
     returns)

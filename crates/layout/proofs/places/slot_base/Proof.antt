@@ -5,15 +5,6 @@ use Rattle.layout.proofs.Laws.{product-max}
 use Rattle.layout.proofs.places.slot_base.Statement.{statement}
 use Rattle.layout.proofs.places.slot_base.Tie as tie
 
-array-read-word-of : tie.Need-array-read-word-of
-array-read-word-of c = search needs
-
-word-of-requires : tie.Need-word-of-requires
-word-of-requires c κs = search needs
-
-page-base-requires : tie.Need-page-base-requires
-page-base-requires c κs = search needs
-
 mul-result : tie.Need-mul-result
 mul-result c =
     record { fits = omega (arith, product-max (c .before .before .before .args .slot) (c .before .word-of .result) 65535 255 (search needs) (search needs)) }
@@ -32,4 +23,4 @@ returns c = (
 pub slot-base-spec : {M : Type 1} → statement M
 slot-base-spec =
     tie.close
-    (tie.spec array-read-word-of word-of-requires page-base-requires mul-result add-result returns)
+    (tie.spec (λ c. search needs) (λ c κs. search needs) (λ c κs. search needs) mul-result add-result returns)

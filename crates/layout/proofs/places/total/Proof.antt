@@ -3,12 +3,9 @@ use Rattle.model.specs.Sizes.{total}
 use Rattle.layout.proofs.places.total.Statement.{statement}
 use Rattle.layout.proofs.places.total.Tie as tie
 
-page-base-requires : tie.Need-page-base-requires
-page-base-requires c κs = search needs
-
 returns : tie.Need-returns
 unfolding total
 returns c = c .page-base .ensures
 
 pub total-spec : {M : Type 1} → statement M
-total-spec = tie.close (tie.spec page-base-requires returns)
+total-spec = tie.close (tie.spec (λ c κs. search needs) returns)

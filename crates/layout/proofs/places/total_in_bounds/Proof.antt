@@ -22,24 +22,9 @@ loop-holds : tie.Need-loop-holds Inv-loop μ-loop
 unfolding sumBelow
 loop-holds c = search needs
 
-array-read-words-of : tie.Need-array-read-words-of Inv-loop μ-loop
-array-read-words-of c = search needs
-
-array-read-words-of-2 : tie.Need-array-read-words-of-2 Inv-loop μ-loop
-array-read-words-of-2 c = search needs
-
-words-of-requires : tie.Need-words-of-requires Inv-loop μ-loop
-words-of-requires c κs = search needs
-
 add-sum : tie.Need-add-sum Inv-loop μ-loop
 unfolding pageWords slotsIn widthIn
 add-sum c = omega (arith, c .words-of .ensures, page-small (c .before .before .before .before .before .args .sizes) (c .before .before .before .before .before .pre) (c .before .before .loop .i) (omega arith))
-
-add-i : tie.Need-add-i Inv-loop μ-loop
-add-i c = search needs
-
-loop-less : tie.Need-loop-less Inv-loop μ-loop
-loop-less c = search needs
 
 loop-again : tie.Need-loop-again Inv-loop μ-loop
 unfolding pageWords slotsIn widthIn
@@ -60,11 +45,11 @@ total-in-bounds-spec =
     Inv-loop
     μ-loop
     loop-holds
-    array-read-words-of
-    array-read-words-of-2
-    words-of-requires
+    (λ c. search needs)
+    (λ c. search needs)
+    (λ c κs. search needs)
     add-sum
-    add-i
-    loop-less
+    (λ c. search needs)
+    (λ c. search needs)
     loop-again
     returns)

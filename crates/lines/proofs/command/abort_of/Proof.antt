@@ -5,9 +5,6 @@ use Rattle.lines.specs.Line.{abortOf}
 use Rattle.lines.proofs.command.abort_of.Statement.{statement}
 use Rattle.lines.proofs.command.abort_of.Tie as tie
 
-shared-slice-read-t5 : tie.Need-shared-slice-read-t5
-shared-slice-read-t5 c = search needs
-
 returns : tie.Need-returns
 unfolding abortOf
 returns c = rw (eq-eqb _ _ (c .before .if1 .taken))
@@ -17,4 +14,4 @@ unfolding abortOf
 returns-2 c = rw (ne-eqb _ _ (c .if1 .left))
 
 pub abort-of-spec : {M : Type 1} → statement M
-abort-of-spec = tie.close (tie.spec shared-slice-read-t5 returns returns-2)
+abort-of-spec = tie.close (tie.spec (λ c. search needs) returns returns-2)

@@ -4,29 +4,11 @@ use Rattle.lines.specs.Line.{bareForm}
 use Rattle.lines.proofs.command.bare_form.Statement.{statement}
 use Rattle.lines.proofs.command.bare_form.Tie as tie
 
-slice-aggregate-is-same : tie.Need-slice-aggregate-is-same
-slice-aggregate-is-same c = search needs
-
-is-same-requires : tie.Need-is-same-requires
-is-same-requires c κs = search needs
-
-bare-requires : tie.Need-bare-requires
-bare-requires c κs = search needs
-
 returns : tie.Need-returns
 unfolding bareForm
 returns c =
     let first = c .before in
     rw (← first .before .is-same .ensures, first .if1 .taken) (c .bare .ensures)
-
-slice-aggregate-is-same-2 : tie.Need-slice-aggregate-is-same-2
-slice-aggregate-is-same-2 c = search needs
-
-is-same-requires-2 : tie.Need-is-same-requires-2
-is-same-requires-2 c κs = search needs
-
-bare-requires-2 : tie.Need-bare-requires-2
-bare-requires-2 c κs = search needs
 
 returns-2 : tie.Need-returns-2
 unfolding bareForm
@@ -35,15 +17,6 @@ returns-2 c =
     let first = second .before .before .before in
     rw (← first .before .is-same .ensures, first .if1 .left, ← second .before .is-same2 .ensures, second .if2 .taken) (c .bare2 .ensures)
 
-slice-aggregate-is-same-3 : tie.Need-slice-aggregate-is-same-3
-slice-aggregate-is-same-3 c = search needs
-
-is-same-requires-3 : tie.Need-is-same-requires-3
-is-same-requires-3 c κs = search needs
-
-bare-requires-3 : tie.Need-bare-requires-3
-bare-requires-3 c κs = search needs
-
 returns-3 : tie.Need-returns-3
 unfolding bareForm
 returns-3 c =
@@ -51,15 +24,6 @@ returns-3 c =
     let second = third .before .before .before in
     let first = second .before .before .before in
     rw (← first .before .is-same .ensures, first .if1 .left, ← second .before .is-same2 .ensures, second .if2 .left, ← third .before .is-same3 .ensures, third .if3 .taken) (c .bare3 .ensures)
-
-slice-aggregate-is-same-4 : tie.Need-slice-aggregate-is-same-4
-slice-aggregate-is-same-4 c = search needs
-
-is-same-requires-4 : tie.Need-is-same-requires-4
-is-same-requires-4 c κs = search needs
-
-bare-requires-4 : tie.Need-bare-requires-4
-bare-requires-4 c κs = search needs
 
 returns-4 : tie.Need-returns-4
 unfolding bareForm
@@ -83,20 +47,20 @@ pub bare-form-spec : {M : Type 1} → statement M
 bare-form-spec =
     tie.close
     (tie.spec
-    slice-aggregate-is-same
-    is-same-requires
-    bare-requires
+    (λ c. search needs)
+    (λ c κs. search needs)
+    (λ c κs. search needs)
     returns
-    slice-aggregate-is-same-2
-    is-same-requires-2
-    bare-requires-2
+    (λ c. search needs)
+    (λ c κs. search needs)
+    (λ c κs. search needs)
     returns-2
-    slice-aggregate-is-same-3
-    is-same-requires-3
-    bare-requires-3
+    (λ c. search needs)
+    (λ c κs. search needs)
+    (λ c κs. search needs)
     returns-3
-    slice-aggregate-is-same-4
-    is-same-requires-4
-    bare-requires-4
+    (λ c. search needs)
+    (λ c κs. search needs)
+    (λ c κs. search needs)
     returns-4
     returns-5)

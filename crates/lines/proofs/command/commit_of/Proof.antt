@@ -5,18 +5,9 @@ use Rattle.lines.specs.Line.{commitOf}
 use Rattle.lines.proofs.command.commit_of.Statement.{statement}
 use Rattle.lines.proofs.command.commit_of.Tie as tie
 
-shared-slice-read-t5 : tie.Need-shared-slice-read-t5
-shared-slice-read-t5 c = search needs
-
 returns : tie.Need-returns
 unfolding commitOf
 returns c = rw (eq-eqb _ _ (c .before .if1 .taken))
-
-shared-slice-read-t7 : tie.Need-shared-slice-read-t7
-shared-slice-read-t7 c = search needs
-
-shared-slice-read-t9 : tie.Need-shared-slice-read-t9
-shared-slice-read-t9 c = search needs
 
 returns-2 : tie.Need-returns-2
 unfolding commitOf
@@ -30,9 +21,9 @@ pub commit-of-spec : {M : Type 1} → statement M
 commit-of-spec =
     tie.close
     (tie.spec
-    shared-slice-read-t5
+    (λ c. search needs)
     returns
-    shared-slice-read-t7
-    shared-slice-read-t9
+    (λ c. search needs)
+    (λ c. search needs)
     returns-2
     returns-3)

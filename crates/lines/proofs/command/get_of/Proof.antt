@@ -5,12 +5,6 @@ use Rattle.lines.specs.Line.{getOf}
 use Rattle.lines.proofs.command.get_of.Statement.{statement}
 use Rattle.lines.proofs.command.get_of.Tie as tie
 
-shared-slice-read-t5 : tie.Need-shared-slice-read-t5
-shared-slice-read-t5 c = search needs
-
-shared-slice-read-t7 : tie.Need-shared-slice-read-t7
-shared-slice-read-t7 c = search needs
-
 returns : tie.Need-returns
 unfolding getOf
 returns c = rw (eq-eqb _ _ (c .before .before .if1 .taken))
@@ -20,4 +14,4 @@ unfolding getOf
 returns-2 c = rw (ne-eqb _ _ (c .if1 .left))
 
 pub get-of-spec : {M : Type 1} → statement M
-get-of-spec = tie.close (tie.spec shared-slice-read-t5 shared-slice-read-t7 returns returns-2)
+get-of-spec = tie.close (tie.spec (λ c. search needs) (λ c. search needs) returns returns-2)

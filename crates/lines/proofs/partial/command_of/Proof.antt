@@ -20,29 +20,11 @@ array-share-prefix-name c = let e : length (c .before .before .before .before .b
 slice-aggregate-form-of : tie.Need-slice-aggregate-form-of
 slice-aggregate-form-of c = part-count _ 7 _ (search needs) (omega arith)
 
-array-share-prefix-values : tie.Need-array-share-prefix-values
-array-share-prefix-values c = search needs
-
-slice-aggregate-form-of-2 : tie.Need-slice-aggregate-form-of-2
-slice-aggregate-form-of-2 c = search needs
-
-form-of-requires : tie.Need-form-of-requires
-form-of-requires c κs = search needs
-
 returns-3 : tie.Need-returns-3
 returns-3 c = c .form-of .ensures ∙ end-in-name (c .before .before .before .before .before .before .before .before .args .partial) (c .before .before .before .if3 .taken) (c .before .before .before .before .before .before .if2 .left)
 
 returns-4 : tie.Need-returns-4
 returns-4 c = sym (end-missing (c .before .before .before .before .before .before .args .partial) (omega arith) (c .before .before .before .before .before .if1 .left) (c .before .before .before .before .if2 .left) (c .if4 .taken))
-
-sub-values : tie.Need-sub-values
-sub-values c = search needs
-
-mul-values : tie.Need-mul-values
-mul-values c = search needs
-
-array-write-values : tie.Need-array-write-values
-array-write-values c = search needs
 
 array-share-prefix-name-2 : tie.Need-array-share-prefix-name-2
 array-share-prefix-name-2 c = let e : length (c .before .before .before .before .before .before .args .partial .name) ≡ 7 = search needs in omega arith
@@ -56,9 +38,6 @@ array-share-prefix-values-2 c = let e : length (c .before .before .before .befor
 slice-aggregate-form-of-4 : tie.Need-slice-aggregate-form-of-4
 slice-aggregate-form-of-4 c = part-count _ 4 _ (search needs) (omega arith)
 
-form-of-requires-2 : tie.Need-form-of-requires-2
-form-of-requires-2 c κs = search needs
-
 returns-5 : tie.Need-returns-5
 returns-5 c = c .form-of2 .ensures ∙ end-in-number (c .before .before .before .before .before .before .before .before .before .args .partial) (omega arith) (c .before .before .before .before .before .before .before .before .if1 .left) (c .before .before .before .before .before .before .before .if2 .left) (c .before .before .before .if4 .left) (search needs) (search needs)
 
@@ -70,17 +49,17 @@ command-of-spec =
     returns-2
     array-share-prefix-name
     slice-aggregate-form-of
-    array-share-prefix-values
-    slice-aggregate-form-of-2
-    form-of-requires
+    (λ c. search needs)
+    (λ c. search needs)
+    (λ c κs. search needs)
     returns-3
     returns-4
-    sub-values
-    mul-values
-    array-write-values
+    (λ c. search needs)
+    (λ c. search needs)
+    (λ c. search needs)
     array-share-prefix-name-2
     slice-aggregate-form-of-3
     array-share-prefix-values-2
     slice-aggregate-form-of-4
-    form-of-requires-2
+    (λ c κs. search needs)
     returns-5)

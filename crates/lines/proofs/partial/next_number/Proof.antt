@@ -5,33 +5,15 @@ use Rattle.lines.proofs.Steps.{stays-past-hope, space-missing, space-to
 use Rattle.lines.proofs.partial.next_number.Statement.{statement}
 use Rattle.lines.proofs.partial.next_number.Tie as tie
 
-hopeless-requires : tie.Need-hopeless-requires
-hopeless-requires c κs = search needs
-
 returns : tie.Need-returns
 returns c =
     let s = c .before .before in
     λ more. stays-past-hope (s .args .p) _ _ more (omega arith) (space-missing (s .args .p) more (s .pre .0) (s .pre .1) (s .pre .2) (c .before .if1 .taken))
 
-hopeless-requires-2 : tie.Need-hopeless-requires-2
-hopeless-requires-2 c κs = search needs
-
 returns-2 : tie.Need-returns-2
 returns-2 c =
     let s = c .before .before .before in
     λ more. stays-past-hope (s .args .p) _ _ more (omega arith) (space-too-many (s .args .p) more (s .pre .0) (s .pre .1) (s .pre .2) (c .before .if2 .taken) (search needs))
-
-sub-q : tie.Need-sub-q
-sub-q c = search needs
-
-mul-q : tie.Need-mul-q
-mul-q c = search needs
-
-element-write-q : tie.Need-element-write-q
-element-write-q c = search needs
-
-add-q : tie.Need-add-q
-add-q c = search needs
 
 returns-3 : tie.Need-returns-3
 returns-3 c =
@@ -42,12 +24,12 @@ pub next-number-spec : {M : Type 1} → statement M
 next-number-spec =
     tie.close
     (tie.spec
-    hopeless-requires
+    (λ c κs. search needs)
     returns
-    hopeless-requires-2
+    (λ c κs. search needs)
     returns-2
-    sub-q
-    mul-q
-    element-write-q
-    add-q
+    (λ c. search needs)
+    (λ c. search needs)
+    (λ c. search needs)
+    (λ c. search needs)
     returns-3)

@@ -5,41 +5,20 @@ use Rattle.lines.proofs.Steps.{stays-past-hope, byte-low, byte-high, by
 use Rattle.lines.proofs.partial.number_byte.Statement.{statement}
 use Rattle.lines.proofs.partial.number_byte.Tie as tie
 
-hopeless-requires : tie.Need-hopeless-requires
-hopeless-requires c κs = search needs
-
 returns : tie.Need-returns
 returns c =
     let s = c .before .before in
     λ more. stays-past-hope (s .args .p) _ _ more (omega arith) (byte-low (s .args .p) more (s .pre .0) (s .pre .1) (s .pre .2) (s .args .b) (s .pre .3) (c .before .if1 .taken))
-
-hopeless-requires-2 : tie.Need-hopeless-requires-2
-hopeless-requires-2 c κs = search needs
 
 returns-2 : tie.Need-returns-2
 returns-2 c =
     let s = c .before .before .before in
     λ more. stays-past-hope (s .args .p) _ _ more (omega arith) (byte-high (s .args .p) more (s .pre .0) (s .pre .1) (s .pre .2) (s .args .b) (s .pre .3) (c .before .if2 .taken))
 
-cast-digit : tie.Need-cast-digit
-cast-digit c = search needs
-
-sub-if3 : tie.Need-sub-if3
-sub-if3 c = search needs
-
-hopeless-requires-3 : tie.Need-hopeless-requires-3
-hopeless-requires-3 c κs = search needs
-
 returns-3 : tie.Need-returns-3
 returns-3 c =
     let s = c .before .before .before .before in
     λ more. stays-past-hope (s .args .p) _ _ more (omega arith) (byte-too-large (s .args .p) more (s .pre .0) (s .pre .1) (s .pre .2) (s .args .b) (s .pre .3) (omega arith))
-
-mul-t7 : tie.Need-mul-t7
-mul-t7 c = search needs
-
-add-t8 : tie.Need-add-t8
-add-t8 c = search needs
 
 returns-4 : tie.Need-returns-4
 returns-4 c =
@@ -50,14 +29,14 @@ pub number-byte-spec : {M : Type 1} → statement M
 number-byte-spec =
     tie.close
     (tie.spec
-    hopeless-requires
+    (λ c κs. search needs)
     returns
-    hopeless-requires-2
+    (λ c κs. search needs)
     returns-2
-    cast-digit
-    sub-if3
-    hopeless-requires-3
+    (λ c. search needs)
+    (λ c. search needs)
+    (λ c κs. search needs)
     returns-3
-    mul-t7
-    add-t8
+    (λ c. search needs)
+    (λ c. search needs)
     returns-4)

@@ -16,29 +16,11 @@ returns-2 c =
     let s = few .before .before in
     λ more. past-name (s .args .p) more (few .if1 .left) (c .if2 .taken) ∙ sym (past-name (s .args .p) _ (few .if1 .left) (c .if2 .taken))
 
-first-number-requires : tie.Need-first-number-requires
-first-number-requires c κs = search needs
-
 returns-3 : tie.Need-returns-3
 returns-3 c = λ more. rw (c .before .if4 .taken) (c .first-number .ensures more)
 
-name-byte-requires : tie.Need-name-byte-requires
-name-byte-requires c κs = search needs
-
-returns-4 : tie.Need-returns-4
-returns-4 c = search needs
-
-next-number-requires : tie.Need-next-number-requires
-next-number-requires c κs = search needs
-
 returns-5 : tie.Need-returns-5
 returns-5 c = λ more. rw (c .before .if5 .taken) (c .next-number .ensures more)
-
-number-byte-requires : tie.Need-number-byte-requires
-number-byte-requires c κs = search needs
-
-returns-6 : tie.Need-returns-6
-returns-6 c = search needs
 
 pub step-spec : {M : Type 1} → statement M
 step-spec =
@@ -46,11 +28,11 @@ step-spec =
     (tie.spec
     returns
     returns-2
-    first-number-requires
+    (λ c κs. search needs)
     returns-3
-    name-byte-requires
-    returns-4
-    next-number-requires
+    (λ c κs. search needs)
+    (λ c. search needs)
+    (λ c κs. search needs)
     returns-5
-    number-byte-requires
-    returns-6)
+    (λ c κs. search needs)
+    (λ c. search needs))

@@ -5,22 +5,13 @@ use Rattle.lines.specs.Counting.{counted}
 use Rattle.lines.proofs.tally.with_line.Statement.{statement}
 use Rattle.lines.proofs.tally.with_line.Tie as tie
 
-one-more-requires : tie.Need-one-more-requires
-one-more-requires c κs = search needs
-
 returns : tie.Need-returns
 unfolding counted
 returns c = rw (eq-eqb _ 0 (c .before .if1 .taken), c .one-more .ensures)
 
-one-more-requires-2 : tie.Need-one-more-requires-2
-one-more-requires-2 c κs = search needs
-
 returns-2 : tie.Need-returns-2
 unfolding counted
 returns-2 c = rw (ne-eqb _ 0 (c .before .before .if1 .left), eq-eqb _ 16 (c .before .if2 .taken), c .one-more2 .ensures)
-
-one-more-requires-3 : tie.Need-one-more-requires-3
-one-more-requires-3 c κs = search needs
 
 returns-3 : tie.Need-returns-3
 unfolding counted
@@ -30,9 +21,9 @@ pub with-line-spec : {M : Type 1} → statement M
 with-line-spec =
     tie.close
     (tie.spec
-    one-more-requires
+    (λ c κs. search needs)
     returns
-    one-more-requires-2
+    (λ c κs. search needs)
     returns-2
-    one-more-requires-3
+    (λ c κs. search needs)
     returns-3)

@@ -18,28 +18,10 @@ Inv-loop out₀ end n after least i₀ rest₀ out i rest =
 abbrev μ-loop : tie.MeasureT-loop
 μ-loop out₀ end n after least i₀ rest₀ out i rest = i - least
 
-sub-least : tie.Need-sub-least Inv-loop μ-loop
-sub-least c = search needs
-
-sub-i : tie.Need-sub-i Inv-loop μ-loop
-sub-i c = search needs
-
-slice-write-out : tie.Need-slice-write-out Inv-loop μ-loop
-slice-write-out c = search needs
-
 loop-holds : tie.Need-loop-holds Inv-loop μ-loop
 loop-holds c =
     let e : c .args .end - 1 - (c .args .end - 21) ≡ 20 = omega arith in
     (omega arith, omega arith, refl, rw e)
-
-sub-i-2 : tie.Need-sub-i-2 Inv-loop μ-loop
-sub-i-2 c = search needs
-
-cast-out : tie.Need-cast-out Inv-loop μ-loop
-cast-out c = search needs
-
-add-out : tie.Need-add-out Inv-loop μ-loop
-add-out c = search needs
 
 slice-write-out-2 : tie.Need-slice-write-out-2 Inv-loop μ-loop
 slice-write-out-2 c =
@@ -59,9 +41,6 @@ returns c =
       (sym (digit-last (l .loop .out) (l .loop .i) (s .args .end - 21) (l .loop .rest) (omega arith) (omega arith) (c .if1 .taken))
           ∙ l .loop .inv .3 ∙ rw (byte-before (s .args .out .now) (s .args .end) (s .args .after) (omega arith) (omega arith))),
     )
-
-loop-less : tie.Need-loop-less Inv-loop μ-loop
-loop-less c = search needs
 
 loop-again : tie.Need-loop-again Inv-loop μ-loop
 loop-again c =
@@ -92,17 +71,17 @@ put-field-spec =
     (tie.spec
     Inv-loop
     μ-loop
-    sub-least
-    sub-i
-    slice-write-out
+    (λ c. search needs)
+    (λ c. search needs)
+    (λ c. search needs)
     loop-holds
-    sub-i-2
-    cast-out
-    add-out
+    (λ c. search needs)
+    (λ c. search needs)
+    (λ c. search needs)
     slice-write-out-2
     same-length
     returns
-    loop-less
+    (λ c. search needs)
     loop-again
     same-length-2
     returns-2)

@@ -6,15 +6,6 @@ use lib.Seq.{drop-length}
 use Rattle.lines.proofs.text.put_line.Statement.{statement}
 use Rattle.lines.proofs.text.put_line.Tie as tie
 
-put-two-requires : tie.Need-put-two-requires
-put-two-requires c κs = search needs
-
-put-two-requires-2 : tie.Need-put-two-requires-2
-put-two-requires-2 c κs = search needs
-
-same-length : tie.Need-same-length
-same-length c = search needs
-
 returns : tie.Need-returns
 returns c =
     let front = c .before .before .put-two2 .ensures in
@@ -22,4 +13,4 @@ returns c =
     (omega arith, (front .1 ∙ rw (back .1, drop-length (c .before .before .before .before .before .before .before .before .before .args .out .now))))
 
 pub put-line-spec : {M : Type 1} → statement M
-put-line-spec = tie.close (tie.spec put-two-requires put-two-requires-2 same-length returns)
+put-line-spec = tie.close (tie.spec (λ c κs. search needs) (λ c κs. search needs) (λ c. search needs) returns)

@@ -6,21 +6,6 @@ use lib.Seq.{drop-length}
 use Rattle.lines.proofs.text.put_tally.Statement.{statement}
 use Rattle.lines.proofs.text.put_tally.Tie as tie
 
-put-field-requires : tie.Need-put-field-requires
-put-field-requires c κs = search needs
-
-put-two-requires : tie.Need-put-two-requires
-put-two-requires c κs = search needs
-
-slice-aggregate-put-text : tie.Need-slice-aggregate-put-text
-slice-aggregate-put-text c = search needs
-
-put-text-requires : tie.Need-put-text-requires
-put-text-requires c κs = search needs
-
-same-length : tie.Need-same-length
-same-length c = search needs
-
 returns : tie.Need-returns
 returns c =
     let word = c .before .before .put-text .ensures in
@@ -32,9 +17,9 @@ pub put-tally-spec : {M : Type 1} → statement M
 put-tally-spec =
     tie.close
     (tie.spec
-    put-field-requires
-    put-two-requires
-    slice-aggregate-put-text
-    put-text-requires
-    same-length
+    (λ c κs. search needs)
+    (λ c κs. search needs)
+    (λ c. search needs)
+    (λ c κs. search needs)
+    (λ c. search needs)
     returns)

@@ -16,28 +16,13 @@ Inv-loop out₀ end text start left₀ out left = (left ≤ length text) × (len
 abbrev μ-loop : tie.MeasureT-loop
 μ-loop out₀ end text start left₀ out left = left
 
-sub-start : tie.Need-sub-start Inv-loop μ-loop
-sub-start c = search needs
-
 loop-holds : tie.Need-loop-holds Inv-loop μ-loop
 loop-holds c =
     let e : c .args .end - length (c .args .text .now) + length (c .args .text .now) ≡ c .args .end = omega arith in
     (omega arith, refl, rw (e, drop-length (c .args .text .now)))
 
-sub-left : tie.Need-sub-left Inv-loop μ-loop
-sub-left c = search needs
-
-shared-slice-read-out : tie.Need-shared-slice-read-out Inv-loop μ-loop
-shared-slice-read-out c = search needs
-
-add-out : tie.Need-add-out Inv-loop μ-loop
-add-out c = search needs
-
 slice-write-out : tie.Need-slice-write-out Inv-loop μ-loop
 slice-write-out c = let q = c .before .before .loop .inv .1 in omega arith
-
-loop-less : tie.Need-loop-less Inv-loop μ-loop
-loop-less c = search needs
 
 loop-again : tie.Need-loop-again Inv-loop μ-loop
 loop-again c =
@@ -67,13 +52,13 @@ put-text-spec =
     (tie.spec
     Inv-loop
     μ-loop
-    sub-start
+    (λ c. search needs)
     loop-holds
-    sub-left
-    shared-slice-read-out
-    add-out
+    (λ c. search needs)
+    (λ c. search needs)
+    (λ c. search needs)
     slice-write-out
-    loop-less
+    (λ c. search needs)
     loop-again
     same-length
     returns)

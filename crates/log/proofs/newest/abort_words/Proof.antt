@@ -22,15 +22,6 @@ abbrev μ-loop : tie.MeasureT-loop
 loop-holds : tie.Need-loop-holds Inv-loop μ-loop
 loop-holds c = (omega arith, omega arith)
 
-decode-at-requires : tie.Need-decode-at-requires Inv-loop μ-loop
-decode-at-requires c κs = search needs
-
-enum-known-here : tie.Need-enum-known-here Inv-loop μ-loop
-enum-known-here c = search needs
-
-is-update-of-requires : tie.Need-is-update-of-requires Inv-loop μ-loop
-is-update-of-requires c κs = search needs
-
 sub-words : tie.Need-sub-words Inv-loop μ-loop
 sub-words c =
     let read = c .before .before .before .before .before in
@@ -75,9 +66,6 @@ loop-again-2 c =
     (c .before .is-update-of .ensures) (c .if1 .left) in
     (omega arith, omega arith)
 
-enum-known-here-2 : tie.Need-enum-known-here-2 Inv-loop μ-loop
-enum-known-here-2 c = search needs
-
 loop-less-3 : tie.Need-loop-less-3 Inv-loop μ-loop
 loop-less-3 c = let f = got-close _ _ _ (c .before .before .before .decode-at .ensures) (c .before .here2 .given .1) in omega arith
 
@@ -88,9 +76,6 @@ loop-again-3 c =
     let f = got-close _ _ _ (read .decode-at .ensures) (c .before .here2 .given .1) in
     let e = words-close _ _ _ (read .decode-at .ensures) (read .before .loop-test .taken) number (c .before .here2 .given .1) in
     (omega arith, omega arith)
-
-enum-told : tie.Need-enum-told Inv-loop μ-loop
-enum-told c = search needs
 
 returns : tie.Need-returns Inv-loop μ-loop
 returns c =
@@ -107,18 +92,18 @@ abort-words-spec =
     Inv-loop
     μ-loop
     loop-holds
-    decode-at-requires
-    enum-known-here
-    is-update-of-requires
+    (λ c κs. search needs)
+    (λ c. search needs)
+    (λ c κs. search needs)
     sub-words
     add-words
     loop-less
     loop-again
     loop-less-2
     loop-again-2
-    enum-known-here-2
+    (λ c. search needs)
     loop-less-3
     loop-again-3
-    enum-told
+    (λ c. search needs)
     returns
     returns-2)

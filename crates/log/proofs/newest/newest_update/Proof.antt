@@ -23,15 +23,6 @@ abbrev μ-loop : tie.MeasureT-loop
 loop-holds : tie.Need-loop-holds Inv-loop μ-loop
 loop-holds c = refl
 
-decode-at-requires : tie.Need-decode-at-requires Inv-loop μ-loop
-decode-at-requires c κs = search needs
-
-enum-known-here : tie.Need-enum-known-here Inv-loop μ-loop
-enum-known-here c = search needs
-
-newer-requires : tie.Need-newer-requires Inv-loop μ-loop
-newer-requires c κs = search needs
-
 loop-less : tie.Need-loop-less Inv-loop μ-loop
 loop-less c = let f = got-change _ _ _ (c .before .before .before .before .decode-at .ensures) (c .before .before .here .given .1) in omega arith
 
@@ -43,9 +34,6 @@ loop-again c =
     (c .newer .ensures)
     ∙ read .before .before .loop .inv
 
-enum-known-here-2 : tie.Need-enum-known-here-2 Inv-loop μ-loop
-enum-known-here-2 c = search needs
-
 loop-less-2 : tie.Need-loop-less-2 Inv-loop μ-loop
 loop-less-2 c = let f = got-close _ _ _ (c .before .before .before .decode-at .ensures) (c .before .here2 .given .1) in omega arith
 
@@ -55,9 +43,6 @@ loop-again-2 c =
     let below : read .before .before .loop .p < read .before .before .before .before .before .args .end = omega arith in
     newest-close _ _ _ (read .decode-at .ensures) below _ _ (read .before .loop-test .taken) _ (c .before .here2 .given .1)
     ∙ read .before .before .loop .inv
-
-enum-told : tie.Need-enum-told Inv-loop μ-loop
-enum-told c = search needs
 
 returns : tie.Need-returns Inv-loop μ-loop
 returns c =
@@ -76,14 +61,14 @@ newest-update-spec =
     Inv-loop
     μ-loop
     loop-holds
-    decode-at-requires
-    enum-known-here
-    newer-requires
+    (λ c κs. search needs)
+    (λ c. search needs)
+    (λ c κs. search needs)
     loop-less
     loop-again
-    enum-known-here-2
+    (λ c. search needs)
     loop-less-2
     loop-again-2
-    enum-told
+    (λ c. search needs)
     returns
     returns-2)

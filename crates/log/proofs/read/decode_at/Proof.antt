@@ -9,17 +9,11 @@ use Rattle.log.proofs.Decoding.{words-le, decode-kind, decode-past, dec
 use Rattle.log.proofs.read.decode_at.Statement.{statement}
 use Rattle.log.proofs.read.decode_at.Tie as tie
 
-read-word-requires : tie.Need-read-word-requires
-read-word-requires c κs = search needs
-
 returns : tie.Need-returns
 unfolding decodeAt
 returns c =
     let s = c .before .before .before .before .args .sizes in
     rw (← c .before .read-word .ensures s refl) (decode-kind s _ _ _ _ _ _ refl (c .if1 .taken))
-
-words-of-requires : tie.Need-words-of-requires
-words-of-requires c κs = search needs
 
 add-next : tie.Need-add-next
 add-next c = omega (arith, words-le (c .before .before .read-word .result % 8) (c .before .before .read-word .result / 65536))
@@ -32,9 +26,6 @@ returns-2 c =
     let s = first .before .before .before .args .sizes in
     rw (← first .read-word .ensures s refl)
     (decode-past s _ _ _ _ _ _ (c .before .words-of .ensures) (known .if1 .left) (c .if2 .taken))
-
-add-read-word : tie.Need-add-read-word
-add-read-word c = search needs
 
 read-word-requires-2 : tie.Need-read-word-requires-2
 read-word-requires-2 c κs = omega (arith, words-ge (c .before .before .before .read-word .result % 8) (c .before .before .before .read-word .result / 65536))
@@ -50,16 +41,10 @@ returns-3 c =
     rw (← first .read-word .ensures s refl, ← second .read-word2 .ensures s refl)
     (decode-zero s _ _ _ _ _ _ (whole .before .words-of .ensures) (known .if1 .left) (whole .if2 .left) (c .if3 .taken))
 
-add-read-word-2 : tie.Need-add-read-word-2
-add-read-word-2 c = search needs
-
 read-word-requires-3 : tie.Need-read-word-requires-3
 read-word-requires-3 c κs =
     let first = c .before .before .before .before .before .before in
     omega (arith, words-change (first .read-word .result % 8) (first .read-word .result / 65536) (c .if4 .taken))
-
-decode-change-requires : tie.Need-decode-change-requires
-decode-change-requires c κs = search needs
 
 returns-4 : tie.Need-returns-4
 unfolding decodeAt
@@ -75,9 +60,6 @@ returns-4 c =
     (c .decode-change .ensures
     ∙ decode-is-change s _ _ _ _ _ _ (whole .before .words-of .ensures) (known .if1 .left) (whole .if2 .left)
     (numbered .if3 .left) (third .before .if4 .taken))
-
-decode-close-requires : tie.Need-decode-close-requires
-decode-close-requires c κs = search needs
 
 returns-5 : tie.Need-returns-5
 unfolding decodeAt
@@ -97,17 +79,17 @@ pub decode-at-spec : {M : Type 1} → statement M
 decode-at-spec =
     tie.close
     (tie.spec
-    read-word-requires
+    (λ c κs. search needs)
     returns
-    words-of-requires
+    (λ c κs. search needs)
     add-next
     returns-2
-    add-read-word
+    (λ c. search needs)
     read-word-requires-2
     returns-3
-    add-read-word-2
+    (λ c. search needs)
     read-word-requires-3
-    decode-change-requires
+    (λ c κs. search needs)
     returns-4
-    decode-close-requires
+    (λ c κs. search needs)
     returns-5)

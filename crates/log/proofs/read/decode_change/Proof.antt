@@ -4,9 +4,6 @@ use borrow.Author.Needs.{needs}
 use Rattle.log.proofs.read.decode_change.Statement.{statement}
 use Rattle.log.proofs.read.decode_change.Tie as tie
 
-is-misplaced-requires : tie.Need-is-misplaced-requires
-is-misplaced-requires c κs = search needs
-
 returns : tie.Need-returns
 returns c = simp (sym (c .before .is-misplaced .ensures) ∙ c .if1 .taken)
 
@@ -14,4 +11,4 @@ returns-2 : tie.Need-returns-2
 returns-2 c = simp (sym (c .before .is-misplaced .ensures) ∙ c .if1 .left)
 
 pub decode-change-spec : {M : Type 1} → statement M
-decode-change-spec = tie.close (tie.spec is-misplaced-requires returns returns-2)
+decode-change-spec = tie.close (tie.spec (λ c κs. search needs) returns returns-2)

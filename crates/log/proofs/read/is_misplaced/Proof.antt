@@ -10,21 +10,9 @@ returns : tie.Need-returns
 unfolding misplaced
 returns c = simp (le-leb _ _ (c .if1 .taken))
 
-element-copy-out-slots : tie.Need-element-copy-out-slots
-element-copy-out-slots c = search needs
-
-cast-slots : tie.Need-cast-slots
-cast-slots c = search needs
-
 returns-2 : tie.Need-returns-2
 unfolding misplaced slotsIn
 returns-2 c = simp (lt-leb _ _ (c .before .before .if1 .left), le-leb _ _ (c .if2 .taken))
-
-element-copy-out-width : tie.Need-element-copy-out-width
-element-copy-out-width c = search needs
-
-cast-width : tie.Need-cast-width
-cast-width c = search needs
 
 returns-3 : tie.Need-returns-3
 unfolding misplaced slotsIn widthIn
@@ -35,9 +23,9 @@ is-misplaced-spec =
     tie.close
     (tie.spec
     returns
-    element-copy-out-slots
-    cast-slots
+    (λ c. search needs)
+    (λ c. search needs)
     returns-2
-    element-copy-out-width
-    cast-width
+    (λ c. search needs)
+    (λ c. search needs)
     returns-3)

@@ -8,18 +8,6 @@ use Rattle.model.specs.Decode.{readLog}
 use Rattle.log.proofs.read.read_word.Statement.{statement}
 use Rattle.log.proofs.read.read_word.Tie as tie
 
-add-at : tie.Need-add-at
-add-at c = search needs
-
-mul-at : tie.Need-mul-at
-mul-at c = search needs
-
-add-at-2 : tie.Need-add-at-2
-add-at-2 c = search needs
-
-rem-at : tie.Need-rem-at
-rem-at c = search needs
-
 add-at-3 : tie.Need-add-at-3
 add-at-3 c = omega (arith, mod-lt (c .before .args .p) (c .before .pre .0))
 
@@ -33,12 +21,6 @@ returns : tie.Need-returns
 unfolding readLog ringWord diskAt ringOf
 returns c = λ s e. rw e (simp (lt-ltb _ _ (c .before .if1 .taken)))
 
-mul-result-2 : tie.Need-mul-result-2
-mul-result-2 c = search needs
-
-shared-slice-read-result-2 : tie.Need-shared-slice-read-result-2
-shared-slice-read-result-2 c = search needs
-
 returns-2 : tie.Need-returns-2
 unfolding readLog
 returns-2 c = λ s e. simp (le-ltb _ _ (c .before .if1 .left))
@@ -47,14 +29,14 @@ pub read-word-spec : {M : Type 1} → statement M
 read-word-spec =
     tie.close
     (tie.spec
-    add-at
-    mul-at
-    add-at-2
-    rem-at
+    (λ c. search needs)
+    (λ c. search needs)
+    (λ c. search needs)
+    (λ c. search needs)
     add-at-3
     mul-result
     shared-slice-read-result
     returns
-    mul-result-2
-    shared-slice-read-result-2
+    (λ c. search needs)
+    (λ c. search needs)
     returns-2)

@@ -5,9 +5,6 @@ use Rattle.model.specs.Record.{wordsOf}
 use Rattle.log.proofs.read.words_of.Statement.{statement}
 use Rattle.log.proofs.read.words_of.Tie as tie
 
-add-result : tie.Need-add-result
-add-result c = search needs
-
 returns : tie.Need-returns
 unfolding wordsOf
 returns c = simp (lt-ltb _ _ (c .if1 .taken))
@@ -17,4 +14,4 @@ unfolding wordsOf
 returns-2 c = simp (le-ltb _ _ (c .if1 .left))
 
 pub words-of-spec : {M : Type 1} → statement M
-words-of-spec = tie.close (tie.spec add-result returns returns-2)
+words-of-spec = tie.close (tie.spec (λ c. search needs) returns returns-2)

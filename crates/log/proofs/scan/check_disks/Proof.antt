@@ -35,15 +35,6 @@ Inv-disks sizes logs starts disks ring none d₀ fault₀ d fault =
 abbrev μ-disks : tie.MeasureT-disks
 μ-disks sizes logs starts disks ring none d₀ fault₀ d fault = disks - d
 
-sub-none : tie.Need-sub-none Inv-loop μ-loop Inv-disks μ-disks
-sub-none c = search needs
-
-part-none-start : tie.Need-part-none-start Inv-loop μ-loop Inv-disks μ-disks
-part-none-start c = search needs
-
-part-none-end : tie.Need-part-none-end Inv-loop μ-loop Inv-disks μ-disks
-part-none-end c = search needs
-
 disks-holds : tie.Need-disks-holds Inv-loop μ-loop Inv-disks μ-disks
 disks-holds c = (omega arith, refl, simp sub-zero)
 
@@ -81,15 +72,6 @@ decode-at-requires c κs =
       },
       c .loop-test .taken,
     )
-
-enum-known-here : tie.Need-enum-known-here Inv-loop μ-loop Inv-disks μ-disks
-enum-known-here c = search needs
-
-enum-known-here-2 : tie.Need-enum-known-here-2 Inv-loop μ-loop Inv-disks μ-disks
-enum-known-here-2 c = search needs
-
-enum-told : tie.Need-enum-told Inv-loop μ-loop Inv-disks μ-disks
-enum-told c = search needs
 
 loop-less : tie.Need-loop-less Inv-loop μ-loop Inv-disks μ-disks
 loop-less c = let f = got-change _ _ _ (c .before .before .before .decode-at .ensures) (c .before .here .given .1) in omega arith
@@ -139,18 +121,18 @@ check-disks-spec =
     μ-loop
     Inv-disks
     μ-disks
-    sub-none
-    part-none-start
-    part-none-end
+    (λ c. search needs)
+    (λ c. search needs)
+    (λ c. search needs)
     disks-holds
     tail-of-requires
     mul-p
     array-read-p
     loop-holds
     decode-at-requires
-    enum-known-here
-    enum-known-here-2
-    enum-told
+    (λ c. search needs)
+    (λ c. search needs)
+    (λ c. search needs)
     loop-less
     loop-again
     loop-less-2

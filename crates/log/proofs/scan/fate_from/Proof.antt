@@ -21,12 +21,6 @@ abbrev μ-loop : tie.MeasureT-loop
 loop-holds : tie.Need-loop-holds Inv-loop μ-loop
 loop-holds c = refl
 
-decode-at-requires : tie.Need-decode-at-requires Inv-loop μ-loop
-decode-at-requires c κs = search needs
-
-enum-known-here : tie.Need-enum-known-here Inv-loop μ-loop
-enum-known-here c = search needs
-
 loop-less : tie.Need-loop-less Inv-loop μ-loop
 loop-less c = let f = got-change _ _ _ (c .before .before .before .decode-at .ensures) (c .before .here .given .1) in omega arith
 
@@ -34,9 +28,6 @@ loop-again : tie.Need-loop-again Inv-loop μ-loop
 loop-again c =
     fate-change _ _ _ (c .before .before .before .decode-at .ensures) (c .before .before .before .before .if1 .left) _ (c .before .here .given .1)
     ∙ c .before .before .before .before .before .loop .inv
-
-enum-known-here-2 : tie.Need-enum-known-here-2 Inv-loop μ-loop
-enum-known-here-2 c = search needs
 
 loop-less-2 : tie.Need-loop-less-2 Inv-loop μ-loop
 loop-less-2 c = let f = got-close _ _ _ (c .before .before .before .before .decode-at .ensures) (c .before .before .here2 .given .1) in omega arith
@@ -46,9 +37,6 @@ loop-again-2 c =
     let read = c .before .before .before .before in
     fate-other _ _ _ (read .decode-at .ensures) (read .before .if1 .left) _ (c .before .before .here2 .given .1) (c .if2 .left)
     ∙ read .before .before .loop .inv
-
-enum-told : tie.Need-enum-told Inv-loop μ-loop
-enum-told c = search needs
 
 returns : tie.Need-returns Inv-loop μ-loop
 returns c = fate-end _ _ _ _ _ (c .if1 .taken) ∙ c .before .loop .inv
@@ -71,14 +59,14 @@ fate-from-spec =
     Inv-loop
     μ-loop
     loop-holds
-    decode-at-requires
-    enum-known-here
+    (λ c κs. search needs)
+    (λ c. search needs)
     loop-less
     loop-again
-    enum-known-here-2
+    (λ c. search needs)
     loop-less-2
     loop-again-2
-    enum-told
+    (λ c. search needs)
     returns
     returns-2
     returns-3)

@@ -10,24 +10,6 @@ use borrow.Author.Needs.{needs}
 use Rattle.log.proofs.write.append_change.Statement.{statement}
 use Rattle.log.proofs.write.append_change.Tie as tie
 
-slice-aggregate-put-record : tie.Need-slice-aggregate-put-record
-slice-aggregate-put-record c = search needs
-
-put-record-requires : tie.Need-put-record-requires
-put-record-requires c κs = search needs
-
-slice-aggregate-encode-change : tie.Need-slice-aggregate-encode-change
-slice-aggregate-encode-change c = search needs
-
-encode-change-requires : tie.Need-encode-change-requires
-encode-change-requires c κs = search needs
-
-add-words : tie.Need-add-words
-add-words c = search needs
-
-array-share-prefix-words : tie.Need-array-share-prefix-words
-array-share-prefix-words c = search needs
-
 -- the words lent to `append` are the record's
 built : (c : tie.After-words5)
     → take (3 + length (c .before .before .before .before .before .before .before .before .before .before .before .before .args .difference .now)) (c .before .before .before .before .encode-change .last .0)
@@ -50,12 +32,6 @@ append-requires c κs =
     let start = c .before .before .before .before .before .before .before .before .before .before .before .before .before in
     (start .pre .0, omega (arith, long (c .before), start .pre .1 .width-small))
 
-same-length : tie.Need-same-length
-same-length c = search needs
-
-same-length-2 : tie.Need-same-length-2
-same-length-2 c = search needs
-
 returns : tie.Need-returns
 returns c =
     let at = c .before .before .before .before .before .before in
@@ -66,14 +42,14 @@ pub append-change-spec : {M : Type 1} → statement M
 append-change-spec =
     tie.close
     (tie.spec
-    slice-aggregate-put-record
-    put-record-requires
-    slice-aggregate-encode-change
-    encode-change-requires
-    add-words
-    array-share-prefix-words
+    (λ c. search needs)
+    (λ c κs. search needs)
+    (λ c. search needs)
+    (λ c κs. search needs)
+    (λ c. search needs)
+    (λ c. search needs)
     slice-aggregate-append
     append-requires
-    same-length
-    same-length-2
+    (λ c. search needs)
+    (λ c. search needs)
     returns)

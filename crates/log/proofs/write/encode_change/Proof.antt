@@ -8,35 +8,11 @@ use borrow.Author.Needs.{needs}
 use Rattle.log.proofs.write.encode_change.Statement.{statement}
 use Rattle.log.proofs.write.encode_change.Tie as tie
 
-mul-words : tie.Need-mul-words
-mul-words c = search needs
-
-add-words : tie.Need-add-words
-add-words c = search needs
-
-mul-words-2 : tie.Need-mul-words-2
-mul-words-2 c = search needs
-
-add-words-2 : tie.Need-add-words-2
-add-words-2 c = search needs
-
-mul-words-3 : tie.Need-mul-words-3
-mul-words-3 c = search needs
-
-add-words-3 : tie.Need-add-words-3
-add-words-3 c = search needs
-
-slice-write-words : tie.Need-slice-write-words
-slice-write-words c = search needs
-
 slice-write-words-2 : tie.Need-slice-write-words-2
 slice-write-words-2 c = simp length-set (omega arith)
 
 slice-write-words-3 : tie.Need-slice-write-words-3
 slice-write-words-3 c = simp length-set (omega arith)
-
-same-length : tie.Need-same-length
-same-length c = search needs
 
 returns : tie.Need-returns
 unfolding header
@@ -50,14 +26,14 @@ pub encode-change-spec : {M : Type 1} → statement M
 encode-change-spec =
     tie.close
     (tie.spec
-    mul-words
-    add-words
-    mul-words-2
-    add-words-2
-    mul-words-3
-    add-words-3
-    slice-write-words
+    (λ c. search needs)
+    (λ c. search needs)
+    (λ c. search needs)
+    (λ c. search needs)
+    (λ c. search needs)
+    (λ c. search needs)
+    (λ c. search needs)
     slice-write-words-2
     slice-write-words-3
-    same-length
+    (λ c. search needs)
     returns)

@@ -9,17 +9,8 @@ use Rattle.rehearsal.proofs.words.times.Tie as tie
 fits : (a b : ℕ) → a ≤ 65537 → b ≤ 65537 → a * b < 2 ^ 64
 fits a b h k = omega (arith, mul-le-mul-left a k, mul-le-mul-right 65537 h)
 
-returns : tie.Need-returns
-returns c = search needs
-
-returns-2 : tie.Need-returns-2
-returns-2 c = search needs
-
 mul-result : tie.Need-mul-result
 mul-result c = record { fits = fits _ _ (search needs) (search needs) }
 
-returns-3 : tie.Need-returns-3
-returns-3 c = search needs
-
 pub times-spec : {M : Type 1} → statement M
-times-spec = tie.close (tie.spec returns returns-2 mul-result returns-3)
+times-spec = tie.close (tie.spec (λ c. search needs) (λ c. search needs) mul-result (λ c. search needs))

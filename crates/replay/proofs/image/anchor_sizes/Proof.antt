@@ -4,9 +4,6 @@ use borrow.Author.Needs.{needs}
 use Rattle.replay.proofs.image.anchor_sizes.Statement.{statement}
 use Rattle.replay.proofs.image.anchor_sizes.Tie as tie
 
-read-sizes-requires : tie.Need-read-sizes-requires
-read-sizes-requires c κs = search needs
-
 narrow-requires : tie.Need-narrow-requires
 narrow-requires c κs = rw (c .before .before .read-sizes .ensures) (c .before .before .before .before .pre .1)
 
@@ -14,4 +11,4 @@ returns : tie.Need-returns
 returns c = c .narrow .ensures ∙ c .before .before .before .read-sizes .ensures
 
 pub anchor-sizes-spec : {M : Type 1} → statement M
-anchor-sizes-spec = tie.close (tie.spec read-sizes-requires narrow-requires returns)
+anchor-sizes-spec = tie.close (tie.spec (λ c κs. search needs) narrow-requires returns)

@@ -9,21 +9,6 @@ use Rattle.replay.proofs.Rows.{current-row}
 use Rattle.replay.proofs.image.current_starts.Statement.{statement}
 use Rattle.replay.proofs.image.current_starts.Tie as tie
 
-read-rows-requires : tie.Need-read-rows-requires
-read-rows-requires c κs = search needs
-
-shared-slice-read-current : tie.Need-shared-slice-read-current
-shared-slice-read-current c = search needs
-
-mul-keep-below : tie.Need-mul-keep-below
-mul-keep-below c = search needs
-
-array-copy-out-keep-below : tie.Need-array-copy-out-keep-below
-array-copy-out-keep-below c = search needs
-
-keep-below-requires : tie.Need-keep-below-requires
-keep-below-requires c κs = search needs
-
 returns : tie.Need-returns
 unfolding epochOn
 returns c =
@@ -36,9 +21,9 @@ pub current-starts-spec : {M : Type 1} → statement M
 current-starts-spec =
     tie.close
     (tie.spec
-    read-rows-requires
-    shared-slice-read-current
-    mul-keep-below
-    array-copy-out-keep-below
-    keep-below-requires
+    (λ c κs. search needs)
+    (λ c. search needs)
+    (λ c. search needs)
+    (λ c. search needs)
+    (λ c κs. search needs)
     returns)

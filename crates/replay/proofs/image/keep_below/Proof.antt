@@ -18,24 +18,6 @@ abbrev μ-loop : tie.MeasureT-loop
 loop-holds : tie.Need-loop-holds Inv-loop μ-loop
 loop-holds c = (omega arith, eight-none _)
 
-mul-kept : tie.Need-mul-kept Inv-loop μ-loop
-mul-kept c = search needs
-
-array-read-kept : tie.Need-array-read-kept Inv-loop μ-loop
-array-read-kept c = search needs
-
-mul-kept-2 : tie.Need-mul-kept-2 Inv-loop μ-loop
-mul-kept-2 c = search needs
-
-array-write-kept : tie.Need-array-write-kept Inv-loop μ-loop
-array-write-kept c = search needs
-
-add-d : tie.Need-add-d Inv-loop μ-loop
-add-d c = search needs
-
-loop-less : tie.Need-loop-less Inv-loop μ-loop
-loop-less c = search needs
-
 loop-again : tie.Need-loop-again Inv-loop μ-loop
 loop-again c = (omega arith, rw (c .before .loop .inv .1) (eight-more _ _ _ (omega arith) refl))
 
@@ -51,11 +33,11 @@ keep-below-spec =
     Inv-loop
     μ-loop
     loop-holds
-    mul-kept
-    array-read-kept
-    mul-kept-2
-    array-write-kept
-    add-d
-    loop-less
+    (λ c. search needs)
+    (λ c. search needs)
+    (λ c. search needs)
+    (λ c. search needs)
+    (λ c. search needs)
+    (λ c. search needs)
     loop-again
     returns)

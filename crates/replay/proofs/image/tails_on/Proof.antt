@@ -21,9 +21,6 @@ abbrev μ-loop : tie.MeasureT-loop
 loop-holds : tie.Need-loop-holds Inv-loop μ-loop
 loop-holds c = (omega arith, eight-none _)
 
-add-at : tie.Need-add-at Inv-loop μ-loop
-add-at c = search needs
-
 mul-at : tie.Need-mul-at Inv-loop μ-loop
 unfolding diskAt ringOf logWords
 mul-at c =
@@ -43,18 +40,6 @@ shared-slice-read-tails c =
     let start = at-loop .before in
     omega (arith, disk-within (start .args .sizes) (at-loop .loop .d) (c .before .loop-test .taken))
 
-mul-tails-2 : tie.Need-mul-tails-2 Inv-loop μ-loop
-mul-tails-2 c = search needs
-
-array-write-tails : tie.Need-array-write-tails Inv-loop μ-loop
-array-write-tails c = search needs
-
-add-d : tie.Need-add-d Inv-loop μ-loop
-add-d c = search needs
-
-loop-less : tie.Need-loop-less Inv-loop μ-loop
-loop-less c = search needs
-
 loop-again : tie.Need-loop-again Inv-loop μ-loop
 loop-again c = (omega arith, rw (c .before .before .loop .inv .1) (eight-more _ _ _ (omega arith) refl))
 
@@ -69,13 +54,13 @@ tails-on-spec =
     Inv-loop
     μ-loop
     loop-holds
-    add-at
+    (λ c. search needs)
     mul-at
     mul-tails
     shared-slice-read-tails
-    mul-tails-2
-    array-write-tails
-    add-d
-    loop-less
+    (λ c. search needs)
+    (λ c. search needs)
+    (λ c. search needs)
+    (λ c. search needs)
     loop-again
     returns)

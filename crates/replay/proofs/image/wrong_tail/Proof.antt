@@ -20,29 +20,8 @@ abbrev μ-loop : tie.MeasureT-loop
 loop-holds : tie.Need-loop-holds Inv-loop μ-loop
 loop-holds c = (omega arith, λ j h. absurd (omega arith))
 
-mul-tail-out : tie.Need-mul-tail-out Inv-loop μ-loop
-mul-tail-out c = search needs
-
-array-read-tail-out : tie.Need-array-read-tail-out Inv-loop μ-loop
-array-read-tail-out c = search needs
-
-mul-tail-out-2 : tie.Need-mul-tail-out-2 Inv-loop μ-loop
-mul-tail-out-2 c = search needs
-
-array-read-tail-out-2 : tie.Need-array-read-tail-out-2 Inv-loop μ-loop
-array-read-tail-out-2 c = search needs
-
-tail-out-requires : tie.Need-tail-out-requires Inv-loop μ-loop
-tail-out-requires c κs = search needs
-
 returns : tie.Need-returns Inv-loop μ-loop
 returns c = search-found _ _ _ (c .before .before .before .loop .inv .1) (omega arith) (sym (c .before .tail-out .ensures) ∙ c .if1 .taken)
-
-add-d : tie.Need-add-d Inv-loop μ-loop
-add-d c = search needs
-
-loop-less : tie.Need-loop-less Inv-loop μ-loop
-loop-less c = search needs
 
 loop-again : tie.Need-loop-again Inv-loop μ-loop
 loop-again c =
@@ -59,13 +38,13 @@ wrong-tail-spec =
     Inv-loop
     μ-loop
     loop-holds
-    mul-tail-out
-    array-read-tail-out
-    mul-tail-out-2
-    array-read-tail-out-2
-    tail-out-requires
+    (λ c. search needs)
+    (λ c. search needs)
+    (λ c. search needs)
+    (λ c. search needs)
+    (λ c κs. search needs)
     returns
-    add-d
-    loop-less
+    (λ c. search needs)
+    (λ c. search needs)
     loop-again
     returns-2)

@@ -10,12 +10,6 @@ use Rattle.replay.proofs.save.store_checkpoint.Tie as tie
 backup-at-requires : tie.Need-backup-at-requires
 backup-at-requires c κs = bounded _ (c .before .before .before .pre .0) .pages-max
 
-store-copy-requires : tie.Need-store-copy-requires
-store-copy-requires c κs = search needs
-
-same-length : tie.Need-same-length
-same-length c = search needs
-
 returns : tie.Need-returns
 returns c =
     let at-store-copy = c .before .before .before in
@@ -26,12 +20,6 @@ switch-to-requires : tie.Need-switch-to-requires
 switch-to-requires c κs =
     let start = c .before .before .before .before .before .before .before .before .before .before .before .before in
     (search (needs, start .pre), bounded _ (start .pre .0) .disks-max)
-
-same-length-2 : tie.Need-same-length-2
-same-length-2 c = search needs
-
-same-length-3 : tie.Need-same-length-3
-same-length-3 c = search needs
 
 returns-2 : tie.Need-returns-2
 returns-2 c =
@@ -50,10 +38,10 @@ store-checkpoint-spec =
     tie.close
     (tie.spec
     backup-at-requires
-    store-copy-requires
-    same-length
+    (λ c κs. search needs)
+    (λ c. search needs)
     returns
     switch-to-requires
-    same-length-2
-    same-length-3
+    (λ c. search needs)
+    (λ c. search needs)
     returns-2)

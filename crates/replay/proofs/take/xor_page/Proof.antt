@@ -15,18 +15,12 @@ page-words-requires c κs = omega (arith, bounded _ (c .before .before .before .
 backup-at-requires : tie.Need-backup-at-requires
 backup-at-requires c κs = bounded _ (c .before .before .before .before .pre .0) .pages-max
 
-add-from : tie.Need-add-from
-add-from c = search needs
-
 xor-in-requires : tie.Need-xor-in-requires
 xor-in-requires c κs =
     let pre = c .before .before .before .before .before .before .pre in
     let base = c .before .before .before .page-base .ensures .0 in
     let n = c .before .before .page-words .ensures .0 in
     (page-fits _ _ (pre .1) base n (pre .2), copy-fits _ _ (pre .1) base n _ (c .before .backup-at .ensures .1) (pre .3))
-
-same-length : tie.Need-same-length
-same-length c = search needs
 
 returns : tie.Need-returns
 returns c =
@@ -43,7 +37,7 @@ xor-page-spec =
     page-base-requires
     page-words-requires
     backup-at-requires
-    add-from
+    (λ c. search needs)
     xor-in-requires
-    same-length
+    (λ c. search needs)
     returns)

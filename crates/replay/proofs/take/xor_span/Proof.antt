@@ -18,41 +18,14 @@ Inv-loop pages₀ at sizes logs disk tail from n none i₀ pages i = (i ≤ n) �
 abbrev μ-loop : tie.MeasureT-loop
 μ-loop pages₀ at sizes logs disk tail from n none i₀ pages i = n - i
 
-sub-none : tie.Need-sub-none Inv-loop μ-loop
-sub-none c = search needs
-
-part-none-start : tie.Need-part-none-start Inv-loop μ-loop
-part-none-start c = search needs
-
-part-none-end : tie.Need-part-none-end Inv-loop μ-loop
-part-none-end c = search needs
-
 loop-holds : tie.Need-loop-holds Inv-loop μ-loop
 loop-holds c = (omega arith, xor-none _ _ _ _ _)
-
-add-read-word : tie.Need-add-read-word Inv-loop μ-loop
-add-read-word c = search needs
-
-read-word-requires : tie.Need-read-word-requires Inv-loop μ-loop
-read-word-requires c κs = search needs
-
-add-here : tie.Need-add-here Inv-loop μ-loop
-add-here c = search needs
-
-mul-pages : tie.Need-mul-pages Inv-loop μ-loop
-mul-pages c = search needs
 
 slice-read-pages : tie.Need-slice-read-pages Inv-loop μ-loop
 slice-read-pages c = rw (c .before .before .before .loop .inv .1, length-xor-at) (omega arith)
 
 slice-write-pages : tie.Need-slice-write-pages Inv-loop μ-loop
 slice-write-pages c = rw (c .before .before .before .loop .inv .1, length-xor-at) (omega arith)
-
-add-i : tie.Need-add-i Inv-loop μ-loop
-add-i c = search needs
-
-loop-less : tie.Need-loop-less Inv-loop μ-loop
-loop-less c = search needs
 
 loop-again : tie.Need-loop-again Inv-loop μ-loop
 loop-again c =
@@ -71,18 +44,18 @@ xor-span-spec =
     (tie.spec
     Inv-loop
     μ-loop
-    sub-none
-    part-none-start
-    part-none-end
+    (λ c. search needs)
+    (λ c. search needs)
+    (λ c. search needs)
     loop-holds
-    add-read-word
-    read-word-requires
-    add-here
-    mul-pages
+    (λ c. search needs)
+    (λ c κs. search needs)
+    (λ c. search needs)
+    (λ c. search needs)
     slice-read-pages
     slice-write-pages
-    add-i
-    loop-less
+    (λ c. search needs)
+    (λ c. search needs)
     loop-again
     same-length
     returns)

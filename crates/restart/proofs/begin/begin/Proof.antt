@@ -11,20 +11,8 @@ use Rattle.restart.proofs.Beginning.{anchor-passed, begin-stage, begin-
 use Rattle.restart.proofs.begin.begin.Statement.{statement}
 use Rattle.restart.proofs.begin.begin.Tie as tie
 
-is-shut-requires : tie.Need-is-shut-requires
-is-shut-requires c κs = search needs
-
-refuse-requires : tie.Need-refuse-requires
-refuse-requires c κs = search needs
-
 returns : tie.Need-returns
 returns c = rw (c .refuse .ensures) (begin-stage _ _ (sym (c .before .before .is-shut .ensures) ∙ not-true _ (c .before .if1 .taken)))
-
-anchor-refusal-requires : tie.Need-anchor-refusal-requires
-anchor-refusal-requires c κs = search needs
-
-refuse-requires-2 : tie.Need-refuse-requires-2
-refuse-requires-2 c κs = search needs
 
 returns-2 : tie.Need-returns-2
 returns-2 c =
@@ -41,9 +29,6 @@ lengths-right-requires : tie.Need-lengths-right-requires
 lengths-right-requires c κs =
     let at-anchor-refusal = c .before .before in
     rw (c .anchor-sizes .ensures) (anchor-passed _ (sym (at-anchor-refusal .anchor-refusal .ensures) ∙ c .before .if2 .left) .1)
-
-refuse-requires-3 : tie.Need-refuse-requires-3
-refuse-requires-3 c κs = search needs
 
 returns-3 : tie.Need-returns-3
 unfolding lengthsRight
@@ -73,9 +58,6 @@ begin-on-requires c κs =
     let anchor = anchor-passed _ (sym (at-anchor-refusal .anchor-refusal .ensures) ∙ at-if2 .if2 .left) in
     (at-anchor-sizes .anchor-sizes .ensures, rw (at-anchor-sizes .anchor-sizes .ensures) (anchor .1), anchor .0, long .pages, long .logs)
 
-same-length : tie.Need-same-length
-same-length c = search needs
-
 returns-4 : tie.Need-returns-4
 unfolding lengthsRight
 returns-4 c =
@@ -94,16 +76,16 @@ pub begin-spec : {M : Type 1} → statement M
 begin-spec =
     tie.close
     (tie.spec
-    is-shut-requires
-    refuse-requires
+    (λ c κs. search needs)
+    (λ c κs. search needs)
     returns
-    anchor-refusal-requires
-    refuse-requires-2
+    (λ c κs. search needs)
+    (λ c κs. search needs)
     returns-2
     anchor-sizes-requires
     lengths-right-requires
-    refuse-requires-3
+    (λ c κs. search needs)
     returns-3
     begin-on-requires
-    same-length
+    (λ c. search needs)
     returns-4)

@@ -12,16 +12,10 @@ use Rattle.restart.proofs.Ending.{end-refused, end-remains, end-given}
 use Rattle.restart.proofs.finish.end.Statement.{statement}
 use Rattle.restart.proofs.finish.end.Tie as tie
 
-is-replaying-requires : tie.Need-is-replaying-requires
-is-replaying-requires c κs = search needs
-
 first-refusal-requires : tie.Need-first-refusal-requires
 first-refusal-requires c κs =
     let start = c .before .before .before .before .before .before .before .before .before in
     λ allowed. replaying-not-shut (start .args .core .stage) (sym (c .before .before .before .is-replaying .ensures) ∙ allowed)
-
-refuse-requires : tie.Need-refuse-requires
-refuse-requires c κs = search needs
 
 returns : tie.Need-returns
 returns c =
@@ -39,9 +33,6 @@ is-done-requires c κs =
     let a = start .args in
     let w = worldOf (now (a .anchor)) (now (a .pages)) (now (a .backups)) (now (a .logs)) (now (a .work)) in
     sizes-bounded (a .core) (replays (first-passed whenReplaying (a .core) w (at-is-replaying .is-replaying .ensures) (c .before .first-refusal .ensures) (c .if1 .left))) .disks-max
-
-refuse-requires-2 : tie.Need-refuse-requires-2
-refuse-requires-2 c κs = search needs
 
 returns-2 : tie.Need-returns-2
 returns-2 c =
@@ -67,15 +58,6 @@ open-replayed-requires c κs =
     let long = slices passed in
     (replays passed, passed .anchor, long .pages, long .backups, long .work)
 
-same-length : tie.Need-same-length
-same-length c = search needs
-
-same-length-2 : tie.Need-same-length-2
-same-length-2 c = search needs
-
-same-length-3 : tie.Need-same-length-3
-same-length-3 c = search needs
-
 returns-3 : tie.Need-returns-3
 returns-3 c =
     let at-open-replayed = c .before .before .before .before .before .before in
@@ -90,43 +72,25 @@ returns-3 c =
     end-given (now (a .budget)) (a .core) w (at-is-replaying .is-replaying .ensures) (at-first-refusal .first-refusal .ensures) (at-if1 .if1 .left) (at-is-done .is-done .ensures) (not-false _ (at-if2 .if2 .left)) _ _ _
     (at-open-replayed .open-replayed .ensures _)
 
-same-length-4 : tie.Need-same-length-4
-same-length-4 c = search needs
-
-same-length-5 : tie.Need-same-length-5
-same-length-5 c = search needs
-
-same-length-6 : tie.Need-same-length-6
-same-length-6 c = search needs
-
-same-length-7 : tie.Need-same-length-7
-same-length-7 c = search needs
-
-same-length-8 : tie.Need-same-length-8
-same-length-8 c = search needs
-
-same-length-9 : tie.Need-same-length-9
-same-length-9 c = search needs
-
 pub end-spec : {M : Type 1} → statement M
 end-spec =
     tie.close
     (tie.spec
-    is-replaying-requires
+    (λ c κs. search needs)
     first-refusal-requires
-    refuse-requires
-    same-length
-    same-length-2
-    same-length-3
+    (λ c κs. search needs)
+    (λ c. search needs)
+    (λ c. search needs)
+    (λ c. search needs)
     returns
     is-done-requires
-    refuse-requires-2
-    same-length-4
-    same-length-5
-    same-length-6
+    (λ c κs. search needs)
+    (λ c. search needs)
+    (λ c. search needs)
+    (λ c. search needs)
     returns-2
     open-replayed-requires
-    same-length-7
-    same-length-8
-    same-length-9
+    (λ c. search needs)
+    (λ c. search needs)
+    (λ c. search needs)
     returns-3)

@@ -10,22 +10,10 @@ use Rattle.restart.proofs.finish.open_replayed.Tie as tie
 add-epoch : tie.Need-add-epoch
 add-epoch c = omega (arith, replaying _ (c .before .before .before .before .before .before .before .before .pre .0) .epoch)
 
-open-core-requires : tie.Need-open-core-requires
-open-core-requires c κs = search needs
-
 store-checkpoint-requires : tie.Need-store-checkpoint-requires
 store-checkpoint-requires c κs =
     let start = c .before .before .before .before .before .before .before .before .before .before .before .before .before in
     (replaying _ (start .pre .0) .bounds, start .pre .1, start .pre .2, start .pre .3)
-
-settle-requires : tie.Need-settle-requires
-settle-requires c κs = search needs
-
-same-length : tie.Need-same-length
-same-length c = search needs
-
-same-length-2 : tie.Need-same-length-2
-same-length-2 c = search needs
 
 returns : tie.Need-returns
 returns c =
@@ -38,18 +26,6 @@ fresh-work-requires : tie.Need-fresh-work-requires
 fresh-work-requires c κs =
     let start = c .before .before .before .before .before .before .before .before .before .before .before .before .before .before .before .before .before .before .before .before in
     (replaying _ (start .pre .0) .bounds, start .pre .4)
-
-settle-requires-2 : tie.Need-settle-requires-2
-settle-requires-2 c κs = search needs
-
-same-length-3 : tie.Need-same-length-3
-same-length-3 c = search needs
-
-same-length-4 : tie.Need-same-length-4
-same-length-4 c = search needs
-
-same-length-5 : tie.Need-same-length-5
-same-length-5 c = search needs
 
 returns-2 : tie.Need-returns-2
 returns-2 c =
@@ -67,15 +43,15 @@ open-replayed-spec =
     tie.close
     (tie.spec
     add-epoch
-    open-core-requires
+    (λ c κs. search needs)
     store-checkpoint-requires
-    settle-requires
-    same-length
-    same-length-2
+    (λ c κs. search needs)
+    (λ c. search needs)
+    (λ c. search needs)
     returns
     fresh-work-requires
-    settle-requires-2
-    same-length-3
-    same-length-4
-    same-length-5
+    (λ c κs. search needs)
+    (λ c. search needs)
+    (λ c. search needs)
+    (λ c. search needs)
     returns-2)

@@ -5,9 +5,6 @@ use Rattle.restart.proofs.Remaining.{done-split}
 use Rattle.restart.proofs.remain.is_done.Statement.{statement}
 use Rattle.restart.proofs.remain.is_done.Tie as tie
 
-logs-done-requires : tie.Need-logs-done-requires
-logs-done-requires c κs = search needs
-
 returns : tie.Need-returns
 returns c = rw (done-split, ← c .before .logs-done .ensures, not-true (c .before .logs-done .result) (c .if1 .taken))
 
@@ -18,4 +15,4 @@ returns-2 c =
     rw (done-split, ← at-logs-done .logs-done .ensures, not-false (at-logs-done .logs-done .result) (at-if1 .if1 .left))
 
 pub is-done-spec : {M : Type 1} → statement M
-is-done-spec = tie.close (tie.spec logs-done-requires returns returns-2)
+is-done-spec = tie.close (tie.spec (λ c κs. search needs) returns returns-2)

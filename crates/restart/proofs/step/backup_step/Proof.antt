@@ -6,9 +6,6 @@ use Rattle.restart.proofs.Stepping.{backup-none, backup-taken}
 use Rattle.restart.proofs.step.backup_step.Statement.{statement}
 use Rattle.restart.proofs.step.backup_step.Tie as tie
 
-refuse-requires : tie.Need-refuse-requires
-refuse-requires c κs = search needs
-
 returns : tie.Need-returns
 returns c = λ anchor logs work. rw (c .refuse .ensures) (backup-none _ _ (c .before .if1 .taken))
 
@@ -16,12 +13,6 @@ xor-page-requires : tie.Need-xor-page-requires
 xor-page-requires c κs =
     let start = c .before .before .before .before .before .before .before in
     (replaying _ (start .pre .0) .bounds, c .before .if1 .left, start .pre .1, start .pre .2)
-
-add-t13 : tie.Need-add-t13
-add-t13 c = search needs
-
-same-length : tie.Need-same-length
-same-length c = search needs
 
 returns-2 : tie.Need-returns-2
 unfolding withReplay
@@ -32,4 +23,4 @@ returns-2 c =
 
 pub backup-step-spec : {M : Type 1} → statement M
 backup-step-spec =
-    tie.close (tie.spec refuse-requires returns xor-page-requires add-t13 same-length returns-2)
+    tie.close (tie.spec (λ c κs. search needs) returns xor-page-requires (λ c. search needs) (λ c. search needs) returns-2)

@@ -30,54 +30,24 @@ mul-position c = let few = eight (c .before .before .before .before .before .pre
 array-read-position : tie.Need-array-read-position
 array-read-position c = eight (c .before .before .before .before .before .pre)
 
-refuse-requires : tie.Need-refuse-requires
-refuse-requires c κs = search needs
-
 returns : tie.Need-returns
 unfolding positionOf tailOf
 returns c =
     let start = c .before .before .before .before .before .before .before in
     λ anchor backups work. rw (c .refuse .ensures) (step-none _ _ _ (start .pre .disk-in) (c .before .if1 .taken))
 
-sub-none : tie.Need-sub-none
-sub-none c = search needs
-
-part-none-start : tie.Need-part-none-start
-part-none-start c = search needs
-
-part-none-end : tie.Need-part-none-end
-part-none-end c = search needs
-
 decode-at-requires : tie.Need-decode-at-requires
 unfolding tailOf
 decode-at-requires c κs = (log-readable (c .before .before .before .before .before .before .before .pre), c .before .if1 .left)
 
-enum-told : tie.Need-enum-told
-enum-told c = search needs
-
-refuse-at-requires : tie.Need-refuse-at-requires
-refuse-at-requires c κs = search needs
-
-enum-known-here : tie.Need-enum-known-here
-enum-known-here c = search needs
-
 move-on-requires : tie.Need-move-on-requires
 move-on-requires c κs = eight (c .before .before .before .before .before .before .before .before .before .before .before .pre)
-
-enum-known-here-2 : tie.Need-enum-known-here-2
-enum-known-here-2 c = search needs
 
 fate-from-requires : tie.Need-fate-from-requires
 unfolding tailOf
 fate-from-requires c κs =
     let start = c .before .before .before .before .before .before .before .before .before .before .before in
     log-readable (start .pre)
-
-enum-known-fate : tie.Need-enum-known-fate
-enum-known-fate c = search needs
-
-refuse-at-requires-2 : tie.Need-refuse-at-requires-2
-refuse-at-requires-2 c κs = search needs
 
 returns-2 : tie.Need-returns-2
 unfolding nextRecord readDisk fateFrom positionOf tailOf
@@ -92,9 +62,6 @@ returns-2 c =
     rw (c .refuse-at2 .ensures)
     (step-unreadable _ _ _ (start .pre .disk-in) (at-if1 .if1 .left) (sym (at-decode-at .decode-at .ensures) ∙ at-here2 .here2 .given .1)
     (sym (at-fate-from .fate-from .ensures) ∙ at-fate .fate .given .1))
-
-is-replayed-requires : tie.Need-is-replayed-requires
-is-replayed-requires c κs = search needs
 
 slot-base-requires : tie.Need-slot-base-requires
 unfolding nextRecord readDisk positionOf tailOf
@@ -149,9 +116,6 @@ returns-4 c =
     rw (c .move-on .ensures)
     (step-close _ _ _ (start .pre .disk-in) (at-if1 .if1 .left) (sym (at-decode-at .decode-at .ensures) ∙ at-here .here .given .1))
 
-same-length : tie.Need-same-length
-same-length c = search needs
-
 returns-5 : tie.Need-returns-5
 unfolding nextRecord readDisk fateFrom positionOf tailOf
 returns-5 c =
@@ -176,27 +140,27 @@ log-step-spec =
     array-read-tail
     mul-position
     array-read-position
-    refuse-requires
+    (λ c κs. search needs)
     returns
-    sub-none
-    part-none-start
-    part-none-end
+    (λ c. search needs)
+    (λ c. search needs)
+    (λ c. search needs)
     decode-at-requires
-    enum-told
-    refuse-at-requires
-    enum-known-here
+    (λ c. search needs)
+    (λ c κs. search needs)
+    (λ c. search needs)
     move-on-requires
-    enum-known-here-2
+    (λ c. search needs)
     fate-from-requires
-    enum-known-fate
-    refuse-at-requires-2
+    (λ c. search needs)
+    (λ c κs. search needs)
     returns-2
-    is-replayed-requires
+    (λ c κs. search needs)
     slot-base-requires
     add-from
     replay-span-requires
     move-on-requires-2
     returns-3
     returns-4
-    same-length
+    (λ c. search needs)
     returns-5)

@@ -12,16 +12,10 @@ use Rattle.restart.proofs.Stepping.{step-missing, step-refused, step-gi
 use Rattle.restart.proofs.step.step.Statement.{statement}
 use Rattle.restart.proofs.step.step.Tie as tie
 
-is-replaying-requires : tie.Need-is-replaying-requires
-is-replaying-requires c κs = search needs
-
 first-refusal-requires : tie.Need-first-refusal-requires
 first-refusal-requires c κs =
     let start = c .before .before .before .before .before .before .before in
     λ allowed. replaying-not-shut (start .args .core .stage) (sym (c .before .is-replaying .ensures) ∙ allowed)
-
-refuse-requires : tie.Need-refuse-requires
-refuse-requires c κs = search needs
 
 returns : tie.Need-returns
 returns c =
@@ -41,9 +35,6 @@ log-step-requires c κs =
     let a = start .args in
     let w = worldOf (now (a .anchor)) (now (a .pages)) (now (a .backups)) (now (a .logs)) (now (a .work)) in
     on-log (first-passed whenReplaying (a .core) w (at-is-replaying .is-replaying .ensures) (at-first-refusal .first-refusal .ensures) (at-if1 .if1 .left)) (c .before .if2 .taken)
-
-same-length : tie.Need-same-length
-same-length c = search needs
 
 returns-2 : tie.Need-returns-2
 returns-2 c =
@@ -67,9 +58,6 @@ backup-step-requires c κs =
     let passed = first-passed whenReplaying (a .core) w (at-is-replaying .is-replaying .ensures) (at-first-refusal .first-refusal .ensures) (at-if1 .if1 .left) in
     (replays passed, slices passed .pages, slices passed .backups)
 
-same-length-2 : tie.Need-same-length-2
-same-length-2 c = search needs
-
 returns-3 : tie.Need-returns-3
 returns-3 c =
     let at-backup-step = c .before .before in
@@ -81,9 +69,6 @@ returns-3 c =
     let a = start .args in
     let w = worldOf (now (a .anchor)) (now (a .pages)) (now (a .backups)) (now (a .logs)) (now (a .work)) in
     rw (at-if3 .if3 .taken) (step-given (a .core) w (a .core .sizes .disks) (at-is-replaying .is-replaying .ensures) (at-first-refusal .first-refusal .ensures) (at-if1 .if1 .left) _ _ (at-backup-step .backup-step .ensures _ _ _))
-
-refuse-requires-2 : tie.Need-refuse-requires-2
-refuse-requires-2 c κs = search needs
 
 returns-4 : tie.Need-returns-4
 returns-4 c =
@@ -98,27 +83,21 @@ returns-4 c =
     (step-given (a .core) w (a .source) (at-is-replaying .is-replaying .ensures) (at-first-refusal .first-refusal .ensures) (at-if1 .if1 .left) _ _
     (step-missing (a .core) w (a .source) (omega (arith, at-if2 .if2 .left, c .before .if3 .left))))
 
-same-length-3 : tie.Need-same-length-3
-same-length-3 c = search needs
-
-same-length-4 : tie.Need-same-length-4
-same-length-4 c = search needs
-
 pub step-spec : {M : Type 1} → statement M
 step-spec =
     tie.close
     (tie.spec
-    is-replaying-requires
+    (λ c κs. search needs)
     first-refusal-requires
-    refuse-requires
-    same-length
+    (λ c κs. search needs)
+    (λ c. search needs)
     returns
     log-step-requires
-    same-length-2
+    (λ c. search needs)
     returns-2
     backup-step-requires
-    same-length-3
+    (λ c. search needs)
     returns-3
-    refuse-requires-2
-    same-length-4
+    (λ c κs. search needs)
+    (λ c. search needs)
     returns-4)

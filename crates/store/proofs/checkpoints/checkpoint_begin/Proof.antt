@@ -6,15 +6,6 @@ use borrow.Author.Needs.{needs}
 use Rattle.store.proofs.checkpoints.checkpoint_begin.Statement.{statement}
 use Rattle.store.proofs.checkpoints.checkpoint_begin.Tie as tie
 
-core-of-requires : tie.Need-core-of-requires
-core-of-requires c κs = search needs
-
-begin-requires : tie.Need-begin-requires
-begin-requires c κs = search needs
-
-hand-back-requires : tie.Need-hand-back-requires
-hand-back-requires c κs = search needs
-
 returns : tie.Need-returns
 returns c =
     let x = c .before .before .before .before .before .before .before .before .args in
@@ -23,4 +14,4 @@ returns c =
 
 pub checkpoint-begin-spec : {M : Type 1} → statement M
 checkpoint-begin-spec =
-    tie.close (tie.spec core-of-requires begin-requires hand-back-requires returns)
+    tie.close (tie.spec (λ c κs. search needs) (λ c κs. search needs) (λ c κs. search needs) returns)

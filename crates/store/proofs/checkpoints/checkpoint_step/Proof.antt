@@ -6,21 +6,6 @@ use borrow.Author.Needs.{needs}
 use Rattle.store.proofs.checkpoints.checkpoint_step.Statement.{statement}
 use Rattle.store.proofs.checkpoints.checkpoint_step.Tie as tie
 
-core-of-requires : tie.Need-core-of-requires
-core-of-requires c κs = search needs
-
-step-requires : tie.Need-step-requires
-step-requires c κs = search needs
-
-hand-back-requires : tie.Need-hand-back-requires
-hand-back-requires c κs = search needs
-
-same-length : tie.Need-same-length
-same-length c = search needs
-
-same-length-2 : tie.Need-same-length-2
-same-length-2 c = search needs
-
 returns : tie.Need-returns
 returns c =
     let x = c .before .before .before .before .before .before .before .before .before .before .before .before .before .before .before .args in
@@ -30,4 +15,4 @@ returns c =
 pub checkpoint-step-spec : {M : Type 1} → statement M
 checkpoint-step-spec =
     tie.close
-    (tie.spec core-of-requires step-requires hand-back-requires same-length same-length-2 returns)
+    (tie.spec (λ c κs. search needs) (λ c κs. search needs) (λ c κs. search needs) (λ c. search needs) (λ c. search needs) returns)

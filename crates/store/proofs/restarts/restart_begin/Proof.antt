@@ -6,18 +6,6 @@ use borrow.Author.Needs.{needs}
 use Rattle.store.proofs.restarts.restart_begin.Statement.{statement}
 use Rattle.store.proofs.restarts.restart_begin.Tie as tie
 
-core-of-requires : tie.Need-core-of-requires
-core-of-requires c κs = search needs
-
-begin-requires : tie.Need-begin-requires
-begin-requires c κs = search needs
-
-hand-back-requires : tie.Need-hand-back-requires
-hand-back-requires c κs = search needs
-
-same-length : tie.Need-same-length
-same-length c = search needs
-
 returns : tie.Need-returns
 returns c =
     let x = c .before .before .before .before .before .before .before .before .before .before .before .args in
@@ -26,4 +14,4 @@ returns c =
 
 pub restart-begin-spec : {M : Type 1} → statement M
 restart-begin-spec =
-    tie.close (tie.spec core-of-requires begin-requires hand-back-requires same-length returns)
+    tie.close (tie.spec (λ c κs. search needs) (λ c κs. search needs) (λ c κs. search needs) (λ c. search needs) returns)

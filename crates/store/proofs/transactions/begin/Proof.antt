@@ -6,15 +6,6 @@ use borrow.Author.Needs.{needs}
 use Rattle.store.proofs.transactions.begin.Statement.{statement}
 use Rattle.store.proofs.transactions.begin.Tie as tie
 
-core-of-requires : tie.Need-core-of-requires
-core-of-requires c κs = search needs
-
-begin-requires : tie.Need-begin-requires
-begin-requires c κs = search needs
-
-hand-back-requires : tie.Need-hand-back-requires
-hand-back-requires c κs = search needs
-
 returns : tie.Need-returns
 returns c =
     let x = c .before .before .before .before .before .before .before .before .args in
@@ -22,4 +13,4 @@ returns c =
     (c .before .before .core-of .ensures) (c .before .begin .ensures) (c .hand-back .ensures)
 
 pub begin-spec : {M : Type 1} → statement M
-begin-spec = tie.close (tie.spec core-of-requires begin-requires hand-back-requires returns)
+begin-spec = tie.close (tie.spec (λ c κs. search needs) (λ c κs. search needs) (λ c κs. search needs) returns)

@@ -5,15 +5,9 @@ use Rattle.model.specs.State.{hasUpdate, reservedAt}
 use Rattle.table.proofs.place.has_update.Statement.{statement}
 use Rattle.table.proofs.place.has_update.Tie as tie
 
-mul-result : tie.Need-mul-result
-mul-result c = search needs
-
-element-copy-out-result : tie.Need-element-copy-out-result
-element-copy-out-result c = search needs
-
 returns : tie.Need-returns
 unfolding hasUpdate reservedAt
 returns c = refl
 
 pub has-update-spec : {M : Type 1} → statement M
-has-update-spec = tie.close (tie.spec mul-result element-copy-out-result returns)
+has-update-spec = tie.close (tie.spec (λ c. search needs) (λ c. search needs) returns)

@@ -9,12 +9,9 @@ returns : tie.Need-returns
 unfolding isOpen inTable
 returns c = rw (eq-eqb _ _ (c .if1 .taken))
 
-place-of-requires : tie.Need-place-of-requires
-place-of-requires c κs = search needs
-
 returns-2 : tie.Need-returns-2
 unfolding isOpen inTable
 returns-2 c = rw (ne-eqb _ _ (c .before .if1 .left), c .place-of .ensures)
 
 pub is-open-spec : {M : Type 1} → statement M
-is-open-spec = tie.close (tie.spec returns place-of-requires returns-2)
+is-open-spec = tie.close (tie.spec returns (λ c κs. search needs) returns-2)

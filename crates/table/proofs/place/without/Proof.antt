@@ -6,12 +6,6 @@ use Rattle.table.proofs.Places.{put-past}
 use Rattle.table.proofs.place.without.Statement.{statement}
 use Rattle.table.proofs.place.without.Tie as tie
 
-place-of-requires : tie.Need-place-of-requires
-place-of-requires c κs = search needs
-
-put-place-requires : tie.Need-put-place-requires
-put-place-requires c κs = search needs
-
 returns : tie.Need-returns
 unfolding without
 returns c = rw (c .put-place .ensures, c .before .before .place-of .ensures)
@@ -23,4 +17,4 @@ returns-2 c = let t = c .before .before .args .table in
     sym (put-past t _ (rw e at (c .if1 .left)) (search needs) (search needs) (search needs) (search needs))
 
 pub without-spec : {M : Type 1} → statement M
-without-spec = tie.close (tie.spec place-of-requires put-place-requires returns returns-2)
+without-spec = tie.close (tie.spec (λ c κs. search needs) (λ c κs. search needs) returns returns-2)

@@ -15,25 +15,10 @@ returns-2 c d h =
     let a = c .before .before .before .args in
     away-adds (a .sums .now) (a .number) (a .disk) (a .words) d (omega (arith, h, c .if2 .taken)) (c .before .before .before .pre .1 d h)
 
-mul-capped : tie.Need-mul-capped
-mul-capped c = search needs
-
-slice-read-capped : tie.Need-slice-read-capped
-slice-read-capped c = search needs
-
 capped-requires : tie.Need-capped-requires
 capped-requires c κs =
     let a = c .before .before .before .before .args in
     c .before .before .before .before .pre .1 (a .disk) (omega (arith, c .before .if2 .left))
-
-mul-sums : tie.Need-mul-sums
-mul-sums c = search needs
-
-slice-write-sums : tie.Need-slice-write-sums
-slice-write-sums c = search needs
-
-same-length : tie.Need-same-length
-same-length c = search needs
 
 returns-3 : tie.Need-returns-3
 returns-3 c d h =
@@ -47,10 +32,10 @@ add-place-spec =
     (tie.spec
     returns
     returns-2
-    mul-capped
-    slice-read-capped
+    (λ c. search needs)
+    (λ c. search needs)
     capped-requires
-    mul-sums
-    slice-write-sums
-    same-length
+    (λ c. search needs)
+    (λ c. search needs)
+    (λ c. search needs)
     returns-3)

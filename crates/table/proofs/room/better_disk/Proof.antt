@@ -7,36 +7,21 @@ use Rattle.table.proofs.room.better_disk.Tie as tie
 returns : tie.Need-returns
 returns c = (search needs, simp (c .before .if1 .taken, eq-eqb _ _ (c .if2 .taken)))
 
-mul-if3 : tie.Need-mul-if3
-mul-if3 c = search needs
-
-element-copy-out-if3 : tie.Need-element-copy-out-if3
-element-copy-out-if3 c = search needs
-
-mul-if3-2 : tie.Need-mul-if3-2
-mul-if3-2 c = search needs
-
-element-copy-out-if3-2 : tie.Need-element-copy-out-if3-2
-element-copy-out-if3-2 c = search needs
-
 returns-2 : tie.Need-returns-2
 returns-2 c = (search needs, simp (c .before .before .before .before .if1 .taken, ne-eqb _ _ (c .before .before .before .if2 .left), lt-ltb _ _ (c .if3 .taken)))
 
 returns-3 : tie.Need-returns-3
 returns-3 c = (search needs, simp (c .before .before .before .before .if1 .taken, ne-eqb _ _ (c .before .before .before .if2 .left), le-ltb _ _ (c .if3 .left)))
 
-returns-4 : tie.Need-returns-4
-returns-4 c = search needs
-
 pub better-disk-spec : {M : Type 1} → statement M
 better-disk-spec =
     tie.close
     (tie.spec
     returns
-    mul-if3
-    element-copy-out-if3
-    mul-if3-2
-    element-copy-out-if3-2
+    (λ c. search needs)
+    (λ c. search needs)
+    (λ c. search needs)
+    (λ c. search needs)
     returns-2
     returns-3
-    returns-4)
+    (λ c. search needs))

@@ -20,48 +20,9 @@ Inv-loop need disks ring logs sums best₀ d₀ best d =
 abbrev μ-loop : tie.MeasureT-loop
 μ-loop need disks ring logs sums best₀ d₀ best d = disks - d
 
-reserved-each-requires : tie.Need-reserved-each-requires Inv-loop μ-loop
-reserved-each-requires c κs = search needs
-
 loop-holds : tie.Need-loop-holds Inv-loop μ-loop
 unfolding idlestBelow
 loop-holds c = (search needs, search needs, λ t sums. refl)
-
-mul-room-for : tie.Need-mul-room-for Inv-loop μ-loop
-mul-room-for c = search needs
-
-element-copy-out-room-for : tie.Need-element-copy-out-room-for Inv-loop μ-loop
-element-copy-out-room-for c = search needs
-
-mul-room-for-2 : tie.Need-mul-room-for-2 Inv-loop μ-loop
-mul-room-for-2 c = search needs
-
-element-copy-out-room-for-2 : tie.Need-element-copy-out-room-for-2 Inv-loop μ-loop
-element-copy-out-room-for-2 c = search needs
-
-mul-room-for-3 : tie.Need-mul-room-for-3 Inv-loop μ-loop
-mul-room-for-3 c = search needs
-
-element-copy-out-room-for-3 : tie.Need-element-copy-out-room-for-3 Inv-loop μ-loop
-element-copy-out-room-for-3 c = search needs
-
-mul-room-for-4 : tie.Need-mul-room-for-4 Inv-loop μ-loop
-mul-room-for-4 c = search needs
-
-array-read-room-for : tie.Need-array-read-room-for Inv-loop μ-loop
-array-read-room-for c = search needs
-
-room-for-requires : tie.Need-room-for-requires Inv-loop μ-loop
-room-for-requires c κs = search needs
-
-better-disk-requires : tie.Need-better-disk-requires Inv-loop μ-loop
-better-disk-requires c κs = search needs
-
-add-d : tie.Need-add-d Inv-loop μ-loop
-add-d c = search needs
-
-loop-less : tie.Need-loop-less Inv-loop μ-loop
-loop-less c = search needs
 
 loop-again : tie.Need-loop-again Inv-loop μ-loop
 loop-again c = (
@@ -84,19 +45,19 @@ idlest-spec =
     (tie.spec
     Inv-loop
     μ-loop
-    reserved-each-requires
+    (λ c κs. search needs)
     loop-holds
-    mul-room-for
-    element-copy-out-room-for
-    mul-room-for-2
-    element-copy-out-room-for-2
-    mul-room-for-3
-    element-copy-out-room-for-3
-    mul-room-for-4
-    array-read-room-for
-    room-for-requires
-    better-disk-requires
-    add-d
-    loop-less
+    (λ c. search needs)
+    (λ c. search needs)
+    (λ c. search needs)
+    (λ c. search needs)
+    (λ c. search needs)
+    (λ c. search needs)
+    (λ c. search needs)
+    (λ c. search needs)
+    (λ c κs. search needs)
+    (λ c κs. search needs)
+    (λ c. search needs)
+    (λ c. search needs)
     loop-again
     returns)

@@ -22,35 +22,8 @@ loop-holds : tie.Need-loop-holds Inv-loop μ-loop
 unfolding sumBelow
 loop-holds c = (search needs, search needs, λ d h. getD-replicate 8 d 0 0 h)
 
-slice-aggregate-add-place : tie.Need-slice-aggregate-add-place Inv-loop μ-loop
-slice-aggregate-add-place c = search needs
-
-mul-add-place : tie.Need-mul-add-place Inv-loop μ-loop
-mul-add-place c = search needs
-
-element-copy-out-add-place : tie.Need-element-copy-out-add-place Inv-loop μ-loop
-element-copy-out-add-place c = search needs
-
-mul-add-place-2 : tie.Need-mul-add-place-2 Inv-loop μ-loop
-mul-add-place-2 c = search needs
-
-element-copy-out-add-place-2 : tie.Need-element-copy-out-add-place-2 Inv-loop μ-loop
-element-copy-out-add-place-2 c = search needs
-
-mul-add-place-3 : tie.Need-mul-add-place-3 Inv-loop μ-loop
-mul-add-place-3 c = search needs
-
-element-copy-out-add-place-3 : tie.Need-element-copy-out-add-place-3 Inv-loop μ-loop
-element-copy-out-add-place-3 c = search needs
-
 add-place-requires : tie.Need-add-place-requires Inv-loop μ-loop
 add-place-requires c κs = (c .before .before .before .before .before .loop .inv .1, λ d h. omega (arith, c .before .before .before .before .before .loop .inv .2 d h))
-
-add-i : tie.Need-add-i Inv-loop μ-loop
-add-i c = search needs
-
-loop-less : tie.Need-loop-less Inv-loop μ-loop
-loop-less c = search needs
 
 loop-again : tie.Need-loop-again Inv-loop μ-loop
 loop-again c = (
@@ -73,15 +46,15 @@ reserved-each-spec =
     Inv-loop
     μ-loop
     loop-holds
-    slice-aggregate-add-place
-    mul-add-place
-    element-copy-out-add-place
-    mul-add-place-2
-    element-copy-out-add-place-2
-    mul-add-place-3
-    element-copy-out-add-place-3
+    (λ c. search needs)
+    (λ c. search needs)
+    (λ c. search needs)
+    (λ c. search needs)
+    (λ c. search needs)
+    (λ c. search needs)
+    (λ c. search needs)
     add-place-requires
-    add-i
-    loop-less
+    (λ c. search needs)
+    (λ c. search needs)
     loop-again
     returns)

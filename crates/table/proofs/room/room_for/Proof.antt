@@ -17,29 +17,11 @@ returns-3 c = no-room _ _ _ _ _ (omega arith)
 returns-4 : tie.Need-returns-4
 returns-4 c = no-room _ _ _ _ _ (omega arith)
 
-add-end : tie.Need-add-end
-add-end c = search needs
-
 returns-5 : tie.Need-returns-5
 returns-5 c = no-room _ _ _ _ _ (omega arith)
 
-add-whole : tie.Need-add-whole
-add-whole c = search needs
-
-add-whole-2 : tie.Need-add-whole-2
-add-whole-2 c = search needs
-
 returns-6 : tie.Need-returns-6
 returns-6 c = no-room _ _ _ _ _ (omega arith)
-
-saturating-sub-requires : tie.Need-saturating-sub-requires
-saturating-sub-requires c κs = search needs
-
-add-result : tie.Need-add-result
-add-result c = search needs
-
-add-result-2 : tie.Need-add-result-2
-add-result-2 c = search needs
 
 returns-7 : tie.Need-returns-7
 returns-7 c = rw (c .saturating-sub .ensures) (room-by-ring _ _ _ _ _ (omega arith))
@@ -52,12 +34,12 @@ room-for-spec =
     returns-2
     returns-3
     returns-4
-    add-end
+    (λ c. search needs)
     returns-5
-    add-whole
-    add-whole-2
+    (λ c. search needs)
+    (λ c. search needs)
     returns-6
-    saturating-sub-requires
-    add-result
-    add-result-2
+    (λ c κs. search needs)
+    (λ c. search needs)
+    (λ c. search needs)
     returns-7)

@@ -11,11 +11,8 @@ returns c = rw (ends-parts, le-ltb _ _ (c .if1 .taken))
 returns-2 : tie.Need-returns-2
 returns-2 c = rw (ends-parts, lt-ltb _ _ (c .before .before .before .before .if1 .left), lt-leb _ _ (c .if2 .taken))
 
-ends-sound-requires : tie.Need-ends-sound-requires
-ends-sound-requires c κs = search needs
-
 returns-3 : tie.Need-returns-3
 returns-3 c = rw (ends-parts, lt-ltb _ _ (c .before .before .before .before .before .before .before .if1 .left), le-leb _ _ (c .before .before .before .if2 .left)) (c .ends-sound .ensures)
 
 pub checkpoint-bounds-spec : {M : Type 1} → statement M
-checkpoint-bounds-spec = tie.close (tie.spec returns returns-2 ends-sound-requires returns-3)
+checkpoint-bounds-spec = tie.close (tie.spec returns returns-2 (λ c κs. search needs) returns-3)

@@ -13,11 +13,8 @@ returns c = rw (lt-leb _ _ (c .if1 .taken))
 returns-2 : tie.Need-returns-2
 returns-2 c = within-tail _ _ _ _ (c .before .if1 .left) (c .if2 .taken)
 
-sub-result : tie.Need-sub-result
-sub-result c = search needs
-
 returns-3 : tie.Need-returns-3
 returns-3 c = within-buffer _ _ _ _ (c .before .if1 .left) (c .if2 .left)
 
 pub covers-spec : {M : Type 1} → statement M
-covers-spec = tie.close (tie.spec returns returns-2 sub-result returns-3)
+covers-spec = tie.close (tie.spec returns returns-2 (λ c. search needs) returns-3)

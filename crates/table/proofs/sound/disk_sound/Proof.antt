@@ -10,11 +10,8 @@ returns c = rw (lt-leb _ _ (c .if1 .taken))
 returns-2 : tie.Need-returns-2
 returns-2 c = rw (le-leb _ _ (c .before .if1 .left), lt-leb _ _ (c .if2 .taken))
 
-room-for-requires : tie.Need-room-for-requires
-room-for-requires c κs = search needs
-
 returns-3 : tie.Need-returns-3
 returns-3 c = rw (le-leb _ _ (c .before .before .if1 .left), le-leb _ _ (c .before .if2 .left)) (c .room-for .ensures)
 
 pub disk-sound-spec : {M : Type 1} → statement M
-disk-sound-spec = tie.close (tie.spec returns returns-2 room-for-requires returns-3)
+disk-sound-spec = tie.close (tie.spec returns returns-2 (λ c κs. search needs) returns-3)

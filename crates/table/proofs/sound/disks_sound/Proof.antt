@@ -22,42 +22,9 @@ loop-holds : tie.Need-loop-holds Inv-loop μ-loop
 unfolding allBelow
 loop-holds c = (search needs, refl)
 
-mul-disk-sound : tie.Need-mul-disk-sound Inv-loop μ-loop
-mul-disk-sound c = search needs
-
-element-copy-out-disk-sound : tie.Need-element-copy-out-disk-sound Inv-loop μ-loop
-element-copy-out-disk-sound c = search needs
-
-mul-disk-sound-2 : tie.Need-mul-disk-sound-2 Inv-loop μ-loop
-mul-disk-sound-2 c = search needs
-
-element-copy-out-disk-sound-2 : tie.Need-element-copy-out-disk-sound-2 Inv-loop μ-loop
-element-copy-out-disk-sound-2 c = search needs
-
-mul-disk-sound-3 : tie.Need-mul-disk-sound-3 Inv-loop μ-loop
-mul-disk-sound-3 c = search needs
-
-element-copy-out-disk-sound-3 : tie.Need-element-copy-out-disk-sound-3 Inv-loop μ-loop
-element-copy-out-disk-sound-3 c = search needs
-
-mul-disk-sound-4 : tie.Need-mul-disk-sound-4 Inv-loop μ-loop
-mul-disk-sound-4 c = search needs
-
-element-copy-out-disk-sound-4 : tie.Need-element-copy-out-disk-sound-4 Inv-loop μ-loop
-element-copy-out-disk-sound-4 c = search needs
-
-disk-sound-requires : tie.Need-disk-sound-requires Inv-loop μ-loop
-disk-sound-requires c κs = search needs
-
 returns : tie.Need-returns Inv-loop μ-loop
 unfolding logSound startOf tailOf fillOf endOf
 returns c = all-stop _ _ (c .before .before .before .before .before .before .before .loop .d) (omega arith) (sym (c .before .disk-sound .ensures) ∙ not-true _ (c .if1 .taken))
-
-add-d : tie.Need-add-d Inv-loop μ-loop
-add-d c = search needs
-
-loop-less : tie.Need-loop-less Inv-loop μ-loop
-loop-less c = search needs
 
 loop-again : tie.Need-loop-again Inv-loop μ-loop
 unfolding logSound startOf tailOf fillOf endOf
@@ -73,17 +40,17 @@ disks-sound-spec =
     Inv-loop
     μ-loop
     loop-holds
-    mul-disk-sound
-    element-copy-out-disk-sound
-    mul-disk-sound-2
-    element-copy-out-disk-sound-2
-    mul-disk-sound-3
-    element-copy-out-disk-sound-3
-    mul-disk-sound-4
-    element-copy-out-disk-sound-4
-    disk-sound-requires
+    (λ c. search needs)
+    (λ c. search needs)
+    (λ c. search needs)
+    (λ c. search needs)
+    (λ c. search needs)
+    (λ c. search needs)
+    (λ c. search needs)
+    (λ c. search needs)
+    (λ c κs. search needs)
     returns
-    add-d
-    loop-less
+    (λ c. search needs)
+    (λ c. search needs)
     loop-again
     returns-2)

@@ -22,42 +22,9 @@ loop-holds : tie.Need-loop-holds Inv-loop μ-loop
 unfolding allBelow
 loop-holds c = (search needs, refl)
 
-mul-covers : tie.Need-mul-covers Inv-loop μ-loop
-mul-covers c = search needs
-
-element-copy-out-covers : tie.Need-element-copy-out-covers Inv-loop μ-loop
-element-copy-out-covers c = search needs
-
-mul-covers-2 : tie.Need-mul-covers-2 Inv-loop μ-loop
-mul-covers-2 c = search needs
-
-element-copy-out-covers-2 : tie.Need-element-copy-out-covers-2 Inv-loop μ-loop
-element-copy-out-covers-2 c = search needs
-
-mul-covers-3 : tie.Need-mul-covers-3 Inv-loop μ-loop
-mul-covers-3 c = search needs
-
-element-copy-out-covers-3 : tie.Need-element-copy-out-covers-3 Inv-loop μ-loop
-element-copy-out-covers-3 c = search needs
-
-mul-covers-4 : tie.Need-mul-covers-4 Inv-loop μ-loop
-mul-covers-4 c = search needs
-
-array-read-covers : tie.Need-array-read-covers Inv-loop μ-loop
-array-read-covers c = search needs
-
-covers-requires : tie.Need-covers-requires Inv-loop μ-loop
-covers-requires c κs = search needs
-
 returns : tie.Need-returns Inv-loop μ-loop
 unfolding endWithin startOf tailOf fillOf endOf
 returns c = all-stop _ _ (c .before .before .before .before .before .before .loop .d) (omega arith) (sym (c .before .covers .ensures) ∙ not-true _ (c .if1 .taken))
-
-add-d : tie.Need-add-d Inv-loop μ-loop
-add-d c = search needs
-
-loop-less : tie.Need-loop-less Inv-loop μ-loop
-loop-less c = search needs
 
 loop-again : tie.Need-loop-again Inv-loop μ-loop
 unfolding endWithin startOf tailOf fillOf endOf
@@ -73,17 +40,17 @@ ends-sound-spec =
     Inv-loop
     μ-loop
     loop-holds
-    mul-covers
-    element-copy-out-covers
-    mul-covers-2
-    element-copy-out-covers-2
-    mul-covers-3
-    element-copy-out-covers-3
-    mul-covers-4
-    array-read-covers
-    covers-requires
+    (λ c. search needs)
+    (λ c. search needs)
+    (λ c. search needs)
+    (λ c. search needs)
+    (λ c. search needs)
+    (λ c. search needs)
+    (λ c. search needs)
+    (λ c. search needs)
+    (λ c κs. search needs)
     returns
-    add-d
-    loop-less
+    (λ c. search needs)
+    (λ c. search needs)
     loop-again
     returns-2)

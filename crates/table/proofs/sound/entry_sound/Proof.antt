@@ -23,27 +23,6 @@ returns-4 : tie.Need-returns-4
 unfolding entrySound
 returns-4 c = rw (ne-eqb _ _ (c .before .before .before .if1 .left), lt-ltb _ _ (c .before .before .if2 .left), c .if4 .taken)
 
-mul-covers : tie.Need-mul-covers
-mul-covers c = search needs
-
-element-copy-out-covers : tie.Need-element-copy-out-covers
-element-copy-out-covers c = search needs
-
-mul-covers-2 : tie.Need-mul-covers-2
-mul-covers-2 c = search needs
-
-element-copy-out-covers-2 : tie.Need-element-copy-out-covers-2
-element-copy-out-covers-2 c = search needs
-
-mul-covers-3 : tie.Need-mul-covers-3
-mul-covers-3 c = search needs
-
-element-copy-out-covers-3 : tie.Need-element-copy-out-covers-3
-element-copy-out-covers-3 c = search needs
-
-covers-requires : tie.Need-covers-requires
-covers-requires c κs = search needs
-
 returns-5 : tie.Need-returns-5
 unfolding entrySound startOf tailOf fillOf endOf
 returns-5 c =
@@ -63,11 +42,11 @@ entry-sound-spec =
     returns-2
     returns-3
     returns-4
-    mul-covers
-    element-copy-out-covers
-    mul-covers-2
-    element-copy-out-covers-2
-    mul-covers-3
-    element-copy-out-covers-3
-    covers-requires
+    (λ c. search needs)
+    (λ c. search needs)
+    (λ c. search needs)
+    (λ c. search needs)
+    (λ c. search needs)
+    (λ c. search needs)
+    (λ c κs. search needs)
     returns-5)

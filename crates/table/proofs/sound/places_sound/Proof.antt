@@ -28,33 +28,6 @@ loop-holds : tie.Need-loop-holds Inv-loop μ-loop
 unfolding allBelow sumBelow
 loop-holds c = (search needs, refl, rw (c .before .pre .1) refl, λ d h. rw (c .before .pre .1) (getD-replicate 8 d 0 0 h))
 
-mul-entry-sound : tie.Need-mul-entry-sound Inv-loop μ-loop
-mul-entry-sound c = search needs
-
-element-copy-out-entry-sound : tie.Need-element-copy-out-entry-sound Inv-loop μ-loop
-element-copy-out-entry-sound c = search needs
-
-mul-entry-sound-2 : tie.Need-mul-entry-sound-2 Inv-loop μ-loop
-mul-entry-sound-2 c = search needs
-
-element-copy-out-entry-sound-2 : tie.Need-element-copy-out-entry-sound-2 Inv-loop μ-loop
-element-copy-out-entry-sound-2 c = search needs
-
-mul-entry-sound-3 : tie.Need-mul-entry-sound-3 Inv-loop μ-loop
-mul-entry-sound-3 c = search needs
-
-element-copy-out-entry-sound-3 : tie.Need-element-copy-out-entry-sound-3 Inv-loop μ-loop
-element-copy-out-entry-sound-3 c = search needs
-
-mul-entry-sound-4 : tie.Need-mul-entry-sound-4 Inv-loop μ-loop
-mul-entry-sound-4 c = search needs
-
-element-copy-out-entry-sound-4 : tie.Need-element-copy-out-entry-sound-4 Inv-loop μ-loop
-element-copy-out-entry-sound-4 c = search needs
-
-entry-sound-requires : tie.Need-entry-sound-requires Inv-loop μ-loop
-entry-sound-requires c κs = search needs
-
 same-length : tie.Need-same-length Inv-loop μ-loop
 same-length c = rw (c .before .before .before .before .before .before .before .before .before .pre .1) (c .before .before .before .before .before .before .before .loop .inv .2)
 
@@ -64,32 +37,8 @@ returns c = (
   all-stop _ _ (c .before .before .before .before .before .before .before .loop .i) (omega arith) (place-computed _ _ _ _ _ ∙ sym (c .before .entry-sound .ensures) ∙ not-true _ (c .if1 .taken)),
 )
 
-mul-add-place : tie.Need-mul-add-place Inv-loop μ-loop
-mul-add-place c = search needs
-
-element-copy-out-add-place : tie.Need-element-copy-out-add-place Inv-loop μ-loop
-element-copy-out-add-place c = search needs
-
-mul-add-place-2 : tie.Need-mul-add-place-2 Inv-loop μ-loop
-mul-add-place-2 c = search needs
-
-element-copy-out-add-place-2 : tie.Need-element-copy-out-add-place-2 Inv-loop μ-loop
-element-copy-out-add-place-2 c = search needs
-
-mul-add-place-3 : tie.Need-mul-add-place-3 Inv-loop μ-loop
-mul-add-place-3 c = search needs
-
-element-copy-out-add-place-3 : tie.Need-element-copy-out-add-place-3 Inv-loop μ-loop
-element-copy-out-add-place-3 c = search needs
-
 add-place-requires : tie.Need-add-place-requires Inv-loop μ-loop
 add-place-requires c κs = (c .before .before .before .before .before .before .before .before .before .before .before .loop .inv .2, λ d h. omega (arith, c .before .before .before .before .before .before .before .before .before .before .before .loop .inv .3 d h))
-
-add-i : tie.Need-add-i Inv-loop μ-loop
-add-i c = search needs
-
-loop-less : tie.Need-loop-less Inv-loop μ-loop
-loop-less c = search needs
 
 loop-again : tie.Need-loop-again Inv-loop μ-loop
 loop-again c = (
@@ -117,26 +66,26 @@ places-sound-spec =
     Inv-loop
     μ-loop
     loop-holds
-    mul-entry-sound
-    element-copy-out-entry-sound
-    mul-entry-sound-2
-    element-copy-out-entry-sound-2
-    mul-entry-sound-3
-    element-copy-out-entry-sound-3
-    mul-entry-sound-4
-    element-copy-out-entry-sound-4
-    entry-sound-requires
+    (λ c. search needs)
+    (λ c. search needs)
+    (λ c. search needs)
+    (λ c. search needs)
+    (λ c. search needs)
+    (λ c. search needs)
+    (λ c. search needs)
+    (λ c. search needs)
+    (λ c κs. search needs)
     same-length
     returns
-    mul-add-place
-    element-copy-out-add-place
-    mul-add-place-2
-    element-copy-out-add-place-2
-    mul-add-place-3
-    element-copy-out-add-place-3
+    (λ c. search needs)
+    (λ c. search needs)
+    (λ c. search needs)
+    (λ c. search needs)
+    (λ c. search needs)
+    (λ c. search needs)
     add-place-requires
-    add-i
-    loop-less
+    (λ c. search needs)
+    (λ c. search needs)
     loop-again
     same-length-2
     returns-2)

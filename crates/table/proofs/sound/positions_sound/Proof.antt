@@ -21,30 +21,9 @@ loop-holds : tie.Need-loop-holds Inv-loop μ-loop
 unfolding allBelow
 loop-holds c = (search needs, refl)
 
-mul-position-sound : tie.Need-mul-position-sound Inv-loop μ-loop
-mul-position-sound c = search needs
-
-array-read-position-sound : tie.Need-array-read-position-sound Inv-loop μ-loop
-array-read-position-sound c = search needs
-
-mul-position-sound-2 : tie.Need-mul-position-sound-2 Inv-loop μ-loop
-mul-position-sound-2 c = search needs
-
-array-read-position-sound-2 : tie.Need-array-read-position-sound-2 Inv-loop μ-loop
-array-read-position-sound-2 c = search needs
-
-position-sound-requires : tie.Need-position-sound-requires Inv-loop μ-loop
-position-sound-requires c κs = search needs
-
 returns : tie.Need-returns Inv-loop μ-loop
 unfolding positionWithin
 returns c = all-stop _ _ (c .before .before .before .loop .d) (omega arith) (sym (c .before .position-sound .ensures) ∙ not-true _ (c .if1 .taken))
-
-add-d : tie.Need-add-d Inv-loop μ-loop
-add-d c = search needs
-
-loop-less : tie.Need-loop-less Inv-loop μ-loop
-loop-less c = search needs
 
 loop-again : tie.Need-loop-again Inv-loop μ-loop
 unfolding positionWithin
@@ -60,13 +39,13 @@ positions-sound-spec =
     Inv-loop
     μ-loop
     loop-holds
-    mul-position-sound
-    array-read-position-sound
-    mul-position-sound-2
-    array-read-position-sound-2
-    position-sound-requires
+    (λ c. search needs)
+    (λ c. search needs)
+    (λ c. search needs)
+    (λ c. search needs)
+    (λ c κs. search needs)
     returns
-    add-d
-    loop-less
+    (λ c. search needs)
+    (λ c. search needs)
     loop-again
     returns-2)

@@ -10,11 +10,8 @@ returns c = rw (le-ltb _ _ (c .if1 .taken))
 returns-2 : tie.Need-returns-2
 returns-2 c = rw (lt-ltb _ _ (c .before .before .before .before .if1 .left), lt-leb _ _ (c .if2 .taken))
 
-positions-sound-requires : tie.Need-positions-sound-requires
-positions-sound-requires c κs = search needs
-
 returns-3 : tie.Need-returns-3
 returns-3 c = rw (lt-ltb _ _ (c .before .before .before .before .before .before .before .before .if1 .left), le-leb _ _ (c .before .before .before .before .if2 .left)) (c .positions-sound .ensures)
 
 pub replay-bounds-spec : {M : Type 1} → statement M
-replay-bounds-spec = tie.close (tie.spec returns returns-2 positions-sound-requires returns-3)
+replay-bounds-spec = tie.close (tie.spec returns returns-2 (λ c κs. search needs) returns-3)

@@ -9,9 +9,6 @@ use Rattle.table.proofs.Tests.{disks-computed, places-parts}
 use Rattle.table.proofs.sound.serving_bounds.Statement.{statement}
 use Rattle.table.proofs.sound.serving_bounds.Tie as tie
 
-slice-aggregate-places-sound : tie.Need-slice-aggregate-places-sound
-slice-aggregate-places-sound c = search needs
-
 places-sound-requires : tie.Need-places-sound-requires
 places-sound-requires c κs = (c .before .before .before .before .before .before .before .before .before .before .before .before .pre, refl)
 
@@ -20,9 +17,6 @@ returns c =
     let core = c .before .before .before .before .before .before .before .before .before .before .before .before .before .before .before .args .core in
     let places = places-parts core _ (c .before .before .places-sound .ensures .1) in
     rw (sym places ∙ not-true _ (c .if1 .taken)) (sym (and-false (allBelow (diskSound core) (core .sizes .disks))))
-
-disks-sound-requires : tie.Need-disks-sound-requires
-disks-sound-requires c κs = search needs
 
 returns-2 : tie.Need-returns-2
 returns-2 c =
@@ -36,8 +30,8 @@ pub serving-bounds-spec : {M : Type 1} → statement M
 serving-bounds-spec =
     tie.close
     (tie.spec
-    slice-aggregate-places-sound
+    (λ c. search needs)
     places-sound-requires
     returns
-    disks-sound-requires
+    (λ c κs. search needs)
     returns-2)

@@ -13,14 +13,8 @@ use borrow.Author.Needs.{needs}
 use Rattle.txn.proofs.begin.begin.Statement.{statement}
 use Rattle.txn.proofs.begin.begin.Tie as tie
 
-is-serving-requires : tie.Need-is-serving-requires
-is-serving-requires c κs = search needs
-
 first-refusal-requires : tie.Need-first-refusal-requires
 first-refusal-requires c κs = λ e. serving-not-shut (c .before .before .before .before .before .before .args .core .stage) (sym (c .is-serving .ensures) ∙ e)
-
-refuse-requires : tie.Need-refuse-requires
-refuse-requires c κs = search needs
 
 returns : tie.Need-returns
 returns c =
@@ -28,12 +22,6 @@ returns c =
     let w = (worldOf (x .anchor .now) (x .pages .now) (x .backups .now) (x .logs .now) (x .work .now)) in
     rw (c .refuse .ensures)
     (refusal-given begin (x .core) w _ 0 0 (begin-refused (x .core) w (c .before .before .before .is-serving .ensures) (c .before .before .first-refusal .ensures) (c .before .if1 .taken)))
-
-place-of-requires : tie.Need-place-of-requires
-place-of-requires c κs = search needs
-
-refuse-requires-2 : tie.Need-refuse-requires-2
-refuse-requires-2 c κs = search needs
 
 returns-2 : tie.Need-returns-2
 returns-2 c =
@@ -43,9 +31,6 @@ returns-2 c =
     (refusal-given begin (x .core) w 12 0 0
     (begin-full (x .core) w (c .before .before .before .before .before .is-serving .ensures) (c .before .before .before .before .first-refusal .ensures) (omega (arith, c .before .before .before .if1 .left))
     (omega (arith, c .before .before .place-of .ensures, c .before .if2 .taken))))
-
-refuse-requires-3 : tie.Need-refuse-requires-3
-refuse-requires-3 c κs = search needs
 
 returns-3 : tie.Need-returns-3
 returns-3 c =
@@ -62,9 +47,6 @@ idlest-requires c κs =
     let w = (worldOf (x .anchor .now) (x .pages .now) (x .backups .now) (x .logs .now) (x .work .now)) in
     let passed = first-passed whenServing (x .core) w (c .before .before .before .before .before .before .is-serving .ensures) (c .before .before .before .before .before .first-refusal .ensures) (omega (arith, c .before .before .before .before .if1 .left)) in
     bounded _ (sound-sizes (x .core) (serving-not-shut (x .core .stage) (passed .stage)) (passed .state)) .disks-max
-
-refuse-requires-4 : tie.Need-refuse-requires-4
-refuse-requires-4 c κs = search needs
 
 returns-4 : tie.Need-returns-4
 returns-4 c =
@@ -93,17 +75,17 @@ pub begin-spec : {M : Type 1} → statement M
 begin-spec =
     tie.close
     (tie.spec
-    is-serving-requires
+    (λ c κs. search needs)
     first-refusal-requires
-    refuse-requires
+    (λ c κs. search needs)
     returns
-    place-of-requires
-    refuse-requires-2
+    (λ c κs. search needs)
+    (λ c κs. search needs)
     returns-2
-    refuse-requires-3
+    (λ c κs. search needs)
     returns-3
     idlest-requires
-    refuse-requires-4
+    (λ c κs. search needs)
     returns-4
     enter-requires
     returns-5)

@@ -19,14 +19,8 @@ use borrow.Author.Needs.{needs}
 use Rattle.txn.proofs.commit.commit.Statement.{statement}
 use Rattle.txn.proofs.commit.commit.Tie as tie
 
-is-serving-requires : tie.Need-is-serving-requires
-is-serving-requires c κs = search needs
-
 first-refusal-requires : tie.Need-first-refusal-requires
 first-refusal-requires c κs = λ e. serving-not-shut (c .before .before .before .before .before .before .before .before .args .core .stage) (sym (c .before .before .is-serving .ensures) ∙ e)
-
-refuse-requires : tie.Need-refuse-requires
-refuse-requires c κs = search needs
 
 returns : tie.Need-returns
 returns c =
@@ -34,12 +28,6 @@ returns c =
     let w = (worldOf (x .anchor .now) (x .pages .now) (x .backups .now) (x .logs .now) (x .work .now)) in
     rw (c .refuse .ensures)
     (refusal-given (commit (x .number) (x .budget .now)) (x .core) w _ 0 0 (commit-refused (x .core) w (x .number) (c .before .before .before .before .before .is-serving .ensures) (c .before .before .first-refusal .ensures) (c .before .if1 .taken)))
-
-is-open-requires : tie.Need-is-open-requires
-is-open-requires c κs = search needs
-
-refuse-requires-2 : tie.Need-refuse-requires-2
-refuse-requires-2 c κs = search needs
 
 returns-2 : tie.Need-returns-2
 returns-2 c =
@@ -69,15 +57,6 @@ store-close-requires c κs =
       rw home (own-room (x .core) (x .number) (serves .state) opened 2 (open-entry (x .core) (x .number) (serves .state) opened .sound .reserved) .1),
     )
 
-settle-requires : tie.Need-settle-requires
-settle-requires c κs = search needs
-
-same-length : tie.Need-same-length
-same-length c = search needs
-
-same-length-2 : tie.Need-same-length-2
-same-length-2 c = search needs
-
 returns-3 : tie.Need-returns-3
 returns-3 c =
     let x = c .before .before .before .before .before .before .before .before .before .before .before .before .before .before .before .before .before .before .before .before .before .before .before .before .args in
@@ -103,15 +82,6 @@ closed-core-requires c κs =
       omega (arith, within-there (x .core) (diskOf (x .core) (x .number)) home (x .logs .now) (x .work .now) serves below .end-small),
     )
 
-settle-requires-2 : tie.Need-settle-requires-2
-settle-requires-2 c κs = search needs
-
-same-length-3 : tie.Need-same-length-3
-same-length-3 c = search needs
-
-same-length-4 : tie.Need-same-length-4
-same-length-4 c = search needs
-
 returns-4 : tie.Need-returns-4
 returns-4 c =
     let x = c .before .before .before .before .before .before .before .before .before .before .before .before .before .before .before .before .before .before .before .before .before .before .before .before .before .args in
@@ -125,41 +95,29 @@ returns-4 c =
     (commit-settled (x .core) w _ (x .number) (serves-passed (x .core) w (first-passed whenServing (x .core) w (c .before .before .before .before .before .before .before .before .before .before .before .before .before .before .before .before .before .before .before .is-serving .ensures) (c .before .before .before .before .before .before .before .before .before .before .before .before .before .before .before .before .first-refusal .ensures) (omega (arith, c .before .before .before .before .before .before .before .before .before .before .before .before .before .before .before .if1 .left))) .state) opened sized (home .0)
     (c .before .before .before .before .before .before .before .store-close .ensures (x .core .sizes) (x .core .logs) w (lent-there (x .core) _ (home .0) w refl refl)) (rw (whole, ← c .before .closed-core .ensures) (c .settle2 .ensures)))
 
-same-length-5 : tie.Need-same-length-5
-same-length-5 c = search needs
-
-same-length-6 : tie.Need-same-length-6
-same-length-6 c = search needs
-
-same-length-7 : tie.Need-same-length-7
-same-length-7 c = search needs
-
-same-length-8 : tie.Need-same-length-8
-same-length-8 c = search needs
-
 pub commit-spec : {M : Type 1} → statement M
 commit-spec =
     tie.close
     (tie.spec
-    is-serving-requires
+    (λ c κs. search needs)
     first-refusal-requires
-    refuse-requires
-    same-length
-    same-length-2
+    (λ c κs. search needs)
+    (λ c. search needs)
+    (λ c. search needs)
     returns
-    is-open-requires
-    refuse-requires-2
-    same-length-3
-    same-length-4
+    (λ c κs. search needs)
+    (λ c κs. search needs)
+    (λ c. search needs)
+    (λ c. search needs)
     returns-2
     home-of-transaction-requires
     store-close-requires
-    settle-requires
-    same-length-5
-    same-length-6
+    (λ c κs. search needs)
+    (λ c. search needs)
+    (λ c. search needs)
     returns-3
     closed-core-requires
-    settle-requires-2
-    same-length-7
-    same-length-8
+    (λ c κs. search needs)
+    (λ c. search needs)
+    (λ c. search needs)
     returns-4)

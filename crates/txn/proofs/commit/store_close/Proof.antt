@@ -6,15 +6,6 @@ use borrow.Author.Needs.{needs}
 use Rattle.txn.proofs.commit.store_close.Statement.{statement}
 use Rattle.txn.proofs.commit.store_close.Tie as tie
 
-append-close-requires : tie.Need-append-close-requires
-append-close-requires c κs = search needs
-
-same-length : tie.Need-same-length
-same-length c = search needs
-
-same-length-2 : tie.Need-same-length-2
-same-length-2 c = search needs
-
 returns : tie.Need-returns
 returns c = λ s l w lent tails fills.
     closing-cut s l w _ _ _ (c .before .before .before .before .before .before .append-close .ensures .0 s l w lent) (not-true _ (c .if1 .taken))
@@ -23,12 +14,6 @@ flush-disk-requires : tie.Need-flush-disk-requires
 flush-disk-requires c κs =
     let start = c .before .before .before .before .before .before .before .before .before .before .before .before .before .before .before in
     appended-within (start .pre .0) (c .before .before .before .before .before .before .before .before .before .append-close .ensures .1) (not-false _ (c .before .before .before .if1 .left)) (start .pre .1) (search needs) (search needs)
-
-same-length-3 : tie.Need-same-length-3
-same-length-3 c = search needs
-
-same-length-4 : tie.Need-same-length-4
-same-length-4 c = search needs
 
 returns-2 : tie.Need-returns-2
 returns-2 c = λ s l w lent tails fills.
@@ -40,11 +25,11 @@ pub store-close-spec : {M : Type 1} → statement M
 store-close-spec =
     tie.close
     (tie.spec
-    append-close-requires
-    same-length
-    same-length-2
+    (λ c κs. search needs)
+    (λ c. search needs)
+    (λ c. search needs)
     returns
     flush-disk-requires
-    same-length-3
-    same-length-4
+    (λ c. search needs)
+    (λ c. search needs)
     returns-2)
