@@ -1,10 +1,10 @@
 // The call format.
 use crate::devices::store_devices;
 use crate::memory::make_fresh;
-use frame::settle::open_core;
 use frame::settle::refuse;
 use frame::settle::settle;
 use frame::stages::is_shut;
+use frame::states::open_core;
 use layout::bounds::in_bounds;
 use layout::bounds::lengths_right;
 use layout::bounds::narrow;

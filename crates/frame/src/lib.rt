@@ -3,3 +3,4 @@ pub mod checks;
 pub mod home;
 pub mod settle;
 pub mod stages;
+pub mod states;

@@ -55,6 +55,7 @@ pub mod Play
 pub mod Positions
 pub mod Blunders
 pub mod Idle
+pub mod Held
 pub mod Example
 pub mod AbortReads
 -- The promises for traces of the code's own calls.

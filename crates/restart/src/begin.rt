@@ -1,18 +1,14 @@
 // Restart begin: all checks of the devices, then zeroed pages and a replaying state.
-use frame::settle::no_checkpoint;
-use frame::settle::no_table;
 use frame::settle::refuse;
 use frame::settle::refuse_at;
 use frame::stages::is_shut;
+use frame::states::replaying_core;
 use layout::bounds::lengths_right;
 use layout::places::total;
 use model::Answer;
 use model::Core;
-use model::Logs;
-use model::Replay;
 use model::Reply;
 use model::Sizes;
-use model::Stage;
 use replay::image::anchor_refusal;
 use replay::image::anchor_sizes;
 use replay::image::check_logs;
@@ -28,32 +24,8 @@ ghost use lib.ListN.{length};
 ghost use Rattle.model.specs.Sizes.{total, logWords, sizesInBounds};
 ghost use Rattle.model.specs.Anchor.{anchorWords, sizesOn};
 ghost use Rattle.model.specs.World.{worldOf};
-ghost use Rattle.model.specs.State.{replayingCore};
 ghost use Rattle.model.specs.Call.{Gives, restartBegin};
 ghost use Rattle.restart.specs.Rest.{BeginsOn};
-
-// The state that begin leaves: every log at its start, the backup at its first page.
-fn replaying_core(sizes: Sizes, epoch: u64, starts: [u64; 8], tails: [u64; 8]) -> Core
-    ensures { λ r. ⌜ r ≡ replayingCore sizes epoch starts tails ⌝ }
-{
-    Core {
-        stage: Stage::Replaying,
-        sizes,
-        epoch,
-        logs: Logs {
-            starts,
-            tails,
-            fills: [0u64; 8],
-        },
-        table: no_table(),
-        next: 0,
-        checkpoint: no_checkpoint(),
-        replay: Replay {
-            positions: starts,
-            page: 0,
-        },
-    }
-}
 
 // Rows 6, 7 and 13, and what begin does when none applies.
 fn begin_on(core: Core, sizes: Sizes, anchor: &[u64], pages: &mut [u64], logs: &[u64]) -> Reply

@@ -1,10 +1,10 @@
 // Restart end: the replayed pages become checkpoint c + 1, and the state opens.
 use crate::remain::is_done;
 use frame::checks::first_refusal;
-use frame::settle::open_core;
 use frame::settle::refuse;
 use frame::settle::settle;
 use frame::stages::is_replaying;
+use frame::states::open_core;
 use layout::memory::fresh_work;
 use model::Core;
 use model::Reply;

@@ -4,7 +4,7 @@ pub mod formats;
 pub mod restarts;
 pub mod transactions;
 
-use frame::settle::new_core;
+use frame::states::new_core;
 use model::Answer;
 use model::Core;
 use model::Reply;

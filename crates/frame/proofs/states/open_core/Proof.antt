@@ -1,9 +1,9 @@
--- `frame::settle::open_core` meets its contract: every field is what it says. Assumes nothing.
+-- `frame::states::open_core` meets its contract: every field is what it says. Assumes nothing.
 use mathlib.Core.Path.{refl}
 use Rattle.model.specs.State.{openCore}
 use borrow.Author.Needs.{needs}
-use Rattle.frame.proofs.settle.open_core.Statement.{statement}
-use Rattle.frame.proofs.settle.open_core.Tie as tie
+use Rattle.frame.proofs.states.open_core.Statement.{statement}
+use Rattle.frame.proofs.states.open_core.Tie as tie
 
 returns : tie.Need-returns
 unfolding openCore

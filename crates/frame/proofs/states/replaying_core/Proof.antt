@@ -1,7 +1,7 @@
--- `restart::begin::replaying_core` meets its contract: field by field. Assumes nothing.
+-- `frame::states::replaying_core` meets its contract: field by field. Assumes nothing.
 use borrow.Author.Needs.{needs}
-use Rattle.restart.proofs.begin.replaying_core.Statement.{statement}
-use Rattle.restart.proofs.begin.replaying_core.Tie as tie
+use Rattle.frame.proofs.states.replaying_core.Statement.{statement}
+use Rattle.frame.proofs.states.replaying_core.Tie as tie
 
 returns : tie.Need-returns
 returns c = rw (c .before .no-table .ensures, c .no-checkpoint .ensures)

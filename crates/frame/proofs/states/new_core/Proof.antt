@@ -1,9 +1,9 @@
--- `frame::settle::new_core` meets its contract: every field is what it says. Assumes nothing.
+-- `frame::states::new_core` meets its contract: every field is what it says. Assumes nothing.
 use mathlib.Core.Path.{refl}
 use Rattle.model.specs.State.{newCore}
 use borrow.Author.Needs.{needs}
-use Rattle.frame.proofs.settle.new_core.Statement.{statement}
-use Rattle.frame.proofs.settle.new_core.Tie as tie
+use Rattle.frame.proofs.states.new_core.Statement.{statement}
+use Rattle.frame.proofs.states.new_core.Tie as tie
 
 returns : tie.Need-returns
 unfolding newCore
