@@ -18,7 +18,7 @@ use Rattle.model.specs.Refusal.{numberOf}
 use Rattle.model.specs.Causes.{whenServing, tailOn}
 use Rattle.model.specs.Transaction.{diskOf, readWords}
 use Rattle.model.specs.Restart.{remaining}
-use Rattle.model.specs.Call.{Call, format, update, look, read, commit, restartBegin, restartStep, restartEnd, Gives}
+use Rattle.model.specs.Call.{Call, format, update, look, read, commit, restartBegin, restartStep, restartRun, restartEnd, Gives}
 use Rattle.model.specs.Reference.{Outcome, taken, refused, interrupted, outcomeOf, Reference, blank, heardOf, hear, slotIndex, wordsIn, plainTable, writtenByOther}
 use Rattle.model.specs.Machine.{Machine, isRefused, scrambled, Run}
 use Rattle.model.specs.History.{Told, nothingTold, toldBy}

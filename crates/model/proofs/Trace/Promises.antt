@@ -8,7 +8,7 @@ use Rattle.model.specs.Anchor.{sizesOn}
 use Rattle.model.specs.World.{World}
 use Rattle.model.specs.Refusal.{Result, numberOf}
 use Rattle.model.specs.Restart.{remaining}
-use Rattle.model.specs.Call.{Call, restartBegin, restartStep, restartEnd}
+use Rattle.model.specs.Call.{Call, restartBegin, restartStep, restartRun, restartEnd}
 use Rattle.model.specs.Reference.{outcomeOf, Reference, hear}
 use Rattle.model.specs.Machine.{Machine, result, outcome, Run}
 use Rattle.model.specs.Promise.{Always, PowerLoss, RestartAccepted, RestartFinishes, LogKept, StateTrue, NeverMalformed, ClosingFits, LogOf}
