@@ -25,8 +25,8 @@ use Rattle.model.specs.Machine.{Machine, result, outcome, isRefused}
 use Rattle.model.specs.Promise.{Always}
 
 -- The stages that a call is for: "Format (shut)", "Begin (open, copying, as the next four)", "Checkpoint begin (open)", "Checkpoint
--- step (copying)", "Checkpoint end (copying)", "Restart begin (shut)", "Restart step (replaying)", "Restart end (replaying)". A new
--- state is handed out in every stage.
+-- step (copying)", "Checkpoint end (copying)", "Restart begin (shut)", "Restart step (replaying)", "Restart end (replaying)". A run
+-- of restart steps is for the stage of a step; a new state is handed out in every stage.
 abbrev pub stagesOfLook : Look → Stage → Bool
 stagesOfLook (read reader page slot) stage = whenServing stage
 
@@ -104,7 +104,7 @@ StatesMade = Always λ m r. Made (m .core)
 unfoldable pub outcomeNumbered : ℕ → Outcome
 outcomeNumbered n = cond (eqb n 0) taken (cond (eqb n 16) interrupted refused)
 
--- what the calls that check row 7 find: "restart begin; log step and abort, in what they read"
+-- what the calls that check row 7 find: "restart begin; log step and abort, in what they read"; a run, in what its first step reads
 abbrev pub faultOf : Call → Core → World → Fault
 faultOf restartBegin c w = faultFrom (sizesOn (w .anchor)) (startOn (w .anchor)) (w .logs) (sizesOn (w .anchor) .disks) 0
 faultOf (restartStep source) c w = stepFault c w source

@@ -19,7 +19,7 @@ pub data Look : Type 0 where
   read : (reader page slot : ℕ) → Look
 
 -- "Each storing call takes an allowance": here its budget, the last argument. "Only these calls, and one that hands out a new state, make
--- a state."
+-- a state." `restartRun` is not 01's (specs/Restart.antt).
 pub data Call : Type 0 where
   format : Sizes → (budget : ℕ) → Call
   begin : Call
@@ -44,7 +44,7 @@ lookTask c = record { actions = []; core = c; value = 0 }
 
 -- The rows of "Turned away" that a call checks. "Format checks 1, 2, 4 (of the sizes handed to it), 5 and 16; restart begin 1 to 7 and
 -- 13; the rest 1, 2, 5 and, where the cause can arise, 7 to 16, working with the sizes, c, starts and ends their state holds." Row 16 is
--- in `conclude`.
+-- in `conclude`. A run of restart steps checks what its first step does.
 abbrev pub rowsOf : Call → Core → World → List Row
 rowsOf (format s budget) c w = formatRows c w s
 rowsOf begin c w = beginRows c w

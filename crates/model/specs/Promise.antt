@@ -66,8 +66,7 @@ pub record Finishable (m : Machine) : Type 0 where
       → remaining (result m (restartStep source) .core) other ≡ remaining (m .core) other
   pub runs : (source most : ℕ) → 0 < remaining (m .core) source → outcome m (restartRun source most) ≡ taken
   pub all : (source most : ℕ) → remaining (m .core) source ≤ most → remaining (result m (restartRun source most) .core) source ≡ 0
-  pub beside : (source most other : ℕ) → (other ≡ source → ⊥)
-      → remaining (result m (restartRun source most) .core) other ≡ remaining (m .core) other
+  pub beside : (source most other : ℕ) → (other ≡ source → ⊥) → remaining (result m (restartRun source most) .core) other ≡ remaining (m .core) other
   pub ends : (budget : ℕ) → ((source : ℕ) → source ≤ m .core .sizes .disks → remaining (m .core) source ≡ 0)
       → total (m .core .sizes) + m .core .sizes .disks + 1 ≤ budget → outcome m (restartEnd budget) ≡ taken
 
@@ -211,22 +210,20 @@ ReplayOrder =
     (one .world .pages ≡ restarted (imageOf (m .world))) × (one .world .pages ≡ another .world .pages)
 
 -- A run of restart steps is those steps. On any machine it is taken or refused as the single step is, and a refused one gives what that
--- gives. A taken one answers how many steps it made, no more than it was asked for: it leaves the state and the words as these leave
--- them, one after the other, each of them is taken, and where it made fewer than it was asked for, the next is refused.
+-- gives. A taken one answers how many steps it made, at most `most`: it leaves the state and the words as these leave them, one after
+-- the other, each of them is taken, and where it made fewer than `most`, the next is refused.
 pub record RunMakes (m : Machine) (source most made : ℕ) (now : Machine) : Type 0 where
   pub few : made ≤ most
   pub leaves : now ≡ afterSteps (replicate made source) m
   pub each : (i : ℕ) → i < made → outcome (afterSteps (replicate i source) m) (restartStep source) ≡ taken
   pub stops : made < most → outcome (afterSteps (replicate made source) m) (restartStep source) ≡ refused
 
-pub record RunSteps (m : Machine) (source most : ℕ) : Type 0 where
-  pub same : outcome m (restartRun source most) ≡ outcome m (restartStep source)
-  pub turned : outcome m (restartStep source) ≡ refused → result m (restartRun source most) ≡ result m (restartStep source)
-  pub makes : outcome m (restartRun source most) ≡ taken
-      → RunMakes m source most (firstOf (result m (restartRun source most) .answer)) (after m (call (restartRun source most)))
-
 unfoldable pub RunIsSteps : Type 0
-RunIsSteps = (m : Machine) (source most : ℕ) → RunSteps m source most
+RunIsSteps =
+    (m : Machine) (source most : ℕ) → let run : Call = restartRun source most in
+    (outcome m run ≡ outcome m (restartStep source))
+    × (outcome m (restartStep source) ≡ refused → result m run ≡ result m (restartStep source))
+    × (outcome m run ≡ taken → RunMakes m source most (firstOf (result m run .answer)) (after m (call run)))
 
 -- the action stores the disk's tail word with a value above p: with it the log reaches over position p
 abbrev pub coversCommit : Sizes → ℕ → ℕ → Action → Bool

@@ -1,7 +1,6 @@
 -- A run of restart steps is those steps, so what each of them keeps it keeps.
 use mathlib.Core.Path.{_≡_, refl, sym, ap, subst, _∙_}
-use mathlib.Core.Bool.{true}
-use Prim.Native.Nat.{ℕ, zero, suc, _+_, _≤_, _<_}
+use Prim.Native.Nat.{ℕ, zero, suc, _<_}
 use native.Mathlib.Omega.{arith}
 use native.Mathlib.Nat.{not-suc-le-zero}
 use lib.ListN.{replicate}
@@ -10,13 +9,13 @@ use Rattle.model.specs.World.{World, perform}
 use Rattle.model.specs.Refusal.{Verdict, accepted, rejected, verdict, Task, Result, firstOf}
 use Rattle.model.specs.Restart.{restartStepRows, restartStepTask, stepThen, restartRunTask}
 use Rattle.model.specs.Reference.{taken, refused, outcomeOf}
-use Rattle.model.specs.Call.{Call, restartStep, restartRun, rowsOf, resultOf}
+use Rattle.model.specs.Call.{Call, restartStep, restartRun, resultOf}
 use Rattle.model.specs.Machine.{Machine, call, result, outcome, after, afterSteps}
 use Rattle.model.specs.Promise.{RunMakes, RunIsSteps}
 use Rattle.model.proofs.Run.{perform-append}
-use Rattle.model.proofs.Storeless.{storesNothing}
+use Rattle.model.proofs.Storeless.{storeless-finishes}
 use Rattle.model.proofs.Verdict.{refused-leaves}
-use Rattle.model.proofs.Restart.Taken.{taken-call, storeless-gives}
+use Rattle.model.proofs.Restart.Taken.{accepted-taken, taken-call, storeless-gives}
 
 -- What holds at first, and with each accepted step of the source for one step more, holds after a run for the steps that it made.
 pub run-keeps : (most : ℕ) (P : ℕ → Core → World → Type 0) (source : ℕ)
@@ -58,7 +57,7 @@ module _ (m : Machine) (source : ℕ) where
   module _ (v : verdict (restartStepRows (m .core) (m .world) source) ≡ accepted) where
     step-taken : outcome m (restartStep source) ≡ taken
     unfolding outcome result
-    step-taken = ap (λ (r : Result). outcomeOf (r .answer)) (storeless-gives (restartStep source) (m .core) (m .world) refl v)
+    step-taken = accepted-taken (restartStep source) m v (storeless-finishes (restartStep source) (m .core) (m .world) refl)
 
     steps-after : (k : ℕ) → afterSteps (replicate (suc k) source) m ≡ afterSteps (replicate k source) (did m step)
     unfolding afterSteps result
@@ -109,33 +108,28 @@ task-makes (suc n) m source =
 -- A run is its steps: see specs/Promise.antt.
 pub run-is-steps : RunIsSteps
 unfolding RunIsSteps result outcome
-run-is-steps m source most =
-    record {
-      same = alike .0;
-      turned = alike .1;
-      makes = λ e. makes (taken-call run (m .core) (m .world) e .accepted);
-    }
+run-is-steps m source most = (alike .0, alike .1, λ e. makes (taken-call run (m .core) (m .world) e .accepted))
   where
     run : Call
     run = restartRun source most
 
-    gives : (k : Call) → storesNothing k ≡ true → verdict (rowsOf k (m .core) (m .world)) ≡ accepted → outcome m k ≡ taken
-    gives k h v = ap (λ (r : Result). outcomeOf (r .answer)) (storeless-gives k (m .core) (m .world) h v)
-
-    alike : (outcome m run ≡ outcome m (restartStep source))
+    Alike : Type 0
+    Alike =
+        (outcome m run ≡ outcome m (restartStep source))
         × (outcome m (restartStep source) ≡ refused → result m run ≡ result m (restartStep source))
+
+    alike : Alike
     alike = go (verdict (restartStepRows (m .core) (m .world) source)) refl
       where
-        go : (v : Verdict) → verdict (restartStepRows (m .core) (m .world) source) ≡ v
-            → (outcome m run ≡ outcome m (restartStep source))
-            × (outcome m (restartStep source) ≡ refused → result m run ≡ result m (restartStep source))
+        go : (v : Verdict) → verdict (restartStepRows (m .core) (m .world) source) ≡ v → Alike
         go accepted v =
-            let one = gives (restartStep source) refl v in
-            (gives run refl v ∙ sym one, λ e. let z : _≡_ {A = ℕ} 0 1 = cc in absurd (omega arith))
+            let one = step-taken m source v in
+            let all = accepted-taken run m v (storeless-finishes run (m .core) (m .world) refl) in
+            (all ∙ sym one, λ e. let z : _≡_ {A = ℕ} 0 1 = cc in absurd (omega arith))
         go (rejected number first second) v =
-            let same = refused-leaves run (m .core) (m .world) number first second v
-            ∙ sym (refused-leaves (restartStep source) (m .core) (m .world) number first second v) in
-            (ap (λ (r : Result). outcomeOf (r .answer)) same, λ e. same)
+            let one = refused-leaves (restartStep source) (m .core) (m .world) number first second v in
+            let all = refused-leaves run (m .core) (m .world) number first second v in
+            (ap (λ (r : Result). outcomeOf (r .answer)) (all ∙ sym one), λ e. all ∙ sym one)
 
     makes : verdict (restartStepRows (m .core) (m .world) source) ≡ accepted
         → RunMakes m source most (firstOf (result m run .answer)) (after m (call run))

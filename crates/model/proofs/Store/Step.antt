@@ -1,13 +1,11 @@
 -- Every call keeps what holds, whether it is refused, taken or cut.
-use mathlib.Core.Path.{_≡_, refl, sym, ap, _∙_}
+use mathlib.Core.Path.{_≡_, refl, sym, _∙_}
 use mathlib.Core.List.{List, [], _∷_, append-nil}
 use mathlib.Core.Bool.{Bool, true, false}
-use Prim.Native.Nat.{ℕ, _<_}
+use Prim.Native.Nat.{ℕ}
 use Rattle.model.specs.declared.Stage.{Stage}
-use Rattle.model.specs.declared.Stage.the-variants.{Shut, Replaying, Open, Copying}
 use Rattle.model.specs.declared.Sizes.{Sizes}
 use Rattle.model.specs.declared.Core.{Core}
-use Rattle.model.specs.Anchor.{sizesOn}
 use Rattle.model.specs.World.{perform, finishes}
 use Rattle.model.specs.State.{newCore}
 use Rattle.model.specs.Refusal.{Row, row, verdict, accepted}
@@ -22,15 +20,13 @@ use Rattle.model.specs.Machine.{Machine, call, result, outcome, isRefuse
 use Rattle.model.specs.History.{Told, also}
 use Rattle.model.proofs.Storeless.{storesNothing, storeless-finishes}
 use Rattle.model.proofs.Run.{perform-lengths}
-use Rattle.model.proofs.Restart.Taken.{taken-call}
-use Rattle.model.proofs.Restart.Progress.{Progress, begin-progress}
+use Rattle.model.proofs.Restart.Taken.{accepted-taken, taken-call}
+use Rattle.model.proofs.Restart.Progress.{begin-progress}
 use Rattle.model.proofs.Restart.Steps.{step-source, step-progress}
 use Rattle.model.proofs.Restart.Records.{begun-positions, begun-replayed, step-replayed}
 use Rattle.model.proofs.Restart.Run.{run-keeps}
 use Rattle.model.proofs.Restart.End.{end-gives}
-use Rattle.model.proofs.Store.View.{Kept, Served}
 use Rattle.model.proofs.Store.Rows.{stage-row, open-serving, copying-serving}
-use Rattle.model.proofs.Store.Crash.{kept}
 use Rattle.model.proofs.Store.Steady.{kept-devices, kept-lost}
 use Rattle.model.proofs.Store.Begin.{begin-serves}
 use Rattle.model.proofs.Store.Copy.{checkpoint-begin-serves, checkpoint-step-serves, checkpoint-step-cut}
@@ -50,12 +46,6 @@ row-one allowed c rows v = stage-row allowed c (row-passed _ rows v .0) .0
 -- a call that stores nothing is never cut
 never-cut : {X : Type 0} (k : Call) (m : Machine) → storesNothing k ≡ true → finishes (budgetOf k) (taskOf k (m .core) (m .world) .actions) ≡ false → X
 never-cut k m e f = true-false (storeless-finishes k (m .core) (m .world) e) f
-
--- an accepted call whose budget lasts is taken
-pub accepted-taken : (k : Call) (m : Machine) → verdict (rowsOf k (m .core) (m .world)) ≡ accepted
-    → finishes (budgetOf k) (taskOf k (m .core) (m .world) .actions) ≡ true → outcomeOf (resultOf k (m .core) (m .world) .answer) ≡ taken
-unfolding resultOf
-accepted-taken k m v f = rw (v, f)
 
 -- an accepted call is not refused
 accepted-goes : (k : Call) (m : Machine) → verdict (rowsOf k (m .core) (m .world)) ≡ accepted
