@@ -25,7 +25,7 @@ use Rattle.model.specs.Transaction.{beginRows, updateRows, readRows, com
 use Rattle.model.specs.Abort.{abortFault, abortRows}
 use Rattle.model.specs.Checkpoint.{checkpointBeginRows, checkpointStepRows, checkpointEndRows}
 use Rattle.model.specs.Restart.{restartBeginRows, restartStepRows, restartEndRows}
-use Rattle.model.specs.Call.{Call, format, begin, update, look, read, commit, abort, checkpointBegin, checkpointStep, checkpointEnd, restartBegin, restartStep, restartEnd, newState, rowsOf, resultOf}
+use Rattle.model.specs.Call.{Call, format, begin, update, look, read, commit, abort, checkpointBegin, checkpointStep, checkpointEnd, restartBegin, restartStep, restartRun, restartEnd, newState, rowsOf, resultOf}
 use Rattle.model.specs.Reference.{Reference, taken, outcomeOf}
 use Rattle.model.specs.Machine.{Machine, Event, result, outcome, isRefused, follow, allowedAll, formatted}
 use Rattle.model.specs.History.{Told, nothingTold}
@@ -38,8 +38,7 @@ use Rattle.model.proofs.Store.Cases.{call-cases}
 use Rattle.model.proofs.Checked.{Restartable}
 use Rattle.model.proofs.Store.Checks.{step-never-bad, begin-verdict, shut-stage}
 use Rattle.model.proofs.Store.AbortRows.{abort-never-bad}
-use Rattle.model.proofs.Store.Holding.{Holding, shut, replaying, serving}
-use Rattle.model.proofs.Store.Step.{holding-kept, served, replayed}
+use Rattle.model.proofs.Store.Holding.{Holding, shut, replaying, serving, holding-kept, served, replayed}
 use Rattle.model.proofs.Sound.Lists.{sound-after}
 use Rattle.model.proofs.Sound.Made.{stage-answers}
 use Rattle.model.proofs.PowerLoss.{format-holds, follow-holds}
@@ -108,6 +107,17 @@ module _ (c : Core) (w : World) (right : Right c w) where
   unfolding verdict
   thirteen stage = begin-verdict c w stage (right .restarts)
 
+  -- a restart step, and a run of them
+  late-step : (k : Call) (source : ℕ) → rowsOf k c w ≡ restartStepRows c w source → whenReplaying (c .stage) ≡ true → Late k c w
+  unfolding ascendingFrom restartStepRows
+  late-step k source rows stage =
+      record {
+        rest = _;
+        late = refl;
+        same = ap verdict rows ∙ first-three c w right whenReplaying refl stage _
+            ∙ fourth _ (row 8 _ ∷ row 15 _ ∷ []) (step-never-bad c w (right .replays stage) source);
+      }
+
   late-rows : (k : Call) → isFormat k ≡ false → stagesOf k (c .stage) ≡ true → Late k c w
   unfolding ascendingFrom beginRows updateRows readRows commitRows abortRows checkpointBeginRows checkpointStepRows checkpointEndRows restartStepRows restartEndRows
   late-rows (format s budget) other stage = true-false refl other
@@ -131,13 +141,8 @@ module _ (c : Core) (w : World) (right : Right c w) where
         late = refl;
         same = thirteen (shut-stage (c .stage) stage);
       }
-  late-rows (restartStep source) other stage =
-      record {
-        rest = _;
-        late = refl;
-        same = first-three c w right whenReplaying refl stage _
-            ∙ fourth _ (row 8 _ ∷ row 15 _ ∷ []) (step-never-bad c w (right .replays stage) source);
-      }
+  late-rows (restartStep source) other stage = late-step (restartStep source) source refl stage
+  late-rows (restartRun source most) other stage = late-step (restartRun source most) source refl stage
   late-rows (restartEnd budget) other stage = record { rest = _; late = refl; same = first-three c w right whenReplaying refl stage _ }
   late-rows newState other stage = record { rest = []; late = refl; same = refl }
 

@@ -34,7 +34,7 @@ use Rattle.model.proofs.Flush.{store-some}
 use Rattle.model.proofs.Growth.{fill-flushed, ends-flushed, fill-set}
 use Rattle.model.proofs.Store.Rows.{serving-sound}
 use Rattle.model.proofs.Store.Holding.{Holding}
-use Rattle.model.proofs.Store.Step.{served}
+use Rattle.model.proofs.Store.Holding.{served}
 use Rattle.model.proofs.PowerLoss.{always}
 use Rattle.model.proofs.Store.Accepted.{small-buffers, commit-accepted}
 

@@ -19,7 +19,7 @@ use Rattle.model.specs.Format.{formatRows, formatStores, freshMemory, fo
 use Rattle.model.specs.Transaction.{diskOf, beginRows, begun, beginTask, slotWords, updateRecord, updated, updateRows, updateTask, readRows, readWords, commitRows, commitTask}
 use Rattle.model.specs.Abort.{abortScan, updatesLeft, abortFault, abortRows, xorIn, compensate, undoAll, abortTask}
 use Rattle.model.specs.Checkpoint.{eightBelow, perDisk, checkpointBeginRows, checkpointBeginTask, toCopy, lowestToCopy, checkpointStepRows, copyPage, checkpointStepTask, leastFirst, newStart, checkpointEndRows, checkpointEndTask}
-use Rattle.model.specs.Restart.{imageRows, restartBeginRows, restartBeginTask, positionOf, remaining, readDisk, fateFrom, nextRecord, stepFault, restartStepRows, backupStep, movedTo, restartStepTask, restartEndRows, restartEndTask}
+use Rattle.model.specs.Restart.{imageRows, restartBeginRows, restartBeginTask, positionOf, remaining, readDisk, fateFrom, nextRecord, stepFault, restartStepRows, backupStep, movedTo, restartStepTask, restartRunTask, restartEndRows, restartEndTask}
 use Rattle.model.specs.Call.{lookTask, resultOf}
 use Rattle.model.specs.Image.{wordsFrom, imageFrom, imageOf, xorAt, replayed, logOf, replayedBelow, restarted}
 use Rattle.model.specs.Reference.{blank, slotIndex, hasSet, writesOf, added, removed, applied, hear, wordsIn, laidOver, plainTable, writesSlot, writtenByOther}
@@ -27,5 +27,5 @@ use Rattle.model.specs.Machine.{result, outcome, follow, allowedAll, for
 use Rattle.model.specs.History.{nothingTold, recordsOn, updatePut, updatesPut, compensation, history}
 
 unfoldable pub everything : ℕ
-unfolding zipWith within sumBelow allBelow joinBelow listBelow firstBelow _⊕_ xors part slotsIn widthIn pageWords pageBase slotBase total ringOf diskAt tailWord ringWord logWords usedEntry unusedEntry entryInBounds sizesInBounds epochOn sizesOn startWord startOn backupAt header encode encodeAll wordsOf inBackup readLog span misplaced decodeWords decodeAt scanAtMost scan andThen ringThenBuffer placed fateIn faultIn updatesIn updateWords oldest cost act perform stores covered run made finishes each ownerAt bufferAt copyAt workWords ownerOf bufferOf copyOf lengthsRight newCore openCore withLog startOf tailOf fillOf endOf withFill flushed numberAt diskAtPlace firstAt reservedAt placeOf inTable isOpen withPlace without hasUpdate servedBy reservedOn diskSound placeSound servingSound checkpointSound replaySound sound hasRoom loadOf idlestBelow idlest verdict stageForbids anchorWrong unformatted sizesWrong lengthsWrong tailIn tailWrong wrongTail retainedFrom faultFrom slotMissing sourceMissing notOpen readerNotOpen valueWrong locked tableFull spent flush buffered append formatRows formatStores freshMemory formatTask diskOf beginRows begun beginTask slotWords updateRecord updated updateRows updateTask readRows readWords commitRows commitTask abortScan updatesLeft abortFault abortRows xorIn compensate undoAll abortTask eightBelow perDisk checkpointBeginRows checkpointBeginTask toCopy lowestToCopy checkpointStepRows copyPage checkpointStepTask leastFirst newStart checkpointEndRows checkpointEndTask imageRows restartBeginRows restartBeginTask positionOf remaining withReplay readDisk fateFrom nextRecord stepFault restartStepRows backupStep movedTo restartStepTask restartEndRows restartEndTask resultOf wordsFrom imageFrom imageOf xorAt replayed logOf replayedBelow restarted blank slotIndex hasSet writesOf added removed applied hear wordsIn laidOver plainTable writesSlot writtenByOther result outcome follow allowedAll formatted afterSteps compensation history recordsOn keptOf lookTask nothingTold updatePut updatesPut
+unfolding zipWith within sumBelow allBelow joinBelow listBelow firstBelow _⊕_ xors part slotsIn widthIn pageWords pageBase slotBase total ringOf diskAt tailWord ringWord logWords usedEntry unusedEntry entryInBounds sizesInBounds epochOn sizesOn startWord startOn backupAt header encode encodeAll wordsOf inBackup readLog span misplaced decodeWords decodeAt scanAtMost scan andThen ringThenBuffer placed fateIn faultIn updatesIn updateWords oldest cost act perform stores covered run made finishes each ownerAt bufferAt copyAt workWords ownerOf bufferOf copyOf lengthsRight newCore openCore withLog startOf tailOf fillOf endOf withFill flushed numberAt diskAtPlace firstAt reservedAt placeOf inTable isOpen withPlace without hasUpdate servedBy reservedOn diskSound placeSound servingSound checkpointSound replaySound sound hasRoom loadOf idlestBelow idlest verdict stageForbids anchorWrong unformatted sizesWrong lengthsWrong tailIn tailWrong wrongTail retainedFrom faultFrom slotMissing sourceMissing notOpen readerNotOpen valueWrong locked tableFull spent flush buffered append formatRows formatStores freshMemory formatTask diskOf beginRows begun beginTask slotWords updateRecord updated updateRows updateTask readRows readWords commitRows commitTask abortScan updatesLeft abortFault abortRows xorIn compensate undoAll abortTask eightBelow perDisk checkpointBeginRows checkpointBeginTask toCopy lowestToCopy checkpointStepRows copyPage checkpointStepTask leastFirst newStart checkpointEndRows checkpointEndTask imageRows restartBeginRows restartBeginTask positionOf remaining withReplay readDisk fateFrom nextRecord stepFault restartStepRows backupStep movedTo restartStepTask restartRunTask restartEndRows restartEndTask resultOf wordsFrom imageFrom imageOf xorAt replayed logOf replayedBelow restarted blank slotIndex hasSet writesOf added removed applied hear wordsIn laidOver plainTable writesSlot writtenByOther result outcome follow allowedAll formatted afterSteps compensation history recordsOn keptOf lookTask nothingTold updatePut updatesPut
 everything = 0

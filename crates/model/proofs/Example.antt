@@ -5,7 +5,7 @@ use mathlib.Core.List.{List, [], _∷_, _++_, map}
 use mathlib.Core.Bool.{true}
 use lib.ListN.{replicate}
 use Rattle.model.specs.declared.Sizes.{Sizes}
-use Rattle.model.specs.Call.{format, begin, update, commit, abort, checkpointBegin, checkpointStep, checkpointEnd, restartBegin, restartStep, restartEnd, newState}
+use Rattle.model.specs.Call.{format, begin, update, commit, abort, checkpointBegin, checkpointStep, checkpointEnd, restartBegin, restartStep, restartRun, restartEnd, newState}
 use Rattle.model.specs.Reference.{taken}
 use Rattle.model.specs.Machine.{Machine, Event, call, scramble, outcome, result, follow, allowedAll, formatted}
 use Rattle.model.specs.Record.{change, close, updateKind, compensationKind, commitKind, abortKind}
@@ -14,9 +14,10 @@ use Rattle.model.proofs.Everything.{everything}
 use Rattle.model.proofs.Play.{unformatted}
 use Rattle.model.proofs.Positions.{plenty, small}
 
--- lost power leaves anything in the memories; the backup is replayed before the log, and a step too many is refused
+-- lost power leaves anything in the memories; the backup is replayed before the log, by a run that may make a step more than there is,
+-- and a step too many is refused
 pub restart : ℕ → List Event
-restart steps = scramble (9 ∷ 9 ∷ []) (replicate 130 9) ∷ map call (restartBegin ∷ restartStep 1 ∷ replicate steps (restartStep 0))
+restart steps = scramble (9 ∷ 9 ∷ []) (replicate 130 9) ∷ map call (restartBegin ∷ restartRun 1 2 ∷ replicate steps (restartStep 0))
 
 -- a transaction of n updates of slot 0
 writing : ℕ → ℕ → List Event

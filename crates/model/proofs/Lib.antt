@@ -47,6 +47,7 @@ pub mod Store
 pub mod Sound
 pub mod PowerLoss
 pub mod CommitPoint
+pub mod Remaining
 pub mod Finish
 pub mod Answers
 -- Computed tables.

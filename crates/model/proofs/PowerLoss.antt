@@ -23,8 +23,8 @@ use Rattle.model.proofs.Booleans.{true-false}
 use Rattle.model.proofs.Restart.Taken.{taken-call}
 use Rattle.model.proofs.Restart.End.{end-gives}
 use Rattle.model.proofs.Store.Format.{format-serves}
-use Rattle.model.proofs.Store.Holding.{Holding, shut, replaying, serving}
-use Rattle.model.proofs.Store.Step.{step-call, holding-kept, served, stopped, replayed, row-one}
+use Rattle.model.proofs.Store.Holding.{Holding, shut, replaying, serving, holding-kept, served, stopped, replayed}
+use Rattle.model.proofs.Store.Step.{step-call, row-one}
 use Rattle.model.proofs.Store.Steady.{kept-devices}
 use Rattle.model.proofs.Store.Checks.{shut-stage, restart-begin-answers, never-seven}
 use Rattle.model.proofs.Store.PlainTable.{plain}

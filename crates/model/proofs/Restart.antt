@@ -12,5 +12,6 @@ pub mod Progress
 pub mod LogStep
 pub mod BackupStep
 pub mod Steps
+pub mod Run
 pub mod Records
 pub mod End

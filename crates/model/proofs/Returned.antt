@@ -20,7 +20,7 @@ use Rattle.model.specs.Transaction.{beginRows, updateRows, readRows, com
 use Rattle.model.specs.Abort.{abortRows}
 use Rattle.model.specs.Checkpoint.{checkpointBeginRows, checkpointStepRows, checkpointEndRows}
 use Rattle.model.specs.Restart.{imageRows, restartBeginRows, restartStepRows, restartEndRows}
-use Rattle.model.specs.Call.{Call, format, begin, update, look, read, commit, abort, checkpointBegin, checkpointStep, checkpointEnd, restartBegin, restartStep, restartEnd, newState, rowsOf, taskOf, budgetOf}
+use Rattle.model.specs.Call.{Call, format, begin, update, look, read, commit, abort, checkpointBegin, checkpointStep, checkpointEnd, restartBegin, restartStep, restartRun, restartEnd, newState, rowsOf, taskOf, budgetOf}
 use Rattle.model.specs.Reference.{taken, refused, interrupted}
 use Rattle.model.specs.Answers.{outcomeNumbered, faultOf, Returns, Returned, RowNumbers}
 use Rattle.model.proofs.Booleans.{true-false, both, all-four, in-range}
@@ -120,6 +120,9 @@ rows-return restartBegin c w =
     refl
 rows-return (restartStep source) c w =
     let k : Call = restartStep source in
+    with-fault k c w (row 1 _ ∷ row 2 _ ∷ row 5 _ ∷ []) (row 8 _ ∷ row 15 _ ∷ []) (faultOf k c w) refl (plain-rows k c w _ refl) refl
+rows-return (restartRun source most) c w =
+    let k : Call = restartRun source most in
     with-fault k c w (row 1 _ ∷ row 2 _ ∷ row 5 _ ∷ []) (row 8 _ ∷ row 15 _ ∷ []) (faultOf k c w) refl (plain-rows k c w _ refl) refl
 rows-return (restartEnd budget) c w = plain-rows (restartEnd budget) c w _ refl
 rows-return newState c w = every-nil (RowReturns newState c w)

@@ -1,8 +1,8 @@
 -- The calls that store nothing, and so need no budget and are never interrupted.
-use mathlib.Core.Path.{_≡_, refl}
+use mathlib.Core.Path.{_≡_, refl, _∙_}
 use mathlib.Core.List.{List, []}
 use mathlib.Core.Bool.{Bool, true, false, false≢true, cond}
-use Prim.Native.Nat.{ℕ, _+_}
+use Prim.Native.Nat.{ℕ, zero, suc, _+_}
 use native.Mathlib.Omega.{arith}
 use lib.Dec.{ltb, leb·zero}
 use Rattle.model.specs.declared.Core.{Core}
@@ -11,14 +11,14 @@ use Rattle.model.specs.declared.Decoded.the-variants.{Change, Close, Mal
 use Rattle.model.specs.declared.Answer.the-variants.{Interrupted}
 use Rattle.model.specs.Sizes.{pageBase, slotBase}
 use Rattle.model.specs.Decode.{span}
-use Rattle.model.specs.World.{World, Action, pages, stores, finishes}
+use Rattle.model.specs.World.{World, Action, pages, perform, stores, finishes}
 use Rattle.model.specs.Refusal.{Task, Verdict, accepted, rejected, verdict, conclude}
 use Rattle.model.specs.Transaction.{beginTask}
 use Rattle.model.specs.Abort.{xorIn}
 use Rattle.model.specs.Checkpoint.{checkpointBeginTask}
-use Rattle.model.specs.Restart.{replays, positionOf, readDisk, fateFrom, backupStep, recordStep, nextRecord, restartBeginTask, restartStepTask}
-use Rattle.model.specs.Call.{Call, format, begin, update, look, commit, abort, checkpointBegin, checkpointStep, checkpointEnd, restartBegin, restartStep, restartEnd, newState, rowsOf, taskOf, budgetOf, resultOf, lookTask}
-use Rattle.model.proofs.Run.{stores-written}
+use Rattle.model.specs.Restart.{replays, positionOf, readDisk, fateFrom, backupStep, recordStep, nextRecord, restartBeginTask, restartStepRows, restartStepTask, stepThen, restartRunTask}
+use Rattle.model.specs.Call.{Call, format, begin, update, look, commit, abort, checkpointBegin, checkpointStep, checkpointEnd, restartBegin, restartStep, restartRun, restartEnd, newState, rowsOf, taskOf, budgetOf, resultOf, lookTask}
+use Rattle.model.proofs.Run.{stores-append, stores-written}
 
 abbrev pub storesNothing : Call → Bool
 storesNothing (format s budget) = false
@@ -32,6 +32,7 @@ storesNothing (checkpointStep budget) = false
 storesNothing (checkpointEnd budget) = false
 storesNothing restartBegin = true
 storesNothing (restartStep source) = true
+storesNothing (restartRun source most) = true
 storesNothing (restartEnd budget) = false
 storesNothing newState = true
 
@@ -62,6 +63,19 @@ step-stores c w source = go (ltb source (c .sizes .disks))
     go true = record-stores c w source (nextRecord c w source)
     go false = xor-stores (pageBase (c .sizes) (c .replay .page)) _ (w .pages)
 
+run-stores : (most : ℕ) (c : Core) (w : World) (source : ℕ) → stores (restartRunTask most c w source .actions) ≡ 0
+unfolding restartRunTask stores
+run-stores zero c w source = refl
+run-stores (suc n) c w source = go (verdict (restartStepRows c w source)) (run-stores n _ _ source)
+  where
+    step : Task
+    step = restartStepTask c w source
+
+    go : (v : Verdict) → stores (restartRunTask n (step .core) (perform (step .actions) w) source .actions) ≡ 0
+        → stores (stepThen v step (λ c' w'. restartRunTask n c' w' source) c w .actions) ≡ 0
+    go (rejected number first second) more = refl
+    go accepted more = stores-append (step .actions) _ ∙ omega (arith, step-stores c w source, more)
+
 pub nothing-stored : (k : Call) (c : Core) (w : World) → storesNothing k ≡ true → stores (taskOf k c w .actions) ≡ 0
 unfolding stores beginTask lookTask checkpointBeginTask restartBeginTask
 nothing-stored (format s budget) c w h = absurd (false≢true h)
@@ -75,6 +89,7 @@ nothing-stored (checkpointStep budget) c w h = absurd (false≢true h)
 nothing-stored (checkpointEnd budget) c w h = absurd (false≢true h)
 nothing-stored restartBegin c w h = stores-written pages 0 _
 nothing-stored (restartStep source) c w h = step-stores c w source
+nothing-stored (restartRun source most) c w h = run-stores most c w source
 nothing-stored (restartEnd budget) c w h = absurd (false≢true h)
 nothing-stored newState c w h = refl
 

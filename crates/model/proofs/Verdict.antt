@@ -19,7 +19,7 @@ use Rattle.model.specs.Abort.{abortFault, abortRows}
 use Rattle.model.specs.Anchor.{sizesOn, startOn}
 use Rattle.model.specs.Checkpoint.{checkpointBeginRows, checkpointStepRows, checkpointEndRows}
 use Rattle.model.specs.Restart.{imageRows, restartBeginRows, stepFault, restartStepRows, restartEndRows}
-use Rattle.model.specs.Call.{Call, format, begin, update, look, read, commit, abort, checkpointBegin, checkpointStep, checkpointEnd, restartBegin, restartStep, restartEnd, newState, rowsOf, taskOf, budgetOf, resultOf}
+use Rattle.model.specs.Call.{Call, format, begin, update, look, read, commit, abort, checkpointBegin, checkpointStep, checkpointEnd, restartBegin, restartStep, restartRun, restartEnd, newState, rowsOf, taskOf, budgetOf, resultOf}
 use Rattle.model.proofs.Members.{Every, every-nil, every-cons}
 use Rattle.model.proofs.Run.{made-le}
 
@@ -133,6 +133,7 @@ rows-ascend (checkpointStep budget) c w = refl
 rows-ascend (checkpointEnd budget) c w = refl
 rows-ascend restartBegin c w = rw (fault-number (faultFrom (sizesOn (w .anchor)) (startOn (w .anchor)) (w .logs) (sizesOn (w .anchor) .disks) 0))
 rows-ascend (restartStep source) c w = rw (fault-number (stepFault c w source))
+rows-ascend (restartRun source most) c w = rw (fault-number (stepFault c w source))
 rows-ascend (restartEnd budget) c w = refl
 rows-ascend newState c w = refl
 

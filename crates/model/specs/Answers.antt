@@ -19,14 +19,14 @@ use Rattle.model.specs.Refusal.{Row, numberOf, storesOf, firstOf, second
 use Rattle.model.specs.Causes.{whenShut, whenReplaying, whenOpen, whenCopying, whenServing, stageForbids, wrongTail, faultFrom}
 use Rattle.model.specs.Abort.{abortFault}
 use Rattle.model.specs.Restart.{stepFault}
-use Rattle.model.specs.Call.{Call, format, begin, update, Look, look, read, commit, abort, checkpointBegin, checkpointStep, checkpointEnd, restartBegin, restartStep, restartEnd, newState, rowsOf, taskOf, budgetOf, resultOf}
+use Rattle.model.specs.Call.{Call, format, begin, update, Look, look, read, commit, abort, checkpointBegin, checkpointStep, checkpointEnd, restartBegin, restartStep, restartRun, restartEnd, newState, rowsOf, taskOf, budgetOf, resultOf}
 use Rattle.model.specs.Reference.{Outcome, taken, refused, interrupted, outcomeOf}
 use Rattle.model.specs.Machine.{Machine, result, outcome, isRefused}
 use Rattle.model.specs.Promise.{Always}
 
 -- The stages that a call is for: "Format (shut)", "Begin (open, copying, as the next four)", "Checkpoint begin (open)", "Checkpoint
--- step (copying)", "Checkpoint end (copying)", "Restart begin (shut)", "Restart step (replaying)", "Restart end (replaying)". A new
--- state is handed out in every stage.
+-- step (copying)", "Checkpoint end (copying)", "Restart begin (shut)", "Restart step (replaying)", "Restart end (replaying)". A run
+-- of restart steps is for the stage of a step; a new state is handed out in every stage.
 abbrev pub stagesOfLook : Look → Stage → Bool
 stagesOfLook (read reader page slot) stage = whenServing stage
 
@@ -42,6 +42,7 @@ stagesOf (checkpointStep budget) stage = whenCopying stage
 stagesOf (checkpointEnd budget) stage = whenCopying stage
 stagesOf restartBegin stage = whenShut stage
 stagesOf (restartStep source) stage = whenReplaying stage
+stagesOf (restartRun source most) stage = whenReplaying stage
 stagesOf (restartEnd budget) stage = whenReplaying stage
 stagesOf newState stage = true
 
@@ -57,6 +58,7 @@ isFormat (checkpointStep budget) = false
 isFormat (checkpointEnd budget) = false
 isFormat restartBegin = false
 isFormat (restartStep source) = false
+isFormat (restartRun source most) = false
 isFormat (restartEnd budget) = false
 isFormat newState = false
 
@@ -102,10 +104,11 @@ StatesMade = Always λ m r. Made (m .core)
 unfoldable pub outcomeNumbered : ℕ → Outcome
 outcomeNumbered n = cond (eqb n 0) taken (cond (eqb n 16) interrupted refused)
 
--- what the calls that check row 7 find: "restart begin; log step and abort, in what they read"
+-- what the calls that check row 7 find: "restart begin; log step and abort, in what they read"; a run, in what its first step reads
 abbrev pub faultOf : Call → Core → World → Fault
 faultOf restartBegin c w = faultFrom (sizesOn (w .anchor)) (startOn (w .anchor)) (w .logs) (sizesOn (w .anchor) .disks) 0
 faultOf (restartStep source) c w = stepFault c w source
+faultOf (restartRun source most) c w = stepFault c w source
 faultOf (abort number budget) c w = abortFault c w number
 faultOf (format s budget) c w = NoFault
 faultOf begin c w = NoFault

@@ -12,14 +12,14 @@ use Rattle.model.specs.Transaction.{beginRows, beginTask, updateRows, up
 use Rattle.model.specs.Abort.{abortRows, abortTask}
 use Rattle.model.specs.Format.{formatRows, formatTask}
 use Rattle.model.specs.Checkpoint.{checkpointBeginRows, checkpointBeginTask, checkpointStepRows, checkpointStepTask, checkpointEndRows, checkpointEndTask}
-use Rattle.model.specs.Restart.{restartBeginRows, restartBeginTask, restartStepRows, restartStepTask, restartEndRows, restartEndTask}
+use Rattle.model.specs.Restart.{restartBeginRows, restartBeginTask, restartStepRows, restartStepTask, restartRunTask, restartEndRows, restartEndTask}
 
 -- Calls that only look: they hand back the state that they got, change no word and store nothing.
 pub data Look : Type 0 where
   read : (reader page slot : ℕ) → Look
 
 -- "Each storing call takes an allowance": here its budget, the last argument. "Only these calls, and one that hands out a new state, make
--- a state."
+-- a state." `restartRun` is not 01's (specs/Restart.antt).
 pub data Call : Type 0 where
   format : Sizes → (budget : ℕ) → Call
   begin : Call
@@ -31,6 +31,7 @@ pub data Call : Type 0 where
   checkpointEnd : (budget : ℕ) → Call
   restartBegin : Call
   restartStep : (source : ℕ) → Call
+  restartRun : (source most : ℕ) → Call
   restartEnd : (budget : ℕ) → Call
   newState : Call
   look : Look → Call
@@ -43,7 +44,7 @@ lookTask c = record { actions = []; core = c; value = 0 }
 
 -- The rows of "Turned away" that a call checks. "Format checks 1, 2, 4 (of the sizes handed to it), 5 and 16; restart begin 1 to 7 and
 -- 13; the rest 1, 2, 5 and, where the cause can arise, 7 to 16, working with the sizes, c, starts and ends their state holds." Row 16 is
--- in `conclude`.
+-- in `conclude`. A run of restart steps checks what its first step does.
 abbrev pub rowsOf : Call → Core → World → List Row
 rowsOf (format s budget) c w = formatRows c w s
 rowsOf begin c w = beginRows c w
@@ -56,6 +57,7 @@ rowsOf (checkpointStep budget) c w = checkpointStepRows c w
 rowsOf (checkpointEnd budget) c w = checkpointEndRows c w
 rowsOf restartBegin c w = restartBeginRows c w
 rowsOf (restartStep source) c w = restartStepRows c w source
+rowsOf (restartRun source most) c w = restartStepRows c w source
 rowsOf (restartEnd budget) c w = restartEndRows c w
 rowsOf newState c w = []
 
@@ -72,6 +74,7 @@ taskOf (checkpointStep budget) c w = checkpointStepTask c w
 taskOf (checkpointEnd budget) c w = checkpointEndTask c w
 taskOf restartBegin c w = restartBeginTask w
 taskOf (restartStep source) c w = restartStepTask c w source
+taskOf (restartRun source most) c w = restartRunTask most c w source
 taskOf (restartEnd budget) c w = restartEndTask c w
 taskOf newState c w = record { actions = []; core = newCore; value = 0 }
 
@@ -88,6 +91,7 @@ budgetOf (checkpointStep budget) = budget
 budgetOf (checkpointEnd budget) = budget
 budgetOf restartBegin = 0
 budgetOf (restartStep source) = 0
+budgetOf (restartRun source most) = 0
 budgetOf (restartEnd budget) = budget
 budgetOf newState = 0
 

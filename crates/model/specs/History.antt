@@ -14,7 +14,7 @@ use Rattle.model.specs.World.{World}
 use Rattle.model.specs.Memory.{copyOf}
 use Rattle.model.specs.Causes.{tailOn}
 use Rattle.model.specs.Transaction.{diskOf}
-use Rattle.model.specs.Call.{Call, format, begin, update, look, commit, abort, checkpointBegin, checkpointStep, checkpointEnd, restartBegin, restartStep, restartEnd, newState}
+use Rattle.model.specs.Call.{Call, format, begin, update, look, commit, abort, checkpointBegin, checkpointStep, checkpointEnd, restartBegin, restartStep, restartRun, restartEnd, newState}
 use Rattle.model.specs.Reference.{Reference, Outcome, taken, refused, interrupted, slotIndex, plainTable}
 use Rattle.model.specs.Machine.{Event, call, lent, scramble, outcome, after, referred, Run}
 
@@ -75,6 +75,7 @@ putBy (checkpointStep budget) x t = []
 putBy (checkpointEnd budget) x t = []
 putBy restartBegin x t = []
 putBy (restartStep source) x t = []
+putBy (restartRun source most) x t = []
 putBy (restartEnd budget) x t = []
 putBy newState x t = []
 
@@ -94,6 +95,7 @@ emptied (checkpointStep budget) x t = t
 emptied (checkpointEnd budget) x t = t
 emptied restartBegin x t = t
 emptied (restartStep source) x t = t
+emptied (restartRun source most) x t = t
 
 -- a cut call's records are told too: some of them may have been stored, the rest are lost with the buffers
 abbrev pub toldBy : Outcome → Call → Run → Told → Told

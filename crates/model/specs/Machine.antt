@@ -9,7 +9,7 @@ use Rattle.model.specs.declared.Core.{Core}
 use Rattle.model.specs.World.{World}
 use Rattle.model.specs.Refusal.{Result}
 use Rattle.model.specs.Causes.{whenShut}
-use Rattle.model.specs.Call.{Call, format, begin, update, look, commit, abort, checkpointBegin, checkpointStep, checkpointEnd, restartBegin, restartStep, restartEnd, newState, resultOf}
+use Rattle.model.specs.Call.{Call, format, begin, update, look, commit, abort, checkpointBegin, checkpointStep, checkpointEnd, restartBegin, restartStep, restartRun, restartEnd, newState, resultOf}
 use Rattle.model.specs.Reference.{Outcome, taken, refused, interrupted, outcomeOf, Reference, blank, heardOf, hear}
 
 -- The state, and the devices and memory that go with it.
@@ -52,6 +52,7 @@ allowedCall m (checkpointStep budget) = true
 allowedCall m (checkpointEnd budget) = true
 allowedCall m restartBegin = true
 allowedCall m (restartStep source) = true
+allowedCall m (restartRun source most) = true
 allowedCall m (restartEnd budget) = true
 allowedCall m newState = true
 

@@ -3,7 +3,7 @@ use mathlib.Core.Path.{_≡_}
 use Prim.Native.Nat.{ℕ, _+_, _-_, _≤_, _<_}
 use mathlib.Core.List.{List, [], _∷_, _++_, List·Memᴰ}
 use mathlib.Core.Bool.{Bool, true, false, cond, _&&_, _||_}
-use lib.ListN.{length, getD}
+use lib.ListN.{length, getD, replicate}
 use lib.Dec.{ltb, eqb}
 use Rattle.model.specs.declared.Stage.the-variants.{Shut, Replaying}
 use Rattle.model.specs.declared.Sizes.{Sizes}
@@ -17,15 +17,15 @@ use Rattle.model.specs.Scan.{Scan, scan, placed, fateIn, updatesIn, upda
 use Rattle.model.specs.World.{World, Action, store, write, anchor, backups, logs, each}
 use Rattle.model.specs.Memory.{bufferOf, copyOf}
 use Rattle.model.specs.State.{limit, startOf, keptOf, tailOf, fillOf, endOf, isOpen, placeOf, firstAt, reservedAt, hasUpdate}
-use Rattle.model.specs.Refusal.{numberOf, verdict, accepted}
+use Rattle.model.specs.Refusal.{numberOf, firstOf, verdict, accepted}
 use Rattle.model.specs.Causes.{whenServing, tailOn, retained, locked}
 use Rattle.model.specs.Append.{storeLog}
 use Rattle.model.specs.Transaction.{diskOf, readWords, commitRows, commitTask}
 use Rattle.model.specs.Abort.{abortScan, updatesLeft, xorIn}
 use Rattle.model.specs.Restart.{positionOf, remaining, replays, readDisk, fateFrom, nextRecord, restartStepTask}
-use Rattle.model.specs.Call.{Call, format, look, read, restartBegin, restartStep, restartEnd}
+use Rattle.model.specs.Call.{Call, format, look, read, restartBegin, restartStep, restartRun, restartEnd}
 use Rattle.model.specs.Image.{Image, retainedWords, imageOf, logOf, restarted}
-use Rattle.model.specs.Reference.{Reference, taken, slotIndex, wordsIn, plainTable, hasSet, writtenByOther}
+use Rattle.model.specs.Reference.{Reference, taken, refused, slotIndex, wordsIn, plainTable, hasSet, writtenByOther}
 use Rattle.model.specs.Machine.{Machine, Event, call, outcome, result, after, follow, allowedAll, formatted, afterSteps}
 use Rattle.model.specs.History.{Told, nothingTold, history, recordsOn, updatesPut}
 
@@ -56,13 +56,17 @@ RestartAccepted =
     → (eqb (numberOf (result m restartBegin .answer)) 0 || eqb (numberOf (result m restartBegin .answer)) 13) ≡ true
 
 -- A restart can be finished: a step from a source that has something left is taken, and leaves less of that source and as much of
--- every other; once nothing is left, an end that has its T + D + 1 stores is taken.
+-- every other. So a run is taken there too; one of as many steps as words or pages remain leaves nothing of the source, and every run
+-- leaves as much of the others. Once nothing is left, an end that has its T + D + 1 stores is taken.
 pub record Finishable (m : Machine) : Type 0 where
   pub steps : (source : ℕ) → 0 < remaining (m .core) source → outcome m (restartStep source) ≡ taken
   pub less : (source : ℕ) → 0 < remaining (m .core) source
       → remaining (result m (restartStep source) .core) source < remaining (m .core) source
   pub others : (source other : ℕ) → (other ≡ source → ⊥)
       → remaining (result m (restartStep source) .core) other ≡ remaining (m .core) other
+  pub runs : (source most : ℕ) → 0 < remaining (m .core) source → outcome m (restartRun source most) ≡ taken
+  pub all : (source most : ℕ) → remaining (m .core) source ≤ most → remaining (result m (restartRun source most) .core) source ≡ 0
+  pub beside : (source most other : ℕ) → (other ≡ source → ⊥) → remaining (result m (restartRun source most) .core) other ≡ remaining (m .core) other
   pub ends : (budget : ℕ) → ((source : ℕ) → source ≤ m .core .sizes .disks → remaining (m .core) source ≡ 0)
       → total (m .core .sizes) + m .core .sizes .disks + 1 ≤ budget → outcome m (restartEnd budget) ≡ taken
 
@@ -204,6 +208,22 @@ ReplayOrder =
     → let one : Machine = after (afterSteps some begun) (call (restartEnd n)) in
     let another : Machine = after (afterSteps other begun) (call (restartEnd k)) in
     (one .world .pages ≡ restarted (imageOf (m .world))) × (one .world .pages ≡ another .world .pages)
+
+-- A run of restart steps is those steps. On any machine it is taken or refused as the single step is, and a refused one gives what that
+-- gives. A taken one answers how many steps it made, at most `most`: it leaves the state and the words as these leave them, one after
+-- the other, each of them is taken, and where it made fewer than `most`, the next is refused.
+pub record RunMakes (m : Machine) (source most made : ℕ) (now : Machine) : Type 0 where
+  pub few : made ≤ most
+  pub leaves : now ≡ afterSteps (replicate made source) m
+  pub each : (i : ℕ) → i < made → outcome (afterSteps (replicate i source) m) (restartStep source) ≡ taken
+  pub stops : made < most → outcome (afterSteps (replicate made source) m) (restartStep source) ≡ refused
+
+unfoldable pub RunIsSteps : Type 0
+RunIsSteps =
+    (m : Machine) (source most : ℕ) → let run : Call = restartRun source most in
+    (outcome m run ≡ outcome m (restartStep source))
+    × (outcome m (restartStep source) ≡ refused → result m run ≡ result m (restartStep source))
+    × (outcome m run ≡ taken → RunMakes m source most (firstOf (result m run .answer)) (after m (call run)))
 
 -- the action stores the disk's tail word with a value above p: with it the log reaches over position p
 abbrev pub coversCommit : Sizes → ℕ → ℕ → Action → Bool

@@ -11,7 +11,7 @@ use Rattle.model.specs.declared.Answer.the-variants.{Finished, Refused, 
 use Rattle.model.specs.Below.{sumBelow, joinBelow}
 use Rattle.model.specs.Sizes.{slotsIn, widthIn}
 use Rattle.model.specs.World.{World}
-use Rattle.model.specs.Call.{Call, format, begin, update, look, commit, abort, checkpointBegin, checkpointStep, checkpointEnd, restartBegin, restartStep, restartEnd, newState}
+use Rattle.model.specs.Call.{Call, format, begin, update, look, commit, abort, checkpointBegin, checkpointStep, checkpointEnd, restartBegin, restartStep, restartRun, restartEnd, newState}
 
 -- An entry: page, slot and value.
 pub record Write : Type 0 where
@@ -60,6 +60,7 @@ isBegin (checkpointStep budget) = false
 isBegin (checkpointEnd budget) = false
 isBegin restartBegin = false
 isBegin (restartStep source) = false
+isBegin (restartRun source most) = false
 isBegin (restartEnd budget) = false
 isBegin newState = false
 
@@ -131,6 +132,7 @@ afterTaken (checkpointStep budget) n r = r
 afterTaken (checkpointEnd budget) n r = r
 afterTaken restartBegin n r = r
 afterTaken (restartStep source) n r = r
+afterTaken (restartRun source most) n r = r
 afterTaken (restartEnd budget) n r = r
 
 abbrev pub afterOutcome : Outcome → Call → ℕ → Reference → Reference

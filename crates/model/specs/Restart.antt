@@ -1,5 +1,5 @@
 -- 01, "Calls": restart begin, step and end.
-use Prim.Native.Nat.{ℕ, _+_, _-_}
+use Prim.Native.Nat.{ℕ, zero, suc, _+_, _-_}
 use mathlib.Core.List.{List, [], _∷_, _++_}
 use mathlib.Core.Bool.{Bool, false, cond, not, _&&_}
 use lib.ListN.{getD, set, replicate}
@@ -19,9 +19,9 @@ use Rattle.model.specs.Anchor.{epochWord, epochOn, sizesOn, startOn, sta
 use Rattle.model.specs.Record.{inBackup}
 use Rattle.model.specs.Decode.{readLog, decodeAt, span}
 use Rattle.model.specs.Scan.{scan, fateIn}
-use Rattle.model.specs.World.{World, store, write, anchor, backups, pages, each}
+use Rattle.model.specs.World.{World, store, write, anchor, backups, pages, perform, each}
 use Rattle.model.specs.State.{openCore, replayingCore, withReplay, tailOf}
-use Rattle.model.specs.Refusal.{Row, row, Task}
+use Rattle.model.specs.Refusal.{Row, row, Verdict, accepted, rejected, verdict, Task}
 use Rattle.model.specs.Causes.{whenShut, whenReplaying, stageForbids, anchorWrong, unformatted, sizesWrong, lengthsWrong, tailOn, faultRow, logRows, sourceMissing, spent}
 use Rattle.model.specs.Abort.{xorIn}
 use Rattle.model.specs.Format.{freshMemory}
@@ -128,6 +128,19 @@ recordStep c w disk Malformed = record { actions = []; core = c; value = 0 }
 unfoldable pub restartStepTask : Core → World → ℕ → Task
 restartStepTask c w source =
     cond (ltb source (c .sizes .disks)) (recordStep c w source (nextRecord c w source)) (backupStep c w)
+
+-- Run (replaying): steps of one source, one after the other, until `most` are made or the next would be refused; the value is how many
+-- were made. 01 has no such call: by its definition it is those steps. It is refused as the first of them is.
+abbrev pub stepThen : Verdict → Task → (Core → World → Task) → Core → World → Task
+stepThen (rejected number first second) step rest c w = record { actions = []; core = c; value = 0 }
+stepThen accepted step rest c w =
+    let more : Task = rest (step .core) (perform (step .actions) w) in
+    record { actions = step .actions ++ more .actions; core = more .core; value = suc (more .value) }
+
+unfoldable pub restartRunTask : ℕ → Core → World → ℕ → Task
+restartRunTask zero c w source = record { actions = []; core = c; value = 0 }
+restartRunTask (suc n) c w source =
+    stepThen (verdict (restartStepRows c w source)) (restartStepTask c w source) (λ c' w'. restartRunTask n c' w' source) c w
 
 -- End (replaying): "all pages to backup (c + 1) mod 2; each tail into row (c + 1) mod 2; c := c + 1. Copy numbers become that
 -- number."

@@ -14,15 +14,15 @@ use Rattle.model.specs.Sizes.{total}
 use Rattle.model.specs.Anchor.{sizesOn}
 use Rattle.model.specs.World.{World}
 use Rattle.model.specs.State.{endOf, isOpen}
-use Rattle.model.specs.Refusal.{numberOf}
+use Rattle.model.specs.Refusal.{numberOf, firstOf}
 use Rattle.model.specs.Causes.{whenServing, tailOn}
 use Rattle.model.specs.Transaction.{diskOf, readWords}
 use Rattle.model.specs.Restart.{remaining}
-use Rattle.model.specs.Call.{Call, format, update, look, read, commit, restartBegin, restartStep, restartEnd, Gives}
+use Rattle.model.specs.Call.{Call, format, update, look, read, commit, restartBegin, restartStep, restartRun, restartEnd, Gives}
 use Rattle.model.specs.Reference.{Outcome, taken, refused, interrupted, outcomeOf, Reference, blank, heardOf, hear, slotIndex, wordsIn, plainTable, writtenByOther}
-use Rattle.model.specs.Machine.{Machine, isRefused, scrambled, Run}
+use Rattle.model.specs.Machine.{Machine, result, outcome, isRefused, scrambled, Run}
 use Rattle.model.specs.History.{Told, nothingTold, toldBy}
-use Rattle.model.specs.Promise.{PlainTable, LogOf, Truth, Closable}
+use Rattle.model.specs.Promise.{RunMakes, PlainTable, LogOf, Truth, Closable}
 
 -- A call of the code as it was observed: the call with its arguments; the state and the words that it got; the answer and the state
 -- that it handed back; the budget that it left, 0 for a call that takes none; the words as it left them. A new state touches no word;
@@ -155,10 +155,15 @@ RestartAcceptedInCode =
     → (eqb (numberOf (b .reply .answer)) 0 || eqb (numberOf (b .reply .answer)) 13) ≡ true
 
 -- A restart can be finished: a step of the code from a source that has something left is taken, and hands back a state with less of
--- that source and as much of every other; once nothing is left, an end that has its T + D + 1 stores is taken.
+-- that source and as much of every other; a run is taken there too, leaves nothing of the source if it may make as many steps as words
+-- or pages remain, and as much of every other; once nothing is left, an end that has its T + D + 1 stores is taken.
 pub record FinishableInCode (m : Machine) : Type 0 where
   pub steps : (o : Observed) (source : ℕ) → o .call ≡ restartStep source → On m o → 0 < remaining (m .core) source
       → (seen o ≡ taken) × (remaining (o .reply .core) source < remaining (m .core) source)
+      × ((other : ℕ) → (other ≡ source → ⊥) → remaining (o .reply .core) other ≡ remaining (m .core) other)
+  pub runs : (o : Observed) (source most : ℕ) → o .call ≡ restartRun source most → On m o
+      → (0 < remaining (m .core) source → seen o ≡ taken)
+      × (remaining (m .core) source ≤ most → remaining (o .reply .core) source ≡ 0)
       × ((other : ℕ) → (other ≡ source → ⊥) → remaining (o .reply .core) other ≡ remaining (m .core) other)
   pub ends : (e : Observed) (budget : ℕ) → e .call ≡ restartEnd budget → On m e
       → ((source : ℕ) → source ≤ m .core .sizes .disks → remaining (m .core) source ≡ 0)
@@ -166,6 +171,15 @@ pub record FinishableInCode (m : Machine) : Type 0 where
 
 unfoldable pub RestartFinishesInCode : Type 0
 RestartFinishesInCode = AlwaysInCode λ m r. m .core .stage ≡ Replaying → FinishableInCode m
+
+-- A run of restart steps is those steps, on any state and any slices. One of the code is taken or refused as the single step is, with
+-- the same answer where it is refused; a taken one answers how many it made, and hands back the state and leaves the words as these do.
+unfoldable pub RunIsStepsInCode : Type 0
+RunIsStepsInCode =
+    (m : Machine) (o : Observed) (source most : ℕ) → o .call ≡ restartRun source most → On m o
+    → (seen o ≡ outcome m (restartStep source))
+    × (seen o ≡ refused → o .reply .answer ≡ result m (restartStep source) .answer)
+    × (seen o ≡ taken → RunMakes m source most (firstOf (o .reply .answer)) (record { core = o .reply .core; world = o .exit }))
 
 -- How an update or a read of a slot is answered: 11 only where another open write set has a write to the slot, and where one has, the
 -- call is refused.

@@ -8,13 +8,14 @@ use borrow.Author.Tests.{ltb-true, ltb-false, eqb-false, lt-ltb, le-ltb, eq-eqb}
 use Rattle.model.specs.declared.Core.{Core}
 use Rattle.model.specs.World.{World, perform}
 use Rattle.model.specs.State.{tailOf}
+use Rattle.model.specs.Refusal.{verdict, accepted}
 use Rattle.model.specs.Causes.{sourceMissing}
 use Rattle.model.specs.Restart.{positionOf, remaining, nextRecord, backupStep, recordStep, restartStepRows, restartStepTask}
 use Rattle.model.specs.Reference.{taken, outcomeOf}
 use Rattle.model.specs.Call.{restartStep, resultOf}
 use Rattle.model.proofs.Storeless.{nothing-stored}
 use Rattle.model.proofs.Restart.Image.{SameDevices, memory-devices}
-use Rattle.model.proofs.Restart.Taken.{Taken, taken-call}
+use Rattle.model.proofs.Restart.Taken.{taken-call}
 use Rattle.model.proofs.Restart.Progress.{Progress}
 use Rattle.model.proofs.Restart.LogStep.{record-progress}
 use Rattle.model.proofs.Restart.BackupStep.{backup-progress}
@@ -30,12 +31,12 @@ unfolding remaining
 remaining-backup c =
     rw (le-ltb (c .sizes .disks) (c .sizes .disks) (omega arith), eq-eqb (c .sizes .disks) (c .sizes .disks) refl)
 
--- a step that is taken has a source with something left
-pub step-source : (c : Core) (w : World) (source : ℕ) → Taken (restartStep source) c w
+-- a step that is accepted has a source with something left
+pub step-source : (c : Core) (w : World) (source : ℕ) → verdict (restartStepRows c w source) ≡ accepted
     → (source ≤ c .sizes .disks) × (remaining c source ≡ 0 → ⊥)
 unfolding restartStepRows sourceMissing
-step-source c w source t =
-    let a = row-passed _ _ (t .accepted) .1 in
+step-source c w source v =
+    let a = row-passed _ _ v .1 in
     let b = row-passed _ _ a .1 in
     let d = row-passed _ _ b .1 in
     let f = row-passed _ _ d .1 in
@@ -43,7 +44,7 @@ step-source c w source t =
     let h = row-passed _ _ (g .1) in
     (ltb-false _ _ (g .0), eqb-false _ _ (h .0))
 
-task-progress : (c : Core) (w : World) (source : ℕ) → Progress c w → source ≤ c .sizes .disks → (remaining c source ≡ 0 → ⊥)
+pub task-progress : (c : Core) (w : World) (source : ℕ) → Progress c w → source ≤ c .sizes .disks → (remaining c source ≡ 0 → ⊥)
     → Progress (restartStepTask c w source .core) (perform (restartStepTask c w source .actions) w)
 unfolding restartStepTask
 task-progress c w source m h some = go (ltb source (c .sizes .disks)) refl
@@ -67,7 +68,7 @@ pub step-progress : (c : Core) (w : World) (source : ℕ) → Progress c w
     × SameDevices (resultOf (restartStep source) c w .world) w
 step-progress c w source m e =
     let t = taken-call (restartStep source) c w e in
-    let found = step-source c w source t in
+    let found = step-source c w source (t .accepted) in
     rw (t .core, t .world) (
       task-progress c w source m (found .0) (found .1),
       memory-devices (restartStepTask c w source .actions) w (nothing-stored (restartStep source) c w refl),

@@ -6,14 +6,14 @@ use Rattle.model.specs.declared.Core.{Core}
 use Rattle.model.specs.World.{World}
 use Rattle.model.specs.State.{newCore, sound}
 use Rattle.model.specs.Refusal.{Result, accepted, verdict}
-use Rattle.model.specs.Call.{Call, format, begin, update, look, lookTask, commit, abort, checkpointBegin, checkpointStep, checkpointEnd, restartBegin, restartStep, restartEnd, newState, rowsOf, taskOf, resultOf}
+use Rattle.model.specs.Call.{Call, format, begin, update, look, lookTask, commit, abort, checkpointBegin, checkpointStep, checkpointEnd, restartBegin, restartStep, restartRun, restartEnd, newState, rowsOf, taskOf, resultOf}
 use Rattle.model.proofs.Store.Cases.{call-cases}
 use Rattle.model.proofs.Store.Rows.{serving-row}
 use Rattle.model.proofs.Sound.Test.{Sized, Passing}
 use Rattle.model.proofs.Sound.Transaction.{begin-passes, update-passes, commit-passes}
 use Rattle.model.proofs.Sound.Abort.{abort-passes}
 use Rattle.model.proofs.Sound.Checkpoint.{checkpoint-begin-passes, checkpoint-step-passes, checkpoint-end-passes}
-use Rattle.model.proofs.Sound.Restart.{format-passes, restart-begin-passes, restart-step-passes, restart-end-passes}
+use Rattle.model.proofs.Sound.Restart.{format-passes, restart-begin-passes, restart-step-passes, restart-run-passes, restart-end-passes}
 use Rattle.model.proofs.Verdict.{row-passed}
 
 -- a new state, which is also what an interrupted call hands back
@@ -46,6 +46,7 @@ taken-passes (checkpointStep budget) c w sized s ok = checkpoint-step-passes c w
 taken-passes (checkpointEnd budget) c w sized s ok = checkpoint-end-passes c w sized ok
 taken-passes restartBegin c w sized s ok = restart-begin-passes c w ok
 taken-passes (restartStep source) c w sized s ok = restart-step-passes c w source sized ok
+taken-passes (restartRun source most) c w sized s ok = restart-run-passes c w source most (sized, s)
 taken-passes (restartEnd budget) c w sized s ok = restart-end-passes c w sized ok
 taken-passes newState c w sized s ok = new-passes
 

@@ -18,7 +18,7 @@ use Rattle.model.specs.Transaction.{beginRows, updateRows, readRows, com
 use Rattle.model.specs.Abort.{abortRows}
 use Rattle.model.specs.Checkpoint.{checkpointBeginRows, checkpointStepRows, checkpointEndRows}
 use Rattle.model.specs.Restart.{restartBeginRows, restartStepRows, restartEndRows}
-use Rattle.model.specs.Call.{Call, format, begin, update, look, read, commit, abort, checkpointBegin, checkpointStep, checkpointEnd, restartBegin, restartStep, restartEnd, newState, rowsOf, resultOf}
+use Rattle.model.specs.Call.{Call, format, begin, update, look, read, commit, abort, checkpointBegin, checkpointStep, checkpointEnd, restartBegin, restartStep, restartRun, restartEnd, newState, rowsOf, resultOf}
 use Rattle.model.specs.Reference.{taken}
 use Rattle.model.specs.Machine.{Machine, Event, call, lent, scramble, result, outcome, after, Run, follow, formatted}
 use Rattle.model.specs.Promise.{Always}
@@ -80,6 +80,7 @@ stage-answers (checkpointStep budget) c w ok = stage-first (checkpointStep budge
 stage-answers (checkpointEnd budget) c w ok = stage-first (checkpointEnd budget) c w _ refl ok
 stage-answers restartBegin c w ok = stage-first restartBegin c w _ refl ok
 stage-answers (restartStep source) c w ok = stage-first (restartStep source) c w _ refl ok
+stage-answers (restartRun source most) c w ok = stage-first (restartRun source most) c w _ refl ok
 stage-answers (restartEnd budget) c w ok = stage-first (restartEnd budget) c w _ refl ok
 stage-answers newState c w ok = refl
 

@@ -21,9 +21,10 @@ use Rattle.model.specs.State.{withReplay, places, limit, noTable, emptyL
 use Rattle.model.specs.Refusal.{Row, accepted, verdict}
 use Rattle.model.specs.Causes.{whenReplaying, sizesWrong, lengthsWrong, tailOn, sourceMissing, spent}
 use Rattle.model.specs.Format.{formatRows, formatTask}
-use Rattle.model.specs.Restart.{imageRows, restartBeginRows, restartBeginTask, remaining, readDisk, nextRecord, restartStepRows, backupStep, movedTo, recordStep, restartStepTask, restartEndRows, restartEndTask}
+use Rattle.model.specs.Restart.{imageRows, restartBeginRows, restartBeginTask, remaining, readDisk, nextRecord, restartStepRows, backupStep, movedTo, recordStep, restartStepTask, restartRunTask, restartEndRows, restartEndTask}
 use Rattle.model.proofs.Decode.{found-change, found-close}
 use Rattle.model.proofs.Bounds.{bounded}
+use Rattle.model.proofs.Restart.Run.{run-keeps}
 use Rattle.model.proofs.Store.Rows.{stage-row}
 use Rattle.model.proofs.Sound.Test.{Sized, Passing, serving-test, ReplaySound, replay-sound, replaying-test}
 use Rattle.model.proofs.Verdict.{row-passed, verdict-append, accepted-first}
@@ -171,6 +172,11 @@ restart-step-passes c w source sized ok =
     go replaying s near left false e =
         backup-passes c w sized replaying s
         (page-left c source (omega (arith, ltb-false source (c .sizes .disks) e, ltb-false (c .sizes .disks) source near)) left)
+
+-- A run of them.
+pub restart-run-passes : (c : Core) (w : World) (source most : ℕ) → Passing c → Passing (restartRunTask most c w source .core)
+restart-run-passes c w source most p =
+    run-keeps most (λ k n v. Passing n) source (λ k n v ok now. restart-step-passes n v source (now .0) ok) c w p
 
 -- Restart end: the logs start at their tails.
 pub restart-end-passes : (c : Core) (w : World) → Sized c → verdict (restartEndRows c w) ≡ accepted → Passing (restartEndTask c w .core)

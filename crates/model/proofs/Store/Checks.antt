@@ -25,7 +25,7 @@ use Rattle.model.specs.Transaction.{beginRows, updateRows, readRows, com
 use Rattle.model.specs.Abort.{abortFault, abortRows}
 use Rattle.model.specs.Checkpoint.{checkpointBeginRows, checkpointStepRows, checkpointEndRows}
 use Rattle.model.specs.Restart.{imageRows, restartBeginRows, positionOf, remaining, readDisk, fateFrom, nextRecord, fateFault, recordFault, stepFault, restartStepRows, restartEndRows}
-use Rattle.model.specs.Call.{Call, format, begin, update, look, read, commit, abort, checkpointBegin, checkpointStep, checkpointEnd, restartBegin, restartStep, restartEnd, newState, rowsOf, resultOf}
+use Rattle.model.specs.Call.{Call, format, begin, update, look, read, commit, abort, checkpointBegin, checkpointStep, checkpointEnd, restartBegin, restartStep, restartRun, restartEnd, newState, rowsOf, resultOf}
 use Rattle.model.proofs.Storeless.{storeless-finishes}
 use Rattle.model.proofs.Scan.{scan-bad}
 use Rattle.model.proofs.Reading.{ending}
@@ -178,6 +178,9 @@ never-seven restartBegin c w shut replaying serving e =
     (λ s. rw (whole-records (sizesOn (w .anchor)) (startOn (w .anchor)) (w .logs) (shut (shut-stage (c .stage) s) .image .whole))) e
 never-seven (restartStep source) c w shut replaying serving e =
     stage-first (restartStep source) c w whenReplaying _ refl
+    (λ s. rw (step-never-bad c w (replaying (replaying-stage (c .stage) s)) source)) e
+never-seven (restartRun source most) c w shut replaying serving e =
+    stage-first (restartRun source most) c w whenReplaying _ refl
     (λ s. rw (step-never-bad c w (replaying (replaying-stage (c .stage) s)) source)) e
 never-seven (restartEnd budget) c w shut replaying serving e = true≢false (sym (seven-row (restartEnd budget) c w e))
 never-seven newState c w shut replaying serving e = true≢false (sym (seven-row newState c w e))

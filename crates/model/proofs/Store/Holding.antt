@@ -1,27 +1,29 @@
 -- What holds between any two events, and how a call that is refused, taken or cut keeps it.
-use mathlib.Core.Path.{_≡_, refl, ap}
+use mathlib.Core.Path.{_≡_, refl, sym, ap, _∙_}
 use mathlib.Core.List.{List, []}
 use mathlib.Core.Bool.{true, false, cond}
 use Prim.Native.Nat.{ℕ, _<_}
-use Rattle.model.specs.declared.Stage.the-variants.{Shut}
+use Rattle.model.specs.declared.Stage.{Stage}
+use Rattle.model.specs.declared.Stage.the-variants.{Shut, Replaying, Open, Copying}
 use Rattle.model.specs.declared.Core.{Core}
 use Rattle.model.specs.Anchor.{sizesOn, startOn}
 use Rattle.model.specs.Record.{Record}
 use Rattle.model.specs.World.{World, perform, run, finishes}
 use Rattle.model.specs.State.{newCore}
 use Rattle.model.specs.Refusal.{Result, Task, verdict, accepted}
-use Rattle.model.specs.Causes.{tailIn, retainedFrom}
+use Rattle.model.specs.Causes.{whenShut, whenReplaying, whenServing, tailIn, retainedFrom}
 use Rattle.model.specs.Image.{wordsFrom}
 use Rattle.model.specs.Call.{Call, rowsOf, taskOf, budgetOf}
 use Rattle.model.specs.Reference.{Reference, WriteSet, withSets, taken, outcomeOf, isBegin, afterTaken, heardOf, hear}
 use Rattle.model.specs.Machine.{Machine, call, result, outcome, after, referred, Run}
 use Rattle.model.specs.History.{Told, also, putBy, toldBy, told}
 use Rattle.model.specs.Promise.{Stored, StepReads}
+use Rattle.model.proofs.Booleans.{true-false}
 use Rattle.model.proofs.Run.{finished-run}
 use Rattle.model.proofs.Restart.Image.{SameDevices, image-devices}
 use Rattle.model.proofs.Restart.Progress.{Progress}
 use Rattle.model.proofs.Store.View.{Kept, Served}
-use Rattle.model.proofs.Store.Crash.{stored-same}
+use Rattle.model.proofs.Store.Crash.{stored-same, kept}
 use Rattle.model.proofs.Store.Cases.{call-cases}
 
 -- What the log of a disk holds of what was put, and how far the steps of a restart have come in it.
@@ -53,6 +55,48 @@ going-on {v = v} {w = w} same further was d l =
 -- the committed contents do not hang on the write sets
 pub kept-sets : {puts : Told} {w : World} {r : Reference} → Kept puts w r → (sets : List WriteSet) → Kept puts w (withSets r sets)
 kept-sets k sets = record { sizes = k .sizes; shaped = k .shaped; image = k .image; logs = k .logs; sound = k .sound }
+
+-- whatever the stage, the devices restart to what is committed
+pub holding-kept : {puts : Told} {m : Machine} {r : Reference} → Holding puts m r → Kept puts (m .world) r
+holding-kept (shut s k n) = k
+holding-kept (replaying p k l n) = k
+holding-kept (serving g) = kept (g .serving .safe) _ (g .serving .told)
+
+-- A restart under way.
+pub record Restarting (puts : Told) (m : Machine) (r : Reference) : Type 0 where
+  pub progress : Progress (m .core) (m .world)
+  pub kept : Kept puts (m .world) r
+  pub going : (d : ℕ) → d < sizesOn (m .world .anchor) .disks → Going puts (m .core) (m .world) d
+  pub none : r .writeSets ≡ []
+
+-- the store as its stage says
+module _ {puts : Told} {m : Machine} {r : Reference} where
+  pub served : Holding puts m r → whenServing (m .core .stage) ≡ true → Served puts (m .core) (m .world) r
+  served (shut s k n) e = true-false (sym (ap whenServing s) ∙ e) refl
+  served (replaying p k l n) e = true-false (sym (ap whenServing (p .stage)) ∙ e) refl
+  served (serving g) e = g
+
+  pub stopped : Holding puts m r → whenShut (m .core .stage) ≡ true → Kept puts (m .world) r × (r .writeSets ≡ [])
+  stopped (shut s k n) e = (k, n)
+  stopped (replaying p k l n) e = true-false (sym (ap whenShut (p .stage)) ∙ e) refl
+  stopped (serving g) e = apart (m .core .stage) e (g .serving .stage)
+    where
+      apart : (s : Stage) → whenShut s ≡ true → whenServing s ≡ true → Kept puts (m .world) r × (r .writeSets ≡ [])
+      apart Shut a b = true-false b refl
+      apart Replaying a b = true-false a refl
+      apart Open a b = true-false a refl
+      apart Copying a b = true-false a refl
+
+  pub replayed : Holding puts m r → whenReplaying (m .core .stage) ≡ true → Restarting puts m r
+  replayed (shut s k n) e = true-false (sym (ap whenReplaying s) ∙ e) refl
+  replayed (replaying p k l n) e = record { progress = p; kept = k; going = l; none = n }
+  replayed (serving g) e = apart (m .core .stage) e (g .serving .stage)
+    where
+      apart : (s : Stage) → whenReplaying s ≡ true → whenServing s ≡ true → Restarting puts m r
+      apart Shut a b = true-false a refl
+      apart Replaying a b = true-false b refl
+      apart Open a b = true-false a refl
+      apart Copying a b = true-false a refl
 
 -- A call keeps what holds.
 abbrev pub CallKeeps : Call → Told → Machine → Reference → Type 0

@@ -1,13 +1,11 @@
 -- Every call keeps what holds, whether it is refused, taken or cut.
-use mathlib.Core.Path.{_≡_, refl, sym, ap, _∙_}
+use mathlib.Core.Path.{_≡_, refl, sym, _∙_}
 use mathlib.Core.List.{List, [], _∷_, append-nil}
 use mathlib.Core.Bool.{Bool, true, false}
-use Prim.Native.Nat.{ℕ, _<_}
+use Prim.Native.Nat.{ℕ}
 use Rattle.model.specs.declared.Stage.{Stage}
-use Rattle.model.specs.declared.Stage.the-variants.{Shut, Replaying, Open, Copying}
 use Rattle.model.specs.declared.Sizes.{Sizes}
 use Rattle.model.specs.declared.Core.{Core}
-use Rattle.model.specs.Anchor.{sizesOn}
 use Rattle.model.specs.World.{perform, finishes}
 use Rattle.model.specs.State.{newCore}
 use Rattle.model.specs.Refusal.{Row, row, verdict, accepted}
@@ -16,20 +14,19 @@ use Rattle.model.specs.Transaction.{beginRows, beginTask, updateRows, co
 use Rattle.model.specs.Abort.{abortRows}
 use Rattle.model.specs.Checkpoint.{checkpointBeginRows, checkpointBeginTask, checkpointStepRows, checkpointEndRows}
 use Rattle.model.specs.Restart.{restartBeginRows, restartStepRows, restartEndRows}
-use Rattle.model.specs.Call.{Call, format, begin, update, Look, look, lookTask, commit, abort, checkpointBegin, checkpointStep, checkpointEnd, restartBegin, restartStep, restartEnd, newState, rowsOf, taskOf, budgetOf, resultOf}
+use Rattle.model.specs.Call.{Call, format, begin, update, Look, look, lookTask, commit, abort, checkpointBegin, checkpointStep, checkpointEnd, restartBegin, restartStep, restartRun, restartEnd, newState, rowsOf, taskOf, budgetOf, resultOf}
 use Rattle.model.specs.Reference.{Reference, taken, outcomeOf}
 use Rattle.model.specs.Machine.{Machine, call, result, outcome, isRefused, allowedCall}
 use Rattle.model.specs.History.{Told, also}
 use Rattle.model.proofs.Storeless.{storesNothing, storeless-finishes}
 use Rattle.model.proofs.Run.{perform-lengths}
-use Rattle.model.proofs.Restart.Taken.{taken-call}
-use Rattle.model.proofs.Restart.Progress.{Progress, begin-progress}
+use Rattle.model.proofs.Restart.Taken.{accepted-taken, taken-call}
+use Rattle.model.proofs.Restart.Progress.{begin-progress}
 use Rattle.model.proofs.Restart.Steps.{step-source, step-progress}
 use Rattle.model.proofs.Restart.Records.{begun-positions, begun-replayed, step-replayed}
+use Rattle.model.proofs.Restart.Run.{run-keeps}
 use Rattle.model.proofs.Restart.End.{end-gives}
-use Rattle.model.proofs.Store.View.{Kept, Served}
 use Rattle.model.proofs.Store.Rows.{stage-row, open-serving, copying-serving}
-use Rattle.model.proofs.Store.Crash.{kept}
 use Rattle.model.proofs.Store.Steady.{kept-devices, kept-lost}
 use Rattle.model.proofs.Store.Begin.{begin-serves}
 use Rattle.model.proofs.Store.Copy.{checkpoint-begin-serves, checkpoint-step-serves, checkpoint-step-cut}
@@ -38,65 +35,17 @@ use Rattle.model.proofs.Store.Update.{update-serves, update-cut}
 use Rattle.model.proofs.Store.Commit.{commit-serves, commit-cut}
 use Rattle.model.proofs.Store.CheckpointEnd.{checkpoint-end-serves, checkpoint-end-cut}
 use Rattle.model.proofs.Store.Abort.{abort-serves, abort-cut}
-use Rattle.model.proofs.Store.Holding.{Going, Holding, CallKeeps, shut, replaying, serving, going-on, kept-sets, call-keeps}
+use Rattle.model.proofs.Store.Holding.{Holding, CallKeeps, Restarting, shut, replaying, serving, going-on, kept-sets, holding-kept, served, stopped, replayed, takenMachine, call-keeps}
 use Rattle.model.proofs.Booleans.{true-false}
 use Rattle.model.proofs.Verdict.{row-passed}
-
--- whatever the stage, the devices restart to what is committed
-pub holding-kept : {puts : Told} {m : Machine} {r : Reference} → Holding puts m r → Kept puts (m .world) r
-holding-kept (shut s k n) = k
-holding-kept (replaying p k l n) = k
-holding-kept (serving g) = kept (g .serving .safe) _ (g .serving .told)
 
 -- an accepted call found the stage that it is for
 pub row-one : (allowed : Stage → Bool) (c : Core) (rows : List Row) → verdict (row 1 (stageForbids allowed c) ∷ rows) ≡ accepted → allowed (c .stage) ≡ true
 row-one allowed c rows v = stage-row allowed c (row-passed _ rows v .0) .0
 
--- A restart under way.
-pub record Restarting (puts : Told) (m : Machine) (r : Reference) : Type 0 where
-  pub progress : Progress (m .core) (m .world)
-  pub kept : Kept puts (m .world) r
-  pub going : (d : ℕ) → d < sizesOn (m .world .anchor) .disks → Going puts (m .core) (m .world) d
-  pub none : r .writeSets ≡ []
-
--- the store as its stage says
-module _ {puts : Told} {m : Machine} {r : Reference} where
-  pub served : Holding puts m r → whenServing (m .core .stage) ≡ true → Served puts (m .core) (m .world) r
-  served (shut s k n) e = true-false (sym (ap whenServing s) ∙ e) refl
-  served (replaying p k l n) e = true-false (sym (ap whenServing (p .stage)) ∙ e) refl
-  served (serving g) e = g
-
-  pub stopped : Holding puts m r → whenShut (m .core .stage) ≡ true → Kept puts (m .world) r × (r .writeSets ≡ [])
-  stopped (shut s k n) e = (k, n)
-  stopped (replaying p k l n) e = true-false (sym (ap whenShut (p .stage)) ∙ e) refl
-  stopped (serving g) e = apart (m .core .stage) e (g .serving .stage)
-    where
-      apart : (s : Stage) → whenShut s ≡ true → whenServing s ≡ true → Kept puts (m .world) r × (r .writeSets ≡ [])
-      apart Shut a b = true-false b refl
-      apart Replaying a b = true-false a refl
-      apart Open a b = true-false a refl
-      apart Copying a b = true-false a refl
-
-  pub replayed : Holding puts m r → whenReplaying (m .core .stage) ≡ true → Restarting puts m r
-  replayed (shut s k n) e = true-false (sym (ap whenReplaying s) ∙ e) refl
-  replayed (replaying p k l n) e = record { progress = p; kept = k; going = l; none = n }
-  replayed (serving g) e = apart (m .core .stage) e (g .serving .stage)
-    where
-      apart : (s : Stage) → whenReplaying s ≡ true → whenServing s ≡ true → Restarting puts m r
-      apart Shut a b = true-false a refl
-      apart Replaying a b = true-false b refl
-      apart Open a b = true-false a refl
-      apart Copying a b = true-false a refl
-
 -- a call that stores nothing is never cut
 never-cut : {X : Type 0} (k : Call) (m : Machine) → storesNothing k ≡ true → finishes (budgetOf k) (taskOf k (m .core) (m .world) .actions) ≡ false → X
 never-cut k m e f = true-false (storeless-finishes k (m .core) (m .world) e) f
-
--- an accepted call whose budget lasts is taken
-pub accepted-taken : (k : Call) (m : Machine) → verdict (rowsOf k (m .core) (m .world)) ≡ accepted
-    → finishes (budgetOf k) (taskOf k (m .core) (m .world) .actions) ≡ true → outcomeOf (resultOf k (m .core) (m .world) .answer) ≡ taken
-unfolding resultOf
-accepted-taken k m v f = rw (v, f)
 
 -- an accepted call is not refused
 accepted-goes : (k : Call) (m : Machine) → verdict (rowsOf k (m .core) (m .world)) ≡ accepted
@@ -108,6 +57,19 @@ accepted-goes k m v false f = rw (v, f)
 -- a call that puts nothing
 puts-none : {puts : Told} {m : Machine} {r : Reference} → Holding puts m r → Holding (also puts []) m r
 puts-none {puts} h = rw (append-nil (puts .puts)) h
+
+-- an accepted step of a restart goes on with it
+step-holds : {puts : Told} {r : Reference} (m : Machine) → Holding puts m r → (source : ℕ)
+    → verdict (restartStepRows (m .core) (m .world) source) ≡ accepted → Holding puts (takenMachine (restartStep source) puts m r) r
+unfolding restartStepRows
+step-holds m h source v =
+    let o = accepted-taken (restartStep source) m v (storeless-finishes (restartStep source) (m .core) (m .world) refl) in
+    let t = taken-call (restartStep source) (m .core) (m .world) o in
+    let s = replayed h (row-one whenReplaying (m .core) _ v) in
+    let p = rw (t .core, t .world) at (step-progress (m .core) (m .world) source (s .progress) o) in
+    let found = step-source (m .core) (m .world) source v in
+    replaying (p .0) (kept-devices (p .1) (perform-lengths _ (m .world)) (s .kept))
+    (going-on (p .1) (λ d l kept g. step-replayed (s .progress) (p .1) source found d g (rw (s .progress .sizes) l)) (s .going)) (s .none)
 
 module _ (puts : Told) (m : Machine) (r : Reference) (h : Holding puts m r) where
   step-begin : CallKeeps begin puts m r
@@ -184,19 +146,17 @@ module _ (puts : Told) (m : Machine) (r : Reference) (h : Holding puts m r) wher
       (λ v f. never-cut restartBegin m refl f)
 
   step-restart-step : (source : ℕ) → CallKeeps (restartStep source) puts m r
-  unfolding restartStepRows
   step-restart-step source =
-      call-keeps (restartStep source) puts m r h
+      call-keeps (restartStep source) puts m r h (λ v f. puts-none (step-holds m h source v)) (λ v f. never-cut (restartStep source) m refl f)
+
+  step-restart-run : (source most : ℕ) → CallKeeps (restartRun source most) puts m r
+  step-restart-run source most =
+      call-keeps (restartRun source most) puts m r h
       (λ v f.
-      let o = accepted-taken (restartStep source) m v f in
-      let t = taken-call (restartStep source) (m .core) (m .world) o in
-      let s = replayed h (row-one whenReplaying (m .core) _ v) in
-      let p = rw (t .core, t .world) at (step-progress (m .core) (m .world) source (s .progress) o) in
-      let found = step-source (m .core) (m .world) source t in
-      puts-none {puts = puts}
-      (replaying (p .0) (kept-devices (p .1) (perform-lengths _ (m .world)) (s .kept))
-      (going-on (p .1) (λ d l kept g. step-replayed (s .progress) (p .1) source found d g (rw (s .progress .sizes) l)) (s .going)) (s .none)))
-      (λ v f. never-cut (restartStep source) m refl f)
+      puts-none
+      (run-keeps most (λ k c w. Holding puts (record { core = c; world = w }) r) source (λ k c w v now. step-holds (record { core = c; world = w }) now source v)
+      (m .core) (m .world) h))
+      (λ v f. never-cut (restartRun source most) m refl f)
 
   step-restart-end : (budget : ℕ) → CallKeeps (restartEnd budget) puts m r
   unfolding restartEndRows
@@ -240,5 +200,6 @@ step-call (checkpointStep budget) puts m r h e = step-checkpoint-step puts m r h
 step-call (checkpointEnd budget) puts m r h e = step-checkpoint-end puts m r h budget
 step-call restartBegin puts m r h e = step-restart-begin puts m r h
 step-call (restartStep source) puts m r h e = step-restart-step puts m r h source
+step-call (restartRun source most) puts m r h e = step-restart-run puts m r h source most
 step-call (restartEnd budget) puts m r h e = step-restart-end puts m r h budget
 step-call newState puts m r h e = step-new puts m r h

@@ -12,7 +12,7 @@ use Rattle.model.specs.declared.Answer.{Answer}
 use Rattle.model.specs.declared.Answer.the-variants.{Finished, Refused, Interrupted}
 use Rattle.model.specs.World.{World}
 use Rattle.model.specs.Refusal.{Result}
-use Rattle.model.specs.Call.{Call, format, begin, update, look, commit, abort, checkpointBegin, checkpointStep, checkpointEnd, restartBegin, restartStep, restartEnd, newState, resultOf, Gives}
+use Rattle.model.specs.Call.{Call, format, begin, update, look, commit, abort, checkpointBegin, checkpointStep, checkpointEnd, restartBegin, restartStep, restartRun, restartEnd, newState, resultOf, Gives}
 use Rattle.model.specs.Reference.{taken, refused, outcomeOf, Reference, blank, heardOf, hear}
 use Rattle.model.specs.Machine.{Machine, Event, call, lent, scramble, result, outcome, isRefused, allowedCall, allowed, after, referred, Run, follow, allowedAll, formatted}
 use Rattle.model.specs.History.{Told, nothingTold, told, history}
@@ -74,6 +74,7 @@ allowed-call m (checkpointStep budget) f = refl
 allowed-call m (checkpointEnd budget) f = refl
 allowed-call m restartBegin f = refl
 allowed-call m (restartStep source) f = refl
+allowed-call m (restartRun source most) f = refl
 allowed-call m (restartEnd budget) f = refl
 allowed-call m newState f = refl
 

@@ -1,19 +1,20 @@
 -- The promises of specs/Trace.antt, each from the machine's.
-use mathlib.Core.Path.{_≡_, refl, sym, ap, _∙_}
+use mathlib.Core.Path.{_≡_, refl, sym, ap, subst, _∙_}
 use mathlib.Core.List.{List, [], _∷_, _++_}
 use mathlib.Core.Bool.{true}
 use Prim.Native.Nat.{ℕ, _<_}
 use Rattle.model.specs.declared.Core.{Core}
 use Rattle.model.specs.Anchor.{sizesOn}
 use Rattle.model.specs.World.{World}
-use Rattle.model.specs.Refusal.{Result, numberOf}
+use Rattle.model.specs.Refusal.{Result, numberOf, firstOf}
 use Rattle.model.specs.Restart.{remaining}
-use Rattle.model.specs.Call.{Call, restartBegin, restartStep, restartEnd}
+use Rattle.model.specs.Call.{Call, restartBegin, restartStep, restartRun, restartEnd}
 use Rattle.model.specs.Reference.{outcomeOf, Reference, hear}
 use Rattle.model.specs.Machine.{Machine, result, outcome, Run}
-use Rattle.model.specs.Promise.{Always, PowerLoss, RestartAccepted, RestartFinishes, LogKept, StateTrue, NeverMalformed, ClosingFits, LogOf}
-use Rattle.model.specs.Trace.{Observed, seen, EventInCode, callInCode, On, afterInCode, followInCode, AllowedAllInCode, formattedInCode, AlwaysInCode, PowerLossInCode, EachRestartEnd, RestartAcceptedInCode, RestartFinishesInCode, LogKeptInCode, StateTrueInCode, NeverMalformedInCode, ClosingFitsInCode}
+use Rattle.model.specs.Promise.{Always, PowerLoss, RestartAccepted, RestartFinishes, RunMakes, RunIsSteps, LogKept, StateTrue, NeverMalformed, ClosingFits, LogOf}
+use Rattle.model.specs.Trace.{Observed, seen, EventInCode, callInCode, On, afterInCode, followInCode, AllowedAllInCode, formattedInCode, AlwaysInCode, PowerLossInCode, EachRestartEnd, RestartAcceptedInCode, RestartFinishesInCode, RunIsStepsInCode, LogKeptInCode, StateTrueInCode, NeverMalformedInCode, ClosingFitsInCode}
 use Rattle.model.proofs.PowerLoss.{power-loss, restart-accepted, log-kept, state-true, never-malformed}
+use Rattle.model.proofs.Restart.Run.{run-is-steps}
 use Rattle.model.proofs.Finish.{restart-finishes}
 use Rattle.model.proofs.Sound.Lists.{closing-fits}
 use Rattle.model.proofs.Trace.Events.{as-machine, each-trace, in-code}
@@ -87,8 +88,28 @@ restart-finishes-in-code =
             rw (gave-core m o k is on) (f .less source some),
             λ other ne. ap (λ (c : Core). remaining c other) (gave-core m o k is on) ∙ f .others source other ne,
           );
+      runs = λ o source most is on.
+          let core = gave-core m o (restartRun source most) is on in (
+            λ some. gave-outcome m o (restartRun source most) is on ∙ f .runs source most some,
+            λ enough. ap (λ (c : Core). remaining c source) core ∙ f .all source most enough,
+            λ other ne. ap (λ (c : Core). remaining c other) core ∙ f .beside source most other ne,
+          );
       ends = λ e budget is on none enough. gave-outcome m e (restartEnd budget) is on ∙ f .ends budget none enough;
     })
+
+-- A run is its steps.
+pub run-is-steps-in-code : RunIsStepsInCode
+unfolding RunIsStepsInCode RunIsSteps
+run-is-steps-in-code m o source most is on =
+    let run = run-is-steps m source most in
+    let got = gave m o (restartRun source most) is on in
+    let answers = gave-outcome m o (restartRun source most) is on in (
+      answers ∙ run .0,
+      λ turned. ap (λ (r : Result). r .answer) (got ∙ run .1 (sym (answers ∙ run .0) ∙ turned)),
+      λ took.
+          subst (λ (r : Result). RunMakes m source most (firstOf (r .answer)) (record { core = r .core; world = r .world })) (sym got)
+          (run .2 (sym answers ∙ took)),
+    )
 
 -- What the state says is true.
 pub state-true-in-code : StateTrueInCode
