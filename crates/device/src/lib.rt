@@ -3,8 +3,10 @@
 // In which order a call stores, and how often, is read off this file; the contracts tell what stands at the end, for each budget.
 // 1. `device[at] = value;` is the only line of the store that assigns a word of a device (anchor, backups, logs): the other crates only hand their
 //    devices on, to each other and to the functions here. The budget is asked just before that line, and lowered by one just after it.
-// 2. No other line lowers a budget, and no other test looks at one: the calls read it before their stores and after them, to count. So a
-//    run with budget k does what a run with a larger one does, up to its k-th store and to the next that it comes to; from there on it stores nothing.
+//    (`words::copy_words`, `fill_words` and `xor_in`, which assign words of a slice too, are lent page memory, work memory and local arrays only.)
+// 2. No other line lowers a budget, and no other test that a store depends on looks at one: the calls read it before their stores and after
+//    them, to count. So a run with budget k does what a run with a larger one does, up to its k-th store and to the next that it comes to; from
+//    there on it stores nothing.
 // 3. By the contracts the run with budget k leaves on the devices what the first k stores of 01's list leave, for every k. So by 2 that is what
 //    the longer run has on them after its k-th store: its stores are those of the list, in its order, each once. (Of a store that leaves the
 //    word as it was, the contracts do not tell which word it is; what stands on the devices is the same.)
