@@ -30,7 +30,7 @@ use Rattle.model.specs.Machine.{Machine, Event, call, outcome, result, a
 use Rattle.model.specs.History.{Told, nothingTold, history, recordsOn, updatesPut}
 
 -- P holds of every machine and reference that is reached so: format any machine, and let the format finish. Then let any events
--- happen: calls taken, refused or cut at any store, also inside a restart, whichever sources its steps name in whichever order;
+-- happen: calls taken, refused or cut at any store, also inside a restart, whichever sources its steps and runs name, in whichever order;
 -- refused calls on other slices; new states; refused formats; and whatever lost power leaves in the memories while the store is
 -- shut.
 unfoldable pub Always : (Machine → Reference → Type 0) → Type 0

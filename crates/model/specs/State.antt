@@ -64,10 +64,14 @@ replayingCore sizes epoch starts tails =
     }
 
 -- States with some parts changed. Only in this file is a state written out field by field.
+-- other logs, another table and another next number
+abbrev pub servingWith : Core → Logs → Table → ℕ → Core
+servingWith c logs table next =
+    record { stage = c .stage; sizes = c .sizes; epoch = c .epoch; logs = logs; table = table; next = next; checkpoint = c .checkpoint; replay = c .replay }
+
 -- after a begin: another table, and the next number
 abbrev pub begunWith : Core → Table → Core
-begunWith c table =
-    record { stage = c .stage; sizes = c .sizes; epoch = c .epoch; logs = c .logs; table = table; next = c .next + 1; checkpoint = c .checkpoint; replay = c .replay }
+begunWith c table = servingWith c (c .logs) table (c .next + 1)
 
 -- a checkpoint under way
 abbrev pub withCheckpoint : Core → Stage → Checkpoint → Core
@@ -85,8 +89,7 @@ withReplay c r =
 
 -- the state with other logs and another table
 unfoldable pub withLog : Core → Logs → Table → Core
-withLog c logs table =
-    record { stage = c .stage; sizes = c .sizes; epoch = c .epoch; logs = logs; table = table; next = c .next; checkpoint = c .checkpoint; replay = c .replay }
+withLog c logs table = servingWith c logs table (c .next)
 
 -- A disk's log: where it starts, its tail, how many words are buffered, and its end, "tail plus buffered".
 unfoldable pub startOf : Logs → ℕ → ℕ

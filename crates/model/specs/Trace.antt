@@ -76,13 +76,13 @@ pub record Scrambles (m : Machine) (pages work : List ℕ) : Type 0 where
 unfoldable pub FormatRefused : Observed → Type 0
 FormatRefused o = (s : Sizes) (budget : ℕ) → o .call ≡ format s budget → seen o ≡ refused
 
--- the step may come next
+-- the event may come next
 abbrev pub AllowedInCode : Machine → EventInCode → Type 0
 AllowedInCode m (callInCode o) = On m o × FormatRefused o
 AllowedInCode m (lentInCode o) = Beside m o
 AllowedInCode m (scrambleInCode pages work) = Scrambles m pages work
 
--- The machine and the reference after a step. The machine is what the call handed back and left; after a call that was lent other
+-- The machine and the reference after an event. The machine is what the call handed back and left; after a call that was lent other
 -- slices its words are as they were (`turned-away`: a refused call leaves every word that it was lent). The reference hears what was
 -- answered.
 abbrev pub afterInCode : EventInCode → Run → Run
@@ -104,12 +104,12 @@ afterInCode (scrambleInCode pages work) x =
 
 unfoldable pub followInCode : List EventInCode → Run → Run
 followInCode [] x = x
-followInCode (s ∷ steps) x = followInCode steps (afterInCode s x)
+followInCode (e ∷ es) x = followInCode es (afterInCode e x)
 
--- each step gets what the one before it left
+-- each event gets what the one before it left
 unfoldable pub AllowedAllInCode : List EventInCode → Run → Type 0
 AllowedAllInCode [] x = Unit {0}
-AllowedAllInCode (s ∷ steps) x = AllowedInCode (x .machine) s × AllowedAllInCode steps (afterInCode s x)
+AllowedAllInCode (e ∷ es) x = AllowedInCode (x .machine) e × AllowedAllInCode es (afterInCode e x)
 
 -- A format of these sizes, on any state and any slices, that kept its contract and was taken.
 pub record Formats (o : Observed) (s : Sizes) : Type 0 where
@@ -123,14 +123,14 @@ unfoldable pub formattedInCode : Observed → Sizes → Run
 formattedInCode o s = record { machine = record { core = o .reply .core; world = o .exit }; reference = blank s }
 
 -- P holds of every machine and reference that is reached so: let a format of the code be taken, on any state and any slices. Then let
--- any steps come, each linked to the one before: calls of the code, taken, refused or cut at any store, also inside a restart, whichever
--- sources its steps name in whichever order; refused calls on other slices; new states; refused formats; and whatever lost power leaves
+-- any events come, each linked to the one before: calls of the code, taken, refused or cut at any store, also inside a restart, whichever
+-- sources its steps and runs name in whichever order; refused calls on other slices; new states; refused formats; and whatever lost power leaves
 -- in the memories while the store is shut. Of the calls nothing is supposed but that each kept its contract.
 unfoldable pub AlwaysInCode : (Machine → Reference → Type 0) → Type 0
 AlwaysInCode P =
     (o : Observed) (s : Sizes) → Formats o s
-    → (steps : List EventInCode) → AllowedAllInCode steps (formattedInCode o s)
-    → P (followInCode steps (formattedInCode o s) .machine) (followInCode steps (formattedInCode o s) .reference)
+    → (events : List EventInCode) → AllowedAllInCode events (formattedInCode o s)
+    → P (followInCode events (formattedInCode o s) .machine) (followInCode events (formattedInCode o s) .reference)
 
 -- Power loss. If the code's restart end is then called and is taken, the page memory that it leaves equals, word for word, the values
 -- that the committed transactions alone made, in commit order.
@@ -210,15 +210,15 @@ toldInCode (scrambleInCode pages work) x t = t
 
 unfoldable pub historyInCode : List EventInCode → Run → Told → Told
 historyInCode [] x t = t
-historyInCode (s ∷ steps) x t = historyInCode steps (afterInCode s x) (toldInCode s x t)
+historyInCode (e ∷ es) x t = historyInCode es (afterInCode e x) (toldInCode e x t)
 
 -- The log: as LogKept, for the words that the code's calls left and the records that they put.
 unfoldable pub LogKeptInCode : Type 0
 LogKeptInCode =
     (o : Observed) (s : Sizes) → Formats o s
-    → (steps : List EventInCode) → AllowedAllInCode steps (formattedInCode o s)
-    → let n : Machine = followInCode steps (formattedInCode o s) .machine in
-    let t : Told = historyInCode steps (formattedInCode o s) nothingTold in
+    → (events : List EventInCode) → AllowedAllInCode events (formattedInCode o s)
+    → let n : Machine = followInCode events (formattedInCode o s) .machine in
+    let t : Told = historyInCode events (formattedInCode o s) nothingTold in
     (disk : ℕ) → disk < sizesOn (n .world .anchor) .disks → LogOf n t disk
 
 -- The state that the code hands back says what is true of the words that it left.

@@ -4,12 +4,11 @@ use mathlib.Core.List.{List, []}
 use mathlib.Core.Bool.{Bool, not, _&&_, _||_}
 use lib.ListN.{getD}
 use lib.Dec.{leb, ltb, eqb}
-use Rattle.model.specs.declared.Stage.the-variants.{Open}
 use Rattle.model.specs.declared.Logs.{Logs}
 use Rattle.model.specs.declared.Table.{Table}
 use Rattle.model.specs.declared.Core.{Core}
 use Rattle.model.specs.Below.{within}
-use Rattle.model.specs.State.{limit, noCheckpoint, noReplay, startOf, tailOf, fillOf, endOf}
+use Rattle.model.specs.State.{limit, replayingCore, servingWith, startOf, tailOf, fillOf, endOf}
 
 abbrev pub logsOf : List ℕ → List ℕ → List ℕ → Logs
 logsOf starts tails fills = record { starts = starts; tails = tails; fills = fills }
@@ -18,18 +17,10 @@ logsOf starts tails fills = record { starts = starts; tails = tails; fills = fil
 abbrev pub tableOf : List ℕ → List ℕ → List ℕ → Table
 tableOf numbers disks reserved = record { numbers = numbers; disks = disks; firsts = []; reserved = reserved }
 
+-- the other parts do not count here
 abbrev pub coreOf : ℕ → ℕ → Logs → Table → Core
 coreOf disks ring logs table =
-    record {
-      stage = Open;
-      sizes = record { pages = 0; disks = disks; ring = ring; slots = []; widths = [] };
-      epoch = 0;
-      logs = logs;
-      table = table;
-      next = 0;
-      checkpoint = noCheckpoint;
-      replay = noReplay;
-    }
+    servingWith (replayingCore (record { pages = 0; disks = disks; ring = ring; slots = []; widths = [] }) 0 [] []) logs table 0
 
 -- where a sum of reserved words stops: it is above the limit, so that nothing more fits
 abbrev pub cap : ℕ

@@ -10,7 +10,7 @@ use Rattle.model.specs.declared.Stage.the-variants.{Shut, Replaying, Ope
 use Rattle.model.specs.declared.Logs.{Logs}
 use Rattle.model.specs.declared.Table.{Table}
 use Rattle.model.specs.declared.Core.{Core}
-use Rattle.model.specs.State.{places, limit, startOf, endOf, numberAt, diskAtPlace, reservedAt, withPlace, hasUpdate, servedBy, reservedOn, servingSound, soundIn, sound}
+use Rattle.model.specs.State.{servingWith, places, limit, startOf, endOf, numberAt, diskAtPlace, reservedAt, withPlace, hasUpdate, servedBy, reservedOn, servingSound, soundIn, sound}
 use Rattle.model.specs.Causes.{whenServing}
 use Rattle.model.proofs.Store.Rows.{serving-sound, sizes-sound, DiskSound, disk-sound, PlaceSound, place-sound, CheckpointSound, checkpoint-sound}
 use Rattle.model.proofs.SetPlace.{put-number, put-disk, put-first, put-reserved, other-same}
@@ -20,19 +20,14 @@ use Rattle.model.proofs.Growth.{tail-end, kept-le, Longer, other-ends}
 use Rattle.model.proofs.Booleans.{true-false}
 use Rattle.model.proofs.Store.Accepted.{Room, room-none}
 
--- the state with other logs, another table and another next number
-abbrev pub changed : Core → Logs → Table → ℕ → Core
-changed c l t next =
-    record { stage = c .stage; sizes = c .sizes; epoch = c .epoch; logs = l; table = t; next = next; checkpoint = c .checkpoint; replay = c .replay }
-
 -- a checkpoint under way stays within its bounds while the logs grow
 pub grown-sound : (c : Core) (l : Logs) (t : Table) (next : ℕ) → whenServing (c .stage) ≡ true → sound c ≡ true
     → ((d : ℕ) → startOf l d ≡ startOf (c .logs) d) → ((d : ℕ) → endOf (c .logs) d ≤ endOf l d)
-    → servingSound (changed c l t next) ≡ true → sound (changed c l t next) ≡ true
+    → servingSound (servingWith c l t next) ≡ true → sound (servingWith c l t next) ≡ true
 unfolding sound
 grown-sound c l t next serving s starts ends ok = go (c .stage) refl serving
   where
-    copying : CheckpointSound c → CheckpointSound (changed c l t next)
+    copying : CheckpointSound c → CheckpointSound (servingWith c l t next)
     copying k =
         record {
           epoch = k .epoch;
@@ -40,11 +35,11 @@ grown-sound c l t next serving s starts ends ok = go (c .stage) refl serving
           ends = λ d h. (omega (arith, starts d, k .ends d h .0), omega (arith, ends d, k .ends d h .1));
         }
 
-    go : (g : Stage) → c .stage ≡ g → whenServing g ≡ true → soundIn g (changed c l t next) ≡ true
+    go : (g : Stage) → c .stage ≡ g → whenServing g ≡ true → soundIn g (servingWith c l t next) ≡ true
     go Shut e h = true-false refl (sym h)
     go Replaying e h = true-false refl (sym h)
     go Open e h = ok
-    go Copying e h = rw (ok, checkpoint-test (changed c l t next) (copying (checkpoint-sound c (rw e) s)))
+    go Copying e h = rw (ok, checkpoint-test (servingWith c l t next) (copying (checkpoint-sound c (rw e) s)))
 
 -- What the entry of a transaction on disk d has to satisfy, where the log of d grew by `grow` words.
 pub record Held (c : Core) (d grow disk first reserved : ℕ) : Type 0 where
@@ -63,7 +58,7 @@ module _ (c : Core) (serving : whenServing (c .stage) ≡ true) (s : sound c ≡
   table = withPlace (c .table) p number disk first reserved
 
   abbrev after : Core
-  after = changed c l table next
+  after = servingWith c l table next
 
   ends : (e : ℕ) → endOf (c .logs) e ≤ endOf l e
   ends e = go (ℕ-discrete e d)
@@ -150,7 +145,7 @@ module _ (c : Core) (serving : whenServing (c .stage) ≡ true) (s : sound c ≡
             disk-after e 0 h (room-none c e (disk-sound c e ok h)) (omega (arith, other-ends g e ne, by-other e ne, moved e))
 
     -- so the state with the entry and the longer log is sound
-    pub entry-sound : sound (changed c l (withPlace (c .table) p number disk first reserved) next) ≡ true
+    pub entry-sound : sound (servingWith c l (withPlace (c .table) p number disk first reserved) next) ≡ true
     entry-sound =
         grown-sound c l table next serving s (g .start-same) ends
         (serving-test after (sizes-sound c ok) disks-after (λ i h. place i h (ℕ-discrete i p)))
