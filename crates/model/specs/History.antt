@@ -1,6 +1,7 @@
 -- What the calls put into the logs: for each accepted call the records that it appends. They are told without the log and without the
 -- page memory: an update's difference is against the plain table of the reference, and an abort's compensations are of the updates
--- that were put under its number. Of the state they take the transaction's disk and the page's copy number, which `Truth` speaks of.
+-- that were put under its number. Of the state they take the page's copy number, which `Truth` speaks of, and the transaction's disk,
+-- which begin's definition gives.
 use Prim.Native.Nat.{ℕ}
 use mathlib.Core.List.{List, [], _∷_, _++_, map}
 use mathlib.Core.Bool.{cond}

@@ -9,20 +9,21 @@ use Rattle.model.specs.declared.Stage.the-variants.{Shut, Replaying}
 use Rattle.model.specs.declared.Sizes.{Sizes}
 use Rattle.model.specs.declared.Core.{Core}
 use Rattle.model.specs.declared.Fate.{Fate}
-use Rattle.model.specs.Sizes.{slotsIn, slotBase, total, ringOf, tailWord}
+use Rattle.model.specs.Word.{part}
+use Rattle.model.specs.Sizes.{slotsIn, slotBase, pageBase, pageWords, total, ringOf, tailWord}
 use Rattle.model.specs.Anchor.{epochOn, sizesOn, startOn}
 use Rattle.model.specs.Record.{Record, change, close, commitKind, encode, encodeAll}
 use Rattle.model.specs.Decode.{readLog, decoded}
 use Rattle.model.specs.Scan.{Scan, scan, placed, fateIn, updatesIn, updateWords, oldest}
 use Rattle.model.specs.World.{World, Action, store, write, anchor, backups, logs, each}
 use Rattle.model.specs.Memory.{bufferOf, copyOf}
-use Rattle.model.specs.State.{limit, startOf, keptOf, tailOf, fillOf, endOf, isOpen, placeOf, firstAt, reservedAt, hasUpdate}
+use Rattle.model.specs.State.{limit, withReplay, startOf, keptOf, tailOf, fillOf, endOf, isOpen, placeOf, firstAt, reservedAt, hasUpdate}
 use Rattle.model.specs.Refusal.{numberOf, verdict, accepted}
 use Rattle.model.specs.Causes.{whenServing, tailOn, retained, locked}
 use Rattle.model.specs.Append.{storeLog}
 use Rattle.model.specs.Transaction.{diskOf, readWords, commitRows, commitTask}
 use Rattle.model.specs.Abort.{abortScan, updatesLeft, xorIn}
-use Rattle.model.specs.Restart.{positionOf, remaining, replays, readDisk, fateFrom, nextRecord, restartStepTask}
+use Rattle.model.specs.Restart.{positionOf, remaining, replays, readDisk, fateFrom, nextRecord, movedTo, restartStepTask}
 use Rattle.model.specs.Call.{Call, format, look, read, restartBegin, restartStep, restartEnd}
 use Rattle.model.specs.Image.{Image, retainedWords, imageOf, logOf, restarted}
 use Rattle.model.specs.Reference.{Reference, taken, slotIndex, wordsIn, plainTable, hasSet, writtenByOther}
@@ -125,7 +126,8 @@ pub record Buffered (t : Told) (c : Core) (w : World) (disk : ℕ) (kept rest : 
 
 -- While it replays, the steps have taken the first records of the stretch and the others are left. From its position on a log step's
 -- reader finds these and no others: the record that the step takes is the first of them, and it looks for a closing record among those
--- after it. "Each replay step changes the pages by the item it took": by that record's difference, or by nothing.
+-- after it. The step takes exactly that record: its position moves to behind the record's words, and nothing else of the state changes.
+-- "Each replay step changes the pages by the item it took": by that record's difference, or by nothing.
 pub record StepReads (c : Core) (w : World) (disk : ℕ) (kept : List Record) : Type 0 where
   pub done : List Record
   pub left : List Record
@@ -136,6 +138,8 @@ pub record StepReads (c : Core) (w : World) (disk : ℕ) (kept : List Record) : 
   pub ahead : (r : Record) (more : List Record) → left ≡ r ∷ more → (number : ℕ)
       → let next : ℕ = positionOf c disk + length (encode r) in
       fateFrom c w disk number next ≡ fateIn number (placed next more)
+  pub moves : (r : Record) (more : List Record) → left ≡ r ∷ more
+      → restartStepTask c w disk .core ≡ movedTo c disk (positionOf c disk + length (encode r))
   pub changes : (kind page slot number copy : ℕ) (diff : List ℕ) (more : List Record) → left ≡ change kind page slot number copy diff ∷ more
       → let fate : Fate = fateIn number (placed (positionOf c disk + (3 + length diff)) more) in
       restartStepTask c w disk .actions ≡ cond (replays (c .epoch) fate copy) (xorIn (slotBase (c .sizes) page slot) diff (w .pages)) []
@@ -156,7 +160,19 @@ LogKept =
     let t : Told = history events (formatted m s budget) nothingTold in
     (disk : ℕ) → disk < sizesOn (n .world .anchor) .disks → LogOf n t disk
 
--- No call ever finds a malformed record.
+-- While it replays and pages are left, a backup step changes the pages by the next page of the backup that the anchor's number names,
+-- and by nothing else, and goes on to the page after it; the logs' positions stay.
+pub record BackupStep (c : Core) (w : World) (page : ℕ) : Type 0 where
+  pub changes : restartStepTask c w (c .sizes .disks) .actions
+      ≡ xorIn (pageBase (c .sizes) page) (part (pageBase (c .sizes) page) (pageWords (c .sizes) page) (imageOf w .backup)) (w .pages)
+  pub moves : restartStepTask c w (c .sizes .disks) .core ≡ withReplay c (record { positions = c .replay .positions; page = page + 1 })
+
+unfoldable pub BackupSteps : Type 0
+BackupSteps =
+    Always λ m r. m .core .stage ≡ Replaying → m .core .replay .page < m .core .sizes .pages
+    → BackupStep (m .core) (m .world) (m .core .replay .page)
+
+-- No call on the machine's own slices ever finds a malformed record.
 unfoldable pub NeverMalformed : Type 0
 NeverMalformed = Always λ m r. (k : Call) → numberOf (result m k .answer) ≡ 7 → ⊥
 

@@ -11,9 +11,9 @@ use Rattle.model.specs.Restart.{remaining}
 use Rattle.model.specs.Call.{Call, restartBegin, restartStep, restartEnd}
 use Rattle.model.specs.Reference.{outcomeOf, Reference, hear}
 use Rattle.model.specs.Machine.{Machine, result, outcome, Run}
-use Rattle.model.specs.Promise.{Always, PowerLoss, RestartAccepted, RestartFinishes, LogKept, StateTrue, NeverMalformed, ClosingFits, LogOf}
-use Rattle.model.specs.Trace.{Observed, seen, EventInCode, callInCode, On, afterInCode, followInCode, AllowedAllInCode, formattedInCode, AlwaysInCode, PowerLossInCode, EachRestartEnd, RestartAcceptedInCode, RestartFinishesInCode, LogKeptInCode, StateTrueInCode, NeverMalformedInCode, ClosingFitsInCode}
-use Rattle.model.proofs.PowerLoss.{power-loss, restart-accepted, log-kept, state-true, never-malformed}
+use Rattle.model.specs.Promise.{Always, PowerLoss, RestartAccepted, RestartFinishes, LogKept, BackupSteps, StateTrue, NeverMalformed, ClosingFits, LogOf}
+use Rattle.model.specs.Trace.{Observed, seen, EventInCode, callInCode, On, afterInCode, followInCode, AllowedAllInCode, formattedInCode, AlwaysInCode, PowerLossInCode, EachRestartEnd, RestartAcceptedInCode, RestartFinishesInCode, LogKeptInCode, BackupStepsInCode, StateTrueInCode, NeverMalformedInCode, ClosingFitsInCode}
+use Rattle.model.proofs.PowerLoss.{power-loss, restart-accepted, log-kept, backup-steps, state-true, never-malformed}
 use Rattle.model.proofs.Finish.{restart-finishes}
 use Rattle.model.proofs.Sound.Lists.{closing-fits}
 use Rattle.model.proofs.Trace.Events.{as-machine, each-trace, in-code}
@@ -89,6 +89,11 @@ restart-finishes-in-code =
           );
       ends = λ e budget is on none enough. gave-outcome m e (restartEnd budget) is on ∙ f .ends budget none enough;
     })
+
+-- A backup step takes the next page.
+pub backup-steps-in-code : BackupStepsInCode
+unfolding BackupStepsInCode BackupSteps
+backup-steps-in-code = in-code _ backup-steps
 
 -- What the state says is true.
 pub state-true-in-code : StateTrueInCode
