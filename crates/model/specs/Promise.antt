@@ -87,15 +87,17 @@ Table = Always λ m r. whenServing (m .core .stage) ≡ true → PlainTable m r
 
 -- The log: "The log's reader finds the records that its writer put there, and no others." What the calls put is told in
 -- specs/History.antt. In every stage, so also after lost power: of the records put on a disk since its log began, some are old, then
--- comes a stretch that is kept, then the rest. The start lies behind the words of the old ones and the tail behind those of the stretch,
--- whose words stand between; and the reader of restart begin (`finds`), as the one that the restarted pages are defined by (`reads`),
--- finds the stretch, each record at its position, and no others. The rest is in the buffer, or lost with it.
+-- comes a stretch that is kept, then the rest. The start lies behind the words of the old ones; it is the told one: the remembered end of
+-- the last checkpoint that ended, or the first record of a transaction still open then, if that is smaller. The tail lies behind the
+-- words of the stretch, which stand between; and the reader of restart begin (`finds`), as the one that the restarted pages are defined by
+-- (`reads`), finds the stretch, each record at its position, and no others. The rest is in the buffer, or lost with it.
 pub record Stored (t : Told) (w : World) (disk : ℕ) : Type 0 where
   pub old : List Record
   pub kept : List Record
   pub rest : List Record
   pub parts : recordsOn disk (t .puts) ≡ old ++ (kept ++ rest)
   pub start : startOn (w .anchor) disk ≡ t .base disk + length (encodeAll old)
+  pub since : startOn (w .anchor) disk ≡ t .starts disk
   pub tail : tailOn (sizesOn (w .anchor)) w disk ≡ t .base disk + length (encodeAll (old ++ kept))
   pub words : retainedWords (sizesOn (w .anchor)) w disk ≡ encodeAll kept
   pub finds : retained (sizesOn (w .anchor)) w disk ≡ placed (startOn (w .anchor) disk) kept
