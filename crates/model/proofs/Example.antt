@@ -9,7 +9,7 @@ use Rattle.model.specs.Call.{format, begin, update, commit, abort, check
 use Rattle.model.specs.Reference.{taken}
 use Rattle.model.specs.Machine.{Machine, Event, call, scramble, outcome, result, follow, allowedAll, formatted}
 use Rattle.model.specs.Record.{change, close, updateKind, compensationKind, commitKind, abortKind}
-use Rattle.model.specs.History.{nothingTold, history}
+use Rattle.model.specs.History.{nothingTold, endPut, startPut, history}
 use Rattle.model.proofs.Everything.{everything}
 use Rattle.model.proofs.Play.{unformatted}
 use Rattle.model.proofs.Positions.{plenty, small}
@@ -39,8 +39,17 @@ start = unformatted (small 1)
 pub few : List Event
 few = map call (begin ∷ update 1 0 0 (2 ∷ []) plenty ∷ commit 1 plenty ∷ begin ∷ update 2 0 0 (12 ∷ []) plenty ∷ abort 2 plenty ∷ [])
 
+-- a checkpoint during which one transaction commits and another makes its first update, and the whole of a next one
+pub during : List Event
+during =
+    map call (begin ∷ update 1 0 0 (2 ∷ []) plenty ∷ checkpointBegin ∷ checkpointStep plenty ∷ commit 1 plenty
+    ∷ begin ∷ update 2 0 0 (12 ∷ []) plenty ∷ checkpointEnd plenty ∷ [])
+
+pub next : List Event
+next = map call (checkpointBegin ∷ checkpointStep plenty ∷ checkpointEnd plenty ∷ [])
+
 opens : ℕ
-unfolding everything unformatted small restart writing events start few
+unfolding everything unformatted small restart writing events start few during next endPut startPut
 opens = 0
 
 -- the format finishes, the events are allowed, and the last restart end is taken
@@ -66,3 +75,10 @@ example-puts = refl
 pub example-base : history (few ++ call newState ∷ [] ++ restart 2 ++ call (restartEnd plenty) ∷ []) (formatted start (small 1) plenty) nothingTold .base 0 ≡ 6
 unfolding opens
 example-base = refl
+
+-- the first checkpoint moves the start behind the one record that it found when it began; the second to the first record of the
+-- transaction that is still open
+pub example-starts : (history during (formatted start (small 1) plenty) nothingTold .starts 0 ≡ 4)
+    × (history (during ++ next) (formatted start (small 1) plenty) nothingTold .starts 0 ≡ 6)
+unfolding opens
+example-starts = (refl, refl)

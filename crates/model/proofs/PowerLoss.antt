@@ -17,10 +17,11 @@ use Rattle.model.specs.Restart.{restartEndRows}
 use Rattle.model.specs.Call.{Call, format, restartEnd, resultOf}
 use Rattle.model.specs.Reference.{Reference, taken, refused, outcomeOf, hear, heardOf, wordsIn}
 use Rattle.model.specs.Machine.{Machine, Event, call, lent, scramble, result, outcome, isRefused, allowed, after, referred, Run, follow, allowedAll, formatted}
-use Rattle.model.specs.Promise.{Always, PowerLoss, RestartAccepted, Table, LogOf, LogKept, StateTrue, NeverMalformed}
+use Rattle.model.specs.Promise.{Always, PowerLoss, RestartAccepted, Table, LogOf, LogKept, StateTrue, NeverMalformed, BackupSteps}
 use Rattle.model.specs.History.{Told, nothingTold, told, history}
 use Rattle.model.proofs.Booleans.{true-false}
 use Rattle.model.proofs.Restart.Taken.{taken-call}
+use Rattle.model.proofs.Restart.BackupStep.{backup-step}
 use Rattle.model.proofs.Restart.End.{end-gives}
 use Rattle.model.proofs.Store.Format.{format-serves}
 use Rattle.model.proofs.Store.Holding.{Holding, shut, replaying, serving, holding-kept, served, stopped, replayed}
@@ -132,6 +133,11 @@ pub log-kept : LogKept
 unfolding LogKept
 log-kept m s budget formats events a =
     log-holds (follow-holds events nothingTold (formatted m s budget) (format-holds m s budget formats) a)
+
+-- A backup step takes the next page.
+pub backup-steps : BackupSteps
+unfolding BackupSteps
+backup-steps = always _ (λ puts m r h e left. backup-step (m .core) (m .world) (replayed h (ap whenReplaying e) .progress) left)
 
 -- What the state says is true.
 pub state-true : StateTrue

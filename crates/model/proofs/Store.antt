@@ -50,6 +50,7 @@ pub mod FlushAll
 pub mod Starts
 pub mod Later
 pub mod NewStarts
+pub mod ToldStarts
 pub mod Switch
 pub mod CheckpointEnd
 -- All of them.

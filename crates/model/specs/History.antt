@@ -1,38 +1,45 @@
 -- What the calls put into the logs: for each accepted call the records that it appends. They are told without the log and without the
 -- page memory: an update's difference is against the plain table of the reference, and an abort's compensations are of the updates
--- that were put under its number. Of the state they take the transaction's disk and the page's copy number, which `Truth` speaks of.
-use Prim.Native.Nat.{ℕ}
+-- that were put under its number. Of the state they take the page's copy number, which `Truth` speaks of, and the transaction's disk,
+-- which begin's definition gives. From what was put, and from the open write sets, it is told where each log starts.
+use Prim.Native.Nat.{ℕ, _+_, min}
 use mathlib.Core.List.{List, [], _∷_, _++_, map}
 use mathlib.Core.Bool.{cond}
 use lib.Dec.{eqb}
-use lib.ListN.{getD}
+use lib.ListN.{length, getD}
 use Rattle.model.specs.declared.Core.{Core}
 use Rattle.model.specs.Word.{xors}
-use Rattle.model.specs.Record.{Record, change, close, updateKind, compensationKind, commitKind, abortKind}
-use Rattle.model.specs.Scan.{Update, placed, updatesIn}
+use Rattle.model.specs.Record.{Record, change, close, updateKind, compensationKind, commitKind, abortKind, encodeAll}
+use Rattle.model.specs.Scan.{Update, placed, updatesIn, oldest}
 use Rattle.model.specs.World.{World}
 use Rattle.model.specs.Memory.{copyOf}
 use Rattle.model.specs.Causes.{tailOn}
 use Rattle.model.specs.Transaction.{diskOf}
 use Rattle.model.specs.Call.{Call, format, begin, update, look, commit, abort, checkpointBegin, checkpointStep, checkpointEnd, restartBegin, restartStep, restartRun, restartEnd, newState}
-use Rattle.model.specs.Reference.{Reference, Outcome, taken, refused, interrupted, slotIndex, plainTable}
+use Rattle.model.specs.Reference.{Reference, Outcome, taken, refused, interrupted, slotIndex, plainTable, WriteSet}
 use Rattle.model.specs.Machine.{Event, call, lent, scramble, outcome, after, referred, Run}
 
 pub record Put : Type 0 where
   pub disk : ℕ
   pub content : Record
 
--- Where the log of each disk began, and what was put since.
+-- Where the log of each disk began, and what was put since; each disk's end when the last checkpoint began; and where its log starts.
 pub record Told : Type 0 where
   pub base : ℕ → ℕ
   pub puts : List Put
+  pub marks : ℕ → ℕ
+  pub starts : ℕ → ℕ
+
+-- logs that begin at `base`, where nothing was put yet
+abbrev pub emptyFrom : (ℕ → ℕ) → Told
+emptyFrom base = record { base = base; puts = []; marks = base; starts = base }
 
 -- "each tail 0"
 unfoldable pub nothingTold : Told
-nothingTold = record { base = λ disk. 0; puts = [] }
+nothingTold = emptyFrom (λ disk. 0)
 
 abbrev pub also : Told → List Put → Told
-also t more = record { base = t .base; puts = t .puts ++ more }
+also t more = record { base = t .base; puts = t .puts ++ more; marks = t .marks; starts = t .starts }
 
 -- the records put on one disk
 unfoldable pub recordsOn : ℕ → List Put → List Record
@@ -46,7 +53,7 @@ updatePut x number page slot value =
     let before : List ℕ = getD (plainTable r) (slotIndex (r .sizes) page slot) [] in
     change updateKind page slot number (copyOf (x .machine .core .sizes) (x .machine .world .work) page) (xors before value)
 
--- the updates put under a number on its disk, newest first
+-- the updates put under a number on a disk, newest first
 unfoldable pub updatesPut : Told → ℕ → ℕ → List Update
 updatesPut t disk number = updatesIn number (placed (t .base disk) (recordsOn disk (t .puts)))
 
@@ -79,10 +86,32 @@ putBy (restartRun source most) x t = []
 putBy (restartEnd budget) x t = []
 putBy newState x t = []
 
--- Where a call leaves the logs empty: a format, and a restart end, "all pages to backup (c + 1) mod 2; each tail into row (c + 1) mod 2;
--- c := c + 1". What was put before it is told no more, and each log begins at its tail.
+-- Checkpoint begin: "each disk's end (tail plus buffered) is remembered". The end lies behind the words of all that was put.
+unfoldable pub endPut : Told → ℕ → ℕ
+endPut t disk = t .base disk + length (encodeAll (recordsOn disk (t .puts)))
+
+abbrev pub marked : Told → Told
+marked t = record { base = t .base; puts = t .puts; marks = endPut t; starts = t .starts }
+
+-- a position, or that of the oldest update, if that is smaller
+abbrev pub orOldest : ℕ → List Update → ℕ
+orOldest p [] = p
+orOldest p (u ∷ us) = min p (oldest (u ∷ us))
+
+-- Checkpoint end: "A start is the remembered end, or the first record of a transaction of that disk still open, if that is smaller."
+-- The open transactions are those with a write set; one that has put no update on the disk has no record there.
+unfoldable pub startPut : Told → List WriteSet → ℕ → ℕ
+startPut t [] disk = t .marks disk
+startPut t (x ∷ xs) disk = orOldest (startPut t xs disk) (updatesPut t disk (x .number))
+
+abbrev pub startedFrom : (ℕ → ℕ) → Told → Told
+startedFrom starts t = record { base = t .base; puts = t .puts; marks = t .marks; starts = starts }
+
+-- What a taken call does to that. A format, and a restart end, "all pages to backup (c + 1) mod 2; each tail into row (c + 1) mod 2;
+-- c := c + 1", leave the logs empty: what was put before is told no more, and each log begins at its tail. A checkpoint's begin sets the
+-- marks, its end the starts; an end that is cut has not stored c, and the old starts stand.
 abbrev pub emptied : Call → Run → Told → Told
-emptied (restartEnd budget) x t = record { base = tailOn (x .machine .core .sizes) (x .machine .world); puts = [] }
+emptied (restartEnd budget) x t = emptyFrom (tailOn (x .machine .core .sizes) (x .machine .world))
 emptied (format s budget) x t = nothingTold
 emptied newState x t = t
 emptied begin x t = t
@@ -90,9 +119,9 @@ emptied (update number page slot value budget) x t = t
 emptied (look q) x t = t
 emptied (commit number budget) x t = t
 emptied (abort number budget) x t = t
-emptied checkpointBegin x t = t
+emptied checkpointBegin x t = marked t
 emptied (checkpointStep budget) x t = t
-emptied (checkpointEnd budget) x t = t
+emptied (checkpointEnd budget) x t = startedFrom (startPut t (x .reference .writeSets)) t
 emptied restartBegin x t = t
 emptied (restartStep source) x t = t
 emptied (restartRun source most) x t = t

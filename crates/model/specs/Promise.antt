@@ -9,20 +9,21 @@ use Rattle.model.specs.declared.Stage.the-variants.{Shut, Replaying}
 use Rattle.model.specs.declared.Sizes.{Sizes}
 use Rattle.model.specs.declared.Core.{Core}
 use Rattle.model.specs.declared.Fate.{Fate}
-use Rattle.model.specs.Sizes.{slotsIn, slotBase, total, ringOf, tailWord}
+use Rattle.model.specs.Word.{part}
+use Rattle.model.specs.Sizes.{slotsIn, slotBase, pageBase, pageWords, total, ringOf, tailWord}
 use Rattle.model.specs.Anchor.{epochOn, sizesOn, startOn}
 use Rattle.model.specs.Record.{Record, change, close, commitKind, encode, encodeAll}
 use Rattle.model.specs.Decode.{readLog, decoded}
 use Rattle.model.specs.Scan.{Scan, scan, placed, fateIn, updatesIn, updateWords, oldest}
 use Rattle.model.specs.World.{World, Action, store, write, anchor, backups, logs, each}
 use Rattle.model.specs.Memory.{bufferOf, copyOf}
-use Rattle.model.specs.State.{limit, startOf, keptOf, tailOf, fillOf, endOf, isOpen, placeOf, firstAt, reservedAt, hasUpdate}
+use Rattle.model.specs.State.{limit, startOf, keptOf, tailOf, fillOf, endOf, isOpen, placeOf, firstAt, reservedAt, hasUpdate, withReplay}
 use Rattle.model.specs.Refusal.{numberOf, firstOf, verdict, accepted}
 use Rattle.model.specs.Causes.{whenServing, tailOn, retained, locked}
 use Rattle.model.specs.Append.{storeLog}
 use Rattle.model.specs.Transaction.{diskOf, readWords, commitRows, commitTask}
 use Rattle.model.specs.Abort.{abortScan, updatesLeft, xorIn}
-use Rattle.model.specs.Restart.{positionOf, remaining, replays, readDisk, fateFrom, nextRecord, restartStepTask}
+use Rattle.model.specs.Restart.{positionOf, remaining, replays, readDisk, fateFrom, nextRecord, restartStepTask, movedTo}
 use Rattle.model.specs.Call.{Call, format, look, read, restartBegin, restartStep, restartRun, restartEnd}
 use Rattle.model.specs.Image.{Image, retainedWords, imageOf, logOf, restarted}
 use Rattle.model.specs.Reference.{Reference, taken, refused, slotIndex, wordsIn, plainTable, hasSet, writtenByOther}
@@ -90,15 +91,17 @@ Table = Always λ m r. whenServing (m .core .stage) ≡ true → PlainTable m r
 
 -- The log: "The log's reader finds the records that its writer put there, and no others." What the calls put is told in
 -- specs/History.antt. In every stage, so also after lost power: of the records put on a disk since its log began, some are old, then
--- comes a stretch that is kept, then the rest. The start lies behind the words of the old ones and the tail behind those of the stretch,
--- whose words stand between; and the reader of restart begin (`finds`), as the one that the restarted pages are defined by (`reads`),
--- finds the stretch, each record at its position, and no others. The rest is in the buffer, or lost with it.
+-- comes a stretch that is kept, then the rest. The start lies behind the words of the old ones; it is the told one: the remembered end of
+-- the last checkpoint that ended, or the first record of a transaction still open then, if that is smaller. The tail lies behind the
+-- words of the stretch, which stand between; and the reader of restart begin (`finds`), as the one that the restarted pages are defined by
+-- (`reads`), finds the stretch, each record at its position, and no others. The rest is in the buffer, or lost with it.
 pub record Stored (t : Told) (w : World) (disk : ℕ) : Type 0 where
   pub old : List Record
   pub kept : List Record
   pub rest : List Record
   pub parts : recordsOn disk (t .puts) ≡ old ++ (kept ++ rest)
   pub start : startOn (w .anchor) disk ≡ t .base disk + length (encodeAll old)
+  pub since : startOn (w .anchor) disk ≡ t .starts disk
   pub tail : tailOn (sizesOn (w .anchor)) w disk ≡ t .base disk + length (encodeAll (old ++ kept))
   pub words : retainedWords (sizesOn (w .anchor)) w disk ≡ encodeAll kept
   pub finds : retained (sizesOn (w .anchor)) w disk ≡ placed (startOn (w .anchor) disk) kept
@@ -129,7 +132,8 @@ pub record Buffered (t : Told) (c : Core) (w : World) (disk : ℕ) (kept rest : 
 
 -- While it replays, the steps have taken the first records of the stretch and the others are left. From its position on a log step's
 -- reader finds these and no others: the record that the step takes is the first of them, and it looks for a closing record among those
--- after it. "Each replay step changes the pages by the item it took": by that record's difference, or by nothing.
+-- after it. The step takes exactly that record: its position moves to behind the record's words, and nothing else of the state changes.
+-- "Each replay step changes the pages by the item it took": by that record's difference, or by nothing.
 pub record StepReads (c : Core) (w : World) (disk : ℕ) (kept : List Record) : Type 0 where
   pub done : List Record
   pub left : List Record
@@ -140,6 +144,8 @@ pub record StepReads (c : Core) (w : World) (disk : ℕ) (kept : List Record) : 
   pub ahead : (r : Record) (more : List Record) → left ≡ r ∷ more → (number : ℕ)
       → let next : ℕ = positionOf c disk + length (encode r) in
       fateFrom c w disk number next ≡ fateIn number (placed next more)
+  pub moves : (r : Record) (more : List Record) → left ≡ r ∷ more
+      → restartStepTask c w disk .core ≡ movedTo c disk (positionOf c disk + length (encode r))
   pub changes : (kind page slot number copy : ℕ) (diff : List ℕ) (more : List Record) → left ≡ change kind page slot number copy diff ∷ more
       → let fate : Fate = fateIn number (placed (positionOf c disk + (3 + length diff)) more) in
       restartStepTask c w disk .actions ≡ cond (replays (c .epoch) fate copy) (xorIn (slotBase (c .sizes) page slot) diff (w .pages)) []
@@ -160,7 +166,19 @@ LogKept =
     let t : Told = history events (formatted m s budget) nothingTold in
     (disk : ℕ) → disk < sizesOn (n .world .anchor) .disks → LogOf n t disk
 
--- No call ever finds a malformed record.
+-- While it replays and pages are left, a backup step changes the pages by the next page of the backup that the anchor's number names,
+-- and by nothing else, and goes on to the page after it; the logs' positions stay.
+pub record BackupStep (c : Core) (w : World) (page : ℕ) : Type 0 where
+  pub changes : restartStepTask c w (c .sizes .disks) .actions
+      ≡ xorIn (pageBase (c .sizes) page) (part (pageBase (c .sizes) page) (pageWords (c .sizes) page) (imageOf w .backup)) (w .pages)
+  pub moves : restartStepTask c w (c .sizes .disks) .core ≡ withReplay c (record { positions = c .replay .positions; page = page + 1 })
+
+unfoldable pub BackupSteps : Type 0
+BackupSteps =
+    Always λ m r. m .core .stage ≡ Replaying → m .core .replay .page < m .core .sizes .pages
+    → BackupStep (m .core) (m .world) (m .core .replay .page)
+
+-- No call on the machine's own slices ever finds a malformed record.
 unfoldable pub NeverMalformed : Type 0
 NeverMalformed = Always λ m r. (k : Call) → numberOf (result m k .answer) ≡ 7 → ⊥
 

@@ -22,7 +22,7 @@ use Rattle.model.specs.Call.{Call, format, update, look, read, commit, r
 use Rattle.model.specs.Reference.{Outcome, taken, refused, interrupted, outcomeOf, Reference, blank, heardOf, hear, slotIndex, wordsIn, plainTable, writtenByOther}
 use Rattle.model.specs.Machine.{Machine, result, outcome, isRefused, scrambled, Run}
 use Rattle.model.specs.History.{Told, nothingTold, toldBy}
-use Rattle.model.specs.Promise.{RunMakes, PlainTable, LogOf, Truth, Closable}
+use Rattle.model.specs.Promise.{RunMakes, PlainTable, LogOf, Truth, Closable, BackupStep}
 
 -- A call of the code as it was observed: the call with its arguments; the state and the words that it got; the answer and the state
 -- that it handed back; the budget that it left, 0 for a call that takes none; the words as it left them. A new state touches no word;
@@ -220,6 +220,12 @@ LogKeptInCode =
     → let n : Machine = followInCode events (formattedInCode o s) .machine in
     let t : Told = historyInCode events (formattedInCode o s) nothingTold in
     (disk : ℕ) → disk < sizesOn (n .world .anchor) .disks → LogOf n t disk
+
+-- A backup step, on the state and the words that the code's calls left.
+unfoldable pub BackupStepsInCode : Type 0
+BackupStepsInCode =
+    AlwaysInCode λ m r. m .core .stage ≡ Replaying → m .core .replay .page < m .core .sizes .pages
+    → BackupStep (m .core) (m .world) (m .core .replay .page)
 
 -- The state that the code hands back says what is true of the words that it left.
 unfoldable pub StateTrueInCode : Type 0

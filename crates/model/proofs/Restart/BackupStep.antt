@@ -1,12 +1,13 @@
 -- A restart step from the backup keeps the progress: the page that it takes adds to the pages what the rest of the backup has less.
-use mathlib.Core.Path.{_≡_, sym, ap, _∙_}
+use mathlib.Core.Path.{_≡_, sym, ap, subst, _∙_}
 use mathlib.Core.List.{List}
 use Prim.Native.Nat.{ℕ, _+_, _-_, _≤_, _<_}
 use native.Mathlib.Omega.{arith}
 use native.Mathlib.Decide.{decLt}
 use lib.Dec.{leb}
 use lib.ListN.{length, getD}
-use borrow.Author.Tests.{le-leb, lt-leb}
+use lib.Seq.{ext-getD}
+use borrow.Author.Tests.{le-leb, lt-leb, le-ltb}
 use Rattle.model.specs.declared.Sizes.{Sizes}
 use Rattle.model.specs.declared.Core.{Core}
 use Rattle.model.specs.Word.{_⊕_, part}
@@ -15,8 +16,9 @@ use Rattle.model.specs.Anchor.{backupAt}
 use Rattle.model.specs.World.{World, perform}
 use Rattle.model.specs.Causes.{tailIn}
 use Rattle.model.specs.State.{withReplay}
-use Rattle.model.specs.Restart.{positionOf, readDisk, backupStep}
+use Rattle.model.specs.Restart.{positionOf, readDisk, backupStep, restartStepTask}
 use Rattle.model.specs.Image.{imageOf, xorAt, restarted, wordsFrom, imageFrom}
+use Rattle.model.specs.Promise.{BackupStep}
 use Rattle.model.proofs.Ledger.Entry.{mask, spanning, share}
 use Rattle.model.proofs.Xor.{xor, ⊕-zero-l, ⊕-zero-r}
 use Rattle.model.proofs.Restart.Words.{length-xor-at, xor-at-word, withPages, perform-xor}
@@ -115,6 +117,31 @@ module _ (c : Core) (w : World) (m : Progress c w) (h : c .replay .page < c .siz
         clean = m .clean;
         page = omega arith;
         words = backup-words;
+      }
+
+  -- the step takes its page of the image's backup
+  page-of-backup : part (pageBase (c .sizes) (c .replay .page)) (pageWords (c .sizes) (c .replay .page)) (imageOf w .backup) ≡ diff
+  unfolding diff
+  page-of-backup =
+      let s : Sizes = c .sizes in
+      let at : ℕ = backupAt s (c .epoch) in
+      let page : ℕ = c .replay .page in
+      let whole : List ℕ = part at (total s) (w .backups) in
+      let long = length-part (pageBase s page) (pageWords s page) whole (omega (arith, page-end s page h, length-part at (total s) (w .backups) fits)) in
+      rw image-backup
+      (ext-getD 0 _ _ (long ∙ sym (page-length s at page (w .backups) h fits)) (λ i l.
+      let inside : i < pageWords s page = subst (λ (n : ℕ). i < n) long l in
+      getD-part (pageBase s page) (pageWords s page) whole i inside
+      ∙ getD-part at (total s) (w .backups) (pageBase s page + i) (omega (arith, page-end s page h))
+      ∙ ap (λ (j : ℕ). getD (w .backups) j 0) (omega arith)
+      ∙ sym (getD-part (at + pageBase s page) (pageWords s page) (w .backups) i inside)))
+
+  pub backup-step : BackupStep c w (c .replay .page)
+  unfolding restartStepTask backupStep diff
+  backup-step =
+      record {
+        changes = rw (le-ltb (c .sizes .disks) (c .sizes .disks) (omega arith), page-of-backup);
+        moves = rw (le-ltb (c .sizes .disks) (c .sizes .disks) (omega arith));
       }
 
   pub backup-progress : Progress (backupStep c w .core) (perform (backupStep c w .actions) w)

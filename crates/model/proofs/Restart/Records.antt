@@ -102,6 +102,15 @@ module _ (c : Core) (w : World) (d : ℕ) (below : d < c .sizes .disks) where
   unfolding restartStepTask
   step-close kind number takes = rw (lt-ltb d (c .sizes .disks) below, takes)
 
+  record-moves : (r : Record) → recordStep c w d (decoded (positionOf c d) r) .core ≡ movedTo c d (positionOf c d + length (encode r))
+  unfolding encode
+  record-moves (change kind page slot number copy diff) = ap (movedTo c d) (omega arith)
+  record-moves (close kind number) = refl
+
+  step-moves : (r : Record) → nextRecord c w d ≡ decoded (positionOf c d) r → restartStepTask c w d .core ≡ movedTo c d (positionOf c d + length (encode r))
+  unfolding restartStepTask
+  step-moves r takes = rw (lt-ltb d (c .sizes .disks) below, takes) (record-moves r)
+
 -- What is left of a disk's log from q on, where a state of the same logs has come to q.
 module _ (c now : Core) {w v : World} (sizes : now .sizes ≡ c .sizes) (logs : now .logs ≡ c .logs) (devices : SameDevices v w) (d : ℕ)
     (below : d < c .sizes .disks) where
@@ -121,6 +130,7 @@ module _ (c now : Core) {w v : World} (sizes : now .sizes ≡ c .sizes) (logs : 
         reads = rw (sizes, logs, words, here) reads;
         takes = λ r more e. rw (sizes, logs, words, here) (first r more (rw e at reads) .takes);
         ahead = λ r more e number. rw (sizes, logs, words, here) (ap (fateIn number) (first r more (rw e at reads) .ahead));
+        moves = λ r more e. step-moves now v d (rw sizes below) r (rw (sizes, logs, words, here) (first r more (rw e at reads) .takes));
         changes = λ kind page slot number copy diff more e.
             let f = first (change kind page slot number copy diff) more (rw e at reads) in
             let long : q + length (encode (change kind page slot number copy diff)) ≡ q + (3 + length diff) = omega arith in
@@ -156,16 +166,12 @@ module _ {c : Core} {w : World} (p : Progress c w) where
   unfolding encode encodeAll movedTo withReplay positionOf
   moved {v} same d below some {kept} k = go (k .left) refl
     where
-      step : (r : Record) → recordStep c w d (decoded (positionOf c d) r) .core ≡ movedTo c d (positionOf c d + length (encode r))
-      step (change kind page slot number copy diff) = ap (movedTo c d) (omega arith)
-      step (close kind number) = refl
-
       go : (l : List Record) → k .left ≡ l → StepReads (recordStep c w d (nextRecord c w d) .core) v d kept
       go [] e = absurd (omega (arith, none-found (c .sizes) (readDisk c w d) (tailOf (c .logs) d) (positionOf c d) (rw e at (k .reads))))
       go (r ∷ more) e =
           let f = first-found (c .sizes) (readDisk c w d) (tailOf (c .logs) d) (positionOf c d) r more (rw e at (k .reads)) in
           let long = ap length (encode-append (k .done) (r ∷ [])) ∙ length-append (encodeAll (k .done)) (encodeAll (r ∷ [])) in
-          rw (k .takes r more e, step r)
+          rw (k .takes r more e, record-moves c w d below r)
           (replayed-at c (movedTo c d (positionOf c d + length (encode r))) refl refl same d below (k .done ++ r ∷ []) more (positionOf c d + length (encode r))
           (k .parts ∙ ap (λ (l : List Record). k .done ++ l) e ∙ sym (append-assoc (k .done) (r ∷ []) more))
           (getD-set-same (c .replay .positions) d (positionOf c d + length (encode r)) 0 (omega (arith, p .room)))

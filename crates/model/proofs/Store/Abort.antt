@@ -71,6 +71,7 @@ abort-begins {F = F} {B = B} t g =
       sets = g .sets;
       owners = g .owners;
       told = g .told;
+      marks = g .marks;
     }
 
 module _ {home : ℕ → ℕ} {puts : Told} {c : Core} {w : World} {r : Reference} {F B : List Entry} (g : Serving 0 home puts c w r F B) (t : ℕ)

@@ -166,7 +166,7 @@ module _ {home : ℕ → ℕ} {puts : Told} {c : Core} {w : World} {r : Referenc
 
   begin-serving : Serving 0 homes puts (begun c) w R F B
   unfolding begun
-  begin-serving = record { stage = v .stage; safe = safe; accounts = accounts; copies = copies; sets = sets; owners = owners; told = told }
+  begin-serving = record { stage = v .stage; safe = safe; accounts = accounts; copies = copies; sets = sets; owners = owners; told = told; marks = v .marks }
 
 -- begin keeps what holds of an open store, with the reference's (new ok v), empty write set
 pub begin-serves : {puts : Told} {c : Core} {w : World} {r : Reference} → Served puts c w r → verdict (beginRows c w) ≡ accepted

@@ -14,7 +14,7 @@ use Rattle.model.specs.Refusal.{accepted, verdict}
 use Rattle.model.specs.Causes.{whenCopying}
 use Rattle.model.specs.Checkpoint.{toCopy, lowestToCopy, newStart, checkpointEndRows, checkpointEndTask}
 use Rattle.model.specs.Reference.{Reference}
-use Rattle.model.specs.History.{Told}
+use Rattle.model.specs.History.{Told, startPut, startedFrom}
 use Rattle.model.proofs.Below.{first-before}
 use Rattle.model.proofs.PerDisk.{per-disk-cong}
 use Rattle.model.proofs.Run.{perform-append, stores-append, run-append, run-cut, perform-lengths}
@@ -93,7 +93,11 @@ module _ {puts : Told} {c : Core} {w : World} {r : Reference} (g : Served puts c
   unfolding withLog newStart
   moved = end-moved (c .epoch) (newStart c) (c .sizes .disks) mid few (settled .safe .devices .anchor)
 
-  switched : Serving 0 (g .home) puts (switchedCore full) (perform last mid) r (pick (keptFrom (newStart full)) (emptied .flushed)) []
+  -- what is then told of the logs
+  abbrev started : Told
+  started = startedFrom (startPut puts (r .writeSets)) puts
+
+  switched : Serving 0 (g .home) started (switchedCore full) (perform last mid) r (pick (keptFrom (newStart full)) (emptied .flushed)) []
   unfolding withLog
   switched =
       switch-serving settled (copying-not-open c (found .stage))
@@ -105,7 +109,7 @@ module _ {puts : Told} {c : Core} {w : World} {r : Reference} (g : Served puts c
   same-core = rw (per-disk-cong (c .sizes) (endOf (emptied .logs)) (endOf (c .logs)) (emptied .ends))
 
   -- the whole call: the store is open, with the next checkpoint's backup and starts
-  pub checkpoint-end-serves : Served puts (checkpointEndTask c w .core) (perform (checkpointEndTask c w .actions) w) r
+  pub checkpoint-end-serves : Served started (checkpointEndTask c w .core) (perform (checkpointEndTask c w .actions) w) r
   checkpoint-end-serves =
       rw (parts, perform-append flushing last w, ← same-core)
       (record { home = g .home; flushed = pick (keptFrom (newStart full)) (emptied .flushed); buffered = []; serving = switched })

@@ -151,6 +151,7 @@ module _ {t : ℕ} {home : ℕ → ℕ} {puts : Told} {c : Core} {w : World} {r 
               told = λ k h.
                   since-still refl (λ u y l. was-open (c .table) (g .accounts .tabled) t opened u (y l) .0)
                   (put-told g e may (record { disk = d; content = close abortKind t }) refl refl k h);
+              marks = g .marks;
             };
       }
 

@@ -223,8 +223,8 @@ module _ (F B : List Entry) (e : Entry) where
       (words-for-flush t (onDisk (e .disk)) F (B ++ e ∷ []) ∙ words-for-other F B e t ne)
 
   -- the call put the closing record
-  pub told : {b s n : ℕ} {o : ℕ → Bool} (puts : List Put) (d : ℕ) → Since b s n o (recordsOn d puts) (on d F ++ on d B)
-      → Since b s n o (recordsOn d (puts ++ record { disk = e .disk; content = recordOf e } ∷ [])) (on d committedLog ++ on d (left (e .disk) B))
-  told {b} {s} {n} {o} puts d k =
-      lists (λ L M. Since b s n o (recordsOn d (puts ++ record { disk = e .disk; content = recordOf e } ∷ [])) (on d L ++ on d M))
+  pub told : {b s m n : ℕ} {o : ℕ → Bool} (puts : List Put) (d : ℕ) → Since b s m n o (recordsOn d puts) (on d F ++ on d B)
+      → Since b s m n o (recordsOn d (puts ++ record { disk = e .disk; content = recordOf e } ∷ [])) (on d committedLog ++ on d (left (e .disk) B))
+  told {b} {s} {m} {n} {o} puts d k =
+      lists (λ L M. Since b s m n o (recordsOn d (puts ++ record { disk = e .disk; content = recordOf e } ∷ [])) (on d L ++ on d M))
       (rw (on-flush (e .disk) F (B ++ e ∷ []) d) (told-more puts F B e (record { disk = e .disk; content = recordOf e }) refl refl d k))

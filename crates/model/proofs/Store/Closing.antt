@@ -229,4 +229,5 @@ module _ {home : ℕ → ℕ} {puts : Told} {c : Core} {w : World} {r : Referenc
             owners-closed (g .accounts .tabled) (e .number) opened (g .safe .devices .bounds) (g .owners) owner-same
             (flushed (added .logs) (e .disk)) doneReference refl;
         told = λ d h. since-still (kept-same d) (λ t y l. was-open (c .table) (g .accounts .tabled) (e .number) opened t (y l) .0) (told F B e (puts .puts) d (g .told d h));
+        marks = g .marks;
       }

@@ -160,6 +160,7 @@ module _ {t : ℕ} {home : ℕ → ℕ} {puts : Told} {c : Core} {w : World} {r 
         sets = record { distinct = g .sets .distinct; has = g .sets .has; fits = g .sets .fits };
         owners = owners-kept (g .safe .devices .bounds) refl refl refl (owners-same buffer) (g .owners);
         told = put-told g e may (record { disk = d; content = compensation c w t u }) refl (compensation-record c w t u);
+        marks = g .marks;
       }
 
   -- the record put, then the slot's words

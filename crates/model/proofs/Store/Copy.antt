@@ -18,7 +18,7 @@ use Rattle.model.specs.Refusal.{accepted, verdict}
 use Rattle.model.specs.Causes.{whenOpen, tailIn}
 use Rattle.model.specs.Checkpoint.{checkpointBeginRows, checkpointBeginTask, lowestToCopy, checkpointStepRows, copyPage, checkpointStepTask}
 use Rattle.model.specs.Reference.{Reference}
-use Rattle.model.specs.History.{Told}
+use Rattle.model.specs.History.{Told, marked}
 use Rattle.model.proofs.Geometry.{pageOf, page-of, page-in, slotStart, slot-in}
 use Rattle.model.proofs.Ledger.Entry.{Entry, All, spanning}
 use Rattle.model.proofs.Ledger.State.{Same, copied}
@@ -34,6 +34,7 @@ use Rattle.model.proofs.Store.Rows.{stage-row, copying-not-open, copyin
 use Rattle.model.proofs.Store.Page.{at, words, after, copying, page-lt, page-first, stepped, fits, size-words, other-word, current-word, epoch-page, epoch-other, owner-word, buffer-words}
 use Rattle.model.proofs.Store.Same.{devices-same, accounts-same, sets-same, owners-same}
 use Rattle.model.proofs.Store.Steady.{kept-aside}
+use Rattle.model.proofs.Store.LogEnd.{end-told}
 use Rattle.model.proofs.Booleans.{true-false}
 use Rattle.model.proofs.Parts.{spanning-true, spanning-in}
 use Rattle.model.proofs.Verdict.{row-passed}
@@ -60,7 +61,7 @@ module _ {home : ℕ → ℕ} {puts : Told} {c : Core} {w : World} {r : Referenc
             (boundary-end (keptOf (c .logs) d) (on d F ++ on d B));
       }
 
-  begin-serving : Serving 0 home puts (checkpointBeginTask c w .core) w r F B
+  begin-serving : Serving 0 home (marked puts) (checkpointBeginTask c w .core) w r F B
   unfolding checkpointBeginTask view
   begin-serving =
       record {
@@ -80,10 +81,11 @@ module _ {home : ℕ → ℕ} {puts : Told} {c : Core} {w : World} {r : Referenc
         sets = sets-same refl refl (v .sets);
         owners = owners-same (v .safe .devices .bounds) refl refl refl (λ i h. refl) (v .owners);
         told = v .told;
+        marks = λ e d h. getD-per-disk (c .sizes) (endOf (c .logs)) d (v .safe .devices .bounds .disks-max) h ∙ end-told v d h;
       }
 
 pub checkpoint-begin-serves : {puts : Told} {c : Core} {w : World} {r : Reference} → Served puts c w r → verdict (checkpointBeginRows c w) ≡ accepted
-    → Served puts (checkpointBeginTask c w .core) w r
+    → Served (marked puts) (checkpointBeginTask c w .core) w r
 checkpoint-begin-serves s ok =
     record { home = s .home; flushed = s .flushed; buffered = s .buffered; serving = begin-serving ok (s .serving) }
 
@@ -210,6 +212,7 @@ module _ {home : ℕ → ℕ} {puts : Told} {c : Core} {w : World} {r : Referenc
         sets = sets-same refl refl (v .sets);
         owners = owners-same (v .safe .devices .bounds) refl refl refl (owner-word ok (v .safe .devices)) (v .owners);
         told = v .told;
+        marks = v .marks;
       }
 
 pub checkpoint-step-serves : {puts : Told} {c : Core} {w : World} {r : Reference} → Served puts c w r → verdict (checkpointStepRows c w) ≡ accepted

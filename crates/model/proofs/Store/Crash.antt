@@ -58,6 +58,7 @@ stored-same {d = d} sizes start tail words scan image k =
       rest = k .rest;
       parts = k .parts;
       start = start ∙ k .start;
+      since = start ∙ k .since;
       tail = rw sizes (tail ∙ k .tail);
       words = rw sizes (words ∙ k .words);
       finds = rw (sizes, start) (scan ∙ k .finds);
@@ -156,6 +157,7 @@ module _ {x : ℕ} {home : ℕ → ℕ} {c : Core} {w : World} {r : Reference} {
         rest = map recordOf (on d B);
         parts = told .all ∙ ap (λ (l : List Record). told .old ++ l) (map-append recordOf (on d F) (on d B));
         start = start ∙ told .from;
+        since = start ∙ told .since;
         tail = rw (g .devices .sizes) (g .link .stored d h ∙ g .link .tail d h ∙ omega (arith, told .from, long));
         words = rw (g .devices .sizes) (retained (g .link) d h (startOn (w .anchor)) start);
         finds = rw (g .devices .sizes, start) (retained-scan (g .link) d h (startOn (w .anchor)) start fit (flushed-laid g d h) ∙ laid);

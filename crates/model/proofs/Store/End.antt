@@ -22,7 +22,7 @@ use Rattle.model.specs.Refusal.{accepted, verdict}
 use Rattle.model.specs.Causes.{whenReplaying, anchorWrong, lengthsWrong, tailOn, tailIn}
 use Rattle.model.specs.Format.{freshMemory, freshWork}
 use Rattle.model.specs.Restart.{restartEndRows, restartEndTask}
-use Rattle.model.specs.History.{Told}
+use Rattle.model.specs.History.{Told, emptyFrom}
 use Rattle.model.specs.Reference.{Reference, wordsIn}
 use Rattle.model.proofs.Below.{all-each}
 use Rattle.model.proofs.Run.{perform-append, perform-backups, perform-work, stores-append, stores-stored}
@@ -196,7 +196,7 @@ module _ (c : Core) (w : World) (r : Reference) (m : AtEnd c w r) (found : EndFo
 
 -- A restart end that is taken leaves an open store with the committed contents.
 pub restart-end-serves : {c : Core} {w : World} {r : Reference} → AtEnd c w r → verdict (restartEndRows c w) ≡ accepted
-    → Served (record { base = tailOn (c .sizes) w; puts = [] }) (restartEndTask c w .core) (perform (restartEndTask c w .actions) w) r
+    → Served (emptyFrom (tailOn (c .sizes) w)) (restartEndTask c w .core) (perform (restartEndTask c w .actions) w) r
 unfolding restartEndTask tailOf
 restart-end-serves {c} {w} {r} m e =
     let found = end-found c w e in

@@ -198,4 +198,5 @@ module _ {x : ℕ} {home : ℕ → ℕ} {puts : Told} {c : Core} {w : World} {r 
         sets = record { distinct = g .sets .distinct; has = g .sets .has; fits = g .sets .fits };
         owners = owners-same (g .safe .devices .bounds) refl refl refl (λ i h. rw (flush-only (c .sizes) (c .logs) w d .work-same)) (g .owners);
         told = λ e h. rw (on-flush d F B e) (g .told e h);
+        marks = g .marks;
       }

@@ -19,7 +19,8 @@ use Rattle.model.specs.Causes.{tailOn}
 use Rattle.model.specs.Reference.{Reference, wordsIn, hasSet}
 use Rattle.model.specs.Record.{encodeAll}
 use Rattle.model.specs.Scan.{placed, updatesIn}
-use Rattle.model.specs.History.{recordsOn}
+use Rattle.model.specs.History.{emptyFrom, recordsOn}
+use Rattle.model.proofs.Booleans.{true-false}
 use Rattle.model.proofs.Bounds.{Bounded}
 use Rattle.model.proofs.Geometry.{pageOf, slotStart, page-in}
 use Rattle.model.proofs.Slots.{Shaped}
@@ -200,7 +201,7 @@ module _ {s : Sizes} {n : ℕ} {tails : List ℕ} {v : World} {r : Reference} (f
 
   -- what holds of an open store between two calls holds of a fresh one
   pub fresh-serving : (base : ℕ → ℕ) → ((d : ℕ) → d < s .disks → getD tails d 0 ≡ base d)
-      → Served (record { base = base; puts = [] }) (openCore s n tails) v r
+      → Served (emptyFrom base) (openCore s n tails) v r
   unfolding openCore startOf recordsOn on pick encodeAll placed updatesIn
   fresh-serving base there =
       record {
@@ -215,6 +216,9 @@ module _ {s : Sizes} {n : ℕ} {tails : List ℕ} {v : World} {r : Reference} (f
               copies = fresh-copies;
               sets = fresh-sets;
               owners = fresh-owners;
-              told = λ d h. record { old = []; all = refl; from = omega (arith, kept-start (emptyLogs tails) d, there d h); past = λ t y. refl };
+              told = λ d h.
+                  let at : keptOf (emptyLogs tails) d ≡ base d = kept-start (emptyLogs tails) d ∙ there d h in
+                  record { old = []; all = refl; from = omega (arith, at); since = at; past = λ t y. refl };
+              marks = λ e. true-false refl e;
             };
       }

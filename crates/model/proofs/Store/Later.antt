@@ -70,11 +70,11 @@ module _ {disks : ℕ} {start home : ℕ → ℕ} {F B : List Entry} (o : Ordere
       here : All (λ e. e .number ≡ t → leb (start' d) (e .position) ≡ true) (on d F)
       here = all-zip (λ e f there same. rw (eqb-true (e .disk) d there) at (f same)) (on d F) (all-pick _ (onDisk d) F k) (pick-all (onDisk d) F)
 
-  pub since-later : {b n : ℕ} {live : ℕ → Bool} {puts : List Record}
+  pub since-later : {b was now n : ℕ} {live : ℕ → Bool} {puts : List Record}
       → ((t : ℕ) → (t < n → live t ≡ true) → All (λ e. e .number ≡ t → keptFrom start' e ≡ true) F)
-      → Since b (start d) n live puts (on d F ++ on d B) → Since b (start' d) n live puts (on d (pick (keptFrom start') F) ++ on d B)
+      → Since b (start d) was n live puts (on d F ++ on d B) → start' d ≡ now → Since b (start' d) now n live puts (on d (pick (keptFrom start') F) ++ on d B)
   unfolding on onDisk wordsOf
-  since-later {b} stay k =
+  since-later {b} stay k same =
       let m : List Entry = pick (λ e. leb (start' d) (e .position)) (on d F) in
       let old = k .old in
       let gone = map recordOf (split .gone) in
@@ -88,5 +88,6 @@ module _ {disks : ℕ} {start home : ℕ → ℕ} {F B : List Entry} (o : Ordere
             ∙ ap (λ (x : List Record). old ++ x) (map-append recordOf (split .gone) (m ++ on d B))
             ∙ sym (append-assoc old gone (map recordOf (m ++ on d B)));
         from = omega (arith, k .from, split .cut, long);
+        since = same;
         past = λ t y. updates-append t b old gone ∙ rw (updates-none t (b + length (encodeAll old)) (split .gone) (others-gone t (stay t y)), k .past t y);
       })

@@ -1,20 +1,22 @@
--- The end of a disk's log: no boundary lies behind it, and an entry put there has a copy number in its bounds.
-use mathlib.Core.Path.{_≡_, refl, sym, subst, _∙_}
-use mathlib.Core.List.{List, [], _∷_, _++_}
+-- The end of a disk's log: it lies behind all that was put, no boundary lies behind it, and an entry put there has a copy number in its bounds.
+use mathlib.Core.Path.{_≡_, refl, sym, ap, subst, _∙_}
+use mathlib.Core.List.{List, [], _∷_, _++_, map}
 use mathlib.Core.Bool.{Bool, true, false, cond, _||_}
 use Prim.Native.Nat.{ℕ, _+_, _≤_, _<_}
 use native.Mathlib.Omega.{arith}
 use lib.Dec.{ltb, eqb}
-use lib.ListN.{length, getD}
+use lib.ListN.{length, getD, length-append}
 use borrow.Author.Tests.{ltb-true, le-ltb, eqb-true}
 use Rattle.model.specs.declared.Core.{Core}
+use Rattle.model.specs.Record.{Record, encodeAll}
 use Rattle.model.specs.World.{World}
 use Rattle.model.specs.Memory.{copyOf}
 use Rattle.model.specs.State.{keptOf, endOf}
 use Rattle.model.specs.Causes.{whenOpen}
 use Rattle.model.specs.Reference.{Reference}
-use Rattle.model.specs.History.{Told}
-use Rattle.model.proofs.Ledger.Entry.{Entry}
+use Rattle.model.specs.History.{Told, endPut}
+use Rattle.model.proofs.RoundTrip.{encode-append}
+use Rattle.model.proofs.Ledger.Entry.{Entry, recordOf}
 use Rattle.model.proofs.Ledger.Order.{sizeOf, wordsOf, on, boundary}
 use Rattle.model.proofs.Ledger.Lists.{length-words}
 use Rattle.model.proofs.Link.Words.{log-end}
@@ -30,6 +32,16 @@ boundary-to q p (r ∷ l) h = go (eqb q p) refl h (boundary-to q (p + sizeOf r) 
         → (boundary q (p + sizeOf r) l ≡ true → q ≤ p + sizeOf r + length (wordsOf l)) → q ≤ p + length (wordsOf (r ∷ l))
     go true e x ih = omega (arith, eqb-true q p e)
     go false e x ih = omega (arith, ih x, length-words r l)
+
+-- the end lies behind the words of all that was put there
+pub end-told : {x : ℕ} {home : ℕ → ℕ} {puts : Told} {c : Core} {w : World} {r : Reference} {F B : List Entry} → Serving x home puts c w r F B
+    → (d : ℕ) → d < c .sizes .disks → endOf (c .logs) d ≡ endPut puts d
+unfolding endPut wordsOf
+end-told {F = F} {B = B} g d below =
+    let k = g .told d below in
+    let l : List Record = map recordOf (on d F ++ on d B) in
+    let long = ap (λ (m : List Record). length (encodeAll m)) (k .all) ∙ ap length (encode-append (k .old) l) ∙ length-append (encodeAll (k .old)) (encodeAll l) in
+    omega (arith, log-end (g .safe .link) d below, k .from, long)
 
 -- An entry at the end of its disk's log, with the copy number of its page.
 module _ {x : ℕ} {home : ℕ → ℕ} {puts : Told} {c : Core} {w : World} {r : Reference} {F B : List Entry} (g : Serving x home puts c w r F B)

@@ -30,10 +30,10 @@ records-append d (p ∷ a) b = go (eqb (p .disk) d) (records-append d a b)
     go true e = ap (λ (l : List Record). p .content ∷ l) e
     go false e = e
 
-pub told-more : {b s n : ℕ} {o : ℕ → Bool} (puts : List Put) (F B : List Entry) (e : Entry) (p : Put) → p .disk ≡ e .disk → p .content ≡ recordOf e
-    → (d : ℕ) → Since b s n o (recordsOn d puts) (on d F ++ on d B) → Since b s n o (recordsOn d (puts ++ p ∷ [])) (on d F ++ on d (B ++ e ∷ []))
+pub told-more : {b s m n : ℕ} {o : ℕ → Bool} (puts : List Put) (F B : List Entry) (e : Entry) (p : Put) → p .disk ≡ e .disk → p .content ≡ recordOf e
+    → (d : ℕ) → Since b s m n o (recordsOn d puts) (on d F ++ on d B) → Since b s m n o (recordsOn d (puts ++ p ∷ [])) (on d F ++ on d (B ++ e ∷ []))
 unfolding recordsOn
-told-more puts F B e p disk content d k = record { old = k .old; all = go (ℕ-discrete (e .disk) d); from = k .from; past = k .past }
+told-more puts F B e p disk content d k = record { old = k .old; all = go (ℕ-discrete (e .disk) d); from = k .from; since = k .since; past = k .past }
   where
     go : Dec (e .disk ≡ d) → recordsOn d (puts ++ p ∷ []) ≡ k .old ++ map recordOf (on d F ++ on d (B ++ e ∷ []))
     go (yes same) =
@@ -44,9 +44,9 @@ told-more puts F B e p disk content d k = record { old = k .old; all = go (ℕ-d
         rw (records-append d puts (p ∷ []), on-less d B e ne, ne-eqb (p .disk) d (λ z. ne (sym disk ∙ z)), append-nil (recordsOn d puts)) (k .all)
 
 -- the same start, and no transaction open or to come that was not
-pub since-still : {b s u n k : ℕ} {o live : ℕ → Bool} {puts : List Record} {l : List Entry} → u ≡ s
-    → ((t : ℕ) → (t < k → live t ≡ true) → t < n → o t ≡ true) → Since b s n o puts l → Since b u k live puts l
-since-still same fewer h = record { old = h .old; all = h .all; from = same ∙ h .from; past = λ t y. h .past t (fewer t y) }
+pub since-still : {b s u m n k : ℕ} {o live : ℕ → Bool} {puts : List Record} {l : List Entry} → u ≡ s
+    → ((t : ℕ) → (t < k → live t ≡ true) → t < n → o t ≡ true) → Since b s m n o puts l → Since b u m k live puts l
+since-still same fewer h = record { old = h .old; all = h .all; from = same ∙ h .from; since = same ∙ h .since; past = λ t y. h .past t (fewer t y) }
 
 -- a boundary of a disk's log is one of the log with a record more
 pub boundary-logged : (q p d : ℕ) (F B : List Entry) (e : Entry) → boundary q p (on d F ++ on d B) ≡ true

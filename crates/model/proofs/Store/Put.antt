@@ -175,7 +175,7 @@ module _ {x : ℕ} {home : ℕ → ℕ} {puts : Told} {c : Core} {w : World} {r 
 
   -- what is told of the logs, with the entry's record
   pub put-told : (p : Put) → p .disk ≡ e .disk → p .content ≡ recordOf e → (k : ℕ) → k < c .sizes .disks
-      → Since (puts .base k) (keptOf (put .logs) k) (c .next) (isOpen (c .table)) (recordsOn k (puts .puts ++ p ∷ [])) (on k F1 ++ on k (B1 ++ e ∷ []))
+      → Since (puts .base k) (keptOf (put .logs) k) (puts .starts k) (c .next) (isOpen (c .table)) (recordsOn k (puts .puts ++ p ∷ [])) (on k F1 ++ on k (B1 ++ e ∷ []))
   unfolding withLog
   put-told p disk content k h =
       since-still (put-longer .kept-same k ∙ sym (made .kept k)) (λ t y. y) (told-more (puts .puts) F1 B1 e p disk content k (serving1 .told k h))

@@ -77,6 +77,7 @@ kept-lost {puts} k more =
             parts = records-append d (puts .puts) more ∙ ap (λ (l : List Record). l ++ last) (was .parts)
                 ∙ append-assoc (was .old) (was .kept ++ was .rest) last ∙ ap (λ (l : List Record). was .old ++ l) (append-assoc (was .kept) (was .rest) last);
             start = was .start;
+            since = was .since;
             tail = was .tail;
             words = was .words;
             finds = was .finds;

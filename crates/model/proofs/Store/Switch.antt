@@ -17,7 +17,7 @@ use Rattle.model.specs.Causes.{whenOpen, tailIn}
 use Rattle.model.specs.Checkpoint.{perDisk, newStart}
 use Rattle.model.specs.Transaction.{diskOf}
 use Rattle.model.specs.Reference.{Reference}
-use Rattle.model.specs.History.{Told}
+use Rattle.model.specs.History.{Told, startPut, startedFrom}
 use Rattle.model.proofs.Reader.{Holds, holds-append}
 use Rattle.model.proofs.Run.{SameLengths}
 use Rattle.model.proofs.Growth.{kept-start}
@@ -36,6 +36,7 @@ use Rattle.model.proofs.Store.View.{view, Devices, Safe, Accounts, Copi
 use Rattle.model.proofs.Store.Same.{sets-same, owners-same}
 use Rattle.model.proofs.Store.Flush.{lengths-same}
 use Rattle.model.proofs.Store.NewStarts.{firstOf, boundary-later, new-boundary, start-early, first-stays, reserved-stays, placed, page-copied, may, live-kept}
+use Rattle.model.proofs.Store.ToldStarts.{new-start-told}
 use Rattle.model.proofs.Store.Later.{since-later}
 use Rattle.model.proofs.Store.Starts.{Moved, backup-back}
 use Rattle.model.proofs.Booleans.{true-false}
@@ -216,14 +217,18 @@ module _ {home : ℕ → ℕ} {puts : Told} {c : Core} {w : World} {r : Referenc
           ends = λ o. true-false refl o;
         }
 
+    -- the logs start where they are told to
+    abbrev started : Told
+    started = startedFrom (startPut puts (r .writeSets)) puts
+
     -- what goes is the older part of what was put
-    told : (d : ℕ) → d < c .sizes .disks → SinceOn puts now d (on d (pick kept F) ++ on d [])
+    told : (d : ℕ) → d < c .sizes .disks → SinceOn started now d (on d (pick kept F) ++ on d [])
     told d h =
         rw (kept-now d h)
-        (since-later (g .safe .ordered) (newStart c) d h (cut d h) (live-kept g copying copied) (g .told d h))
+        (since-later (g .safe .ordered) (newStart c) d h (cut d h) (live-kept g copying copied) (g .told d h) (new-start-told g d h copying))
 
     -- the store is open, with the other backup current
-    pub switch-serving : Serving 0 home puts now v r (pick kept F) []
+    pub switch-serving : Serving 0 home started now v r (pick kept F) []
     switch-serving =
         record {
           stage = refl;
@@ -233,4 +238,5 @@ module _ {home : ℕ → ℕ} {puts : Told} {c : Core} {w : World} {r : Referenc
           sets = sets-same refl refl (g .sets);
           owners = owners-same (g .safe .devices .bounds) refl refl refl (λ i h. rw (moved .work-same)) (g .owners);
           told = told;
+          marks = λ o. true-false refl o;
         }

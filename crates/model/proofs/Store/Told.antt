@@ -21,7 +21,7 @@ use Rattle.model.specs.History.{Told, updatePut, updatesPut}
 use Rattle.model.proofs.RoundTrip.{updates-append}
 use Rattle.model.proofs.Ledger.Entry.{Entry, recordOf, isClose, All, pick}
 use Rattle.model.proofs.Growth.{kept-start}
-use Rattle.model.proofs.Ledger.Order.{entriesScan}
+use Rattle.model.proofs.Ledger.Order.{on, entriesScan}
 use Rattle.model.proofs.Ledger.Sums.{all-map}
 use Rattle.model.proofs.Link.Words.{placed-entries}
 use Rattle.model.proofs.Store.View.{Serving, runAt}
@@ -61,7 +61,21 @@ module _ {home : ℕ → ℕ} {puts : Told} {c : Core} {w : World} {r : Referenc
       ap (λ (before : List ℕ). change updateKind page slot number (copyOf (c .sizes) (w .work) page) (xors before value))
       (sym (slot-value g page slot p q))
 
-  -- The updates put under the number of an open transaction are those among the entries of its disk, and what an abort finds.
+  -- The updates put on a disk under the number of an open transaction are those among the disk's entries.
+  pub updates-among : (t : ℕ) → isOpen (c .table) t ≡ true → (d : ℕ) → d < c .sizes .disks
+      → updatesPut puts d t ≡ updatesIn t (placed (startOf (c .logs) d) (map recordOf (on d F ++ on d B)))
+  unfolding updatesPut
+  updates-among t opened d below =
+      let k = g .told d below in
+      let entries : List Entry = on d F ++ on d B in
+      let start : ℕ = puts .base d + length (encodeAll (k .old)) in
+      ap (λ (l : List Record). updatesIn t (placed (puts .base d) l)) (k .all)
+      ∙ updates-append t (puts .base d) (k .old) (map recordOf entries)
+      ∙ ap (λ (l : List Update). updatesIn t (placed start (map recordOf entries)) ++ l) (k .past t (λ l. opened))
+      ∙ append-nil (updatesIn t (placed start (map recordOf entries)))
+      ∙ ap (λ (q : ℕ). updatesIn t (placed q (map recordOf entries))) (sym (k .from) ∙ kept-start (c .logs) d)
+
+  -- On its own disk they are what an abort finds.
   module _ (t : ℕ) (opened : isOpen (c .table) t ≡ true) (below : diskOf c t < c .sizes .disks) where
     abbrev d : ℕ
     d = diskOf c t
@@ -69,20 +83,9 @@ module _ {home : ℕ → ℕ} {puts : Told} {c : Core} {w : World} {r : Referenc
     abbrev entries : List Entry
     entries = there g t opened below
 
-    among : updatesPut puts d t ≡ updatesIn t (placed (startOf (c .logs) d) (map recordOf entries))
-    unfolding updatesPut
-    among =
-        let k = g .told d below in
-        let start : ℕ = puts .base d + length (encodeAll (k .old)) in
-        ap (λ (l : List Record). updatesIn t (placed (puts .base d) l)) (k .all)
-        ∙ updates-append t (puts .base d) (k .old) (map recordOf entries)
-        ∙ ap (λ (l : List Update). updatesIn t (placed start (map recordOf entries)) ++ l) (k .past t (λ l. opened))
-        ∙ append-nil (updatesIn t (placed start (map recordOf entries)))
-        ∙ ap (λ (q : ℕ). updatesIn t (placed q (map recordOf entries))) (sym (k .from) ∙ kept-start (c .logs) d)
-
     pub updates-told : updatesPut puts d t ≡ updatesLeft c w t
     unfolding updatesLeft
-    updates-told = among ∙ go (hasUpdate (c .table) (placeOf (c .table) t)) refl
+    updates-told = updates-among t opened d below ∙ go (hasUpdate (c .table) (placeOf (c .table) t)) refl
       where
         go : (b : Bool) → hasUpdate (c .table) (placeOf (c .table) t) ≡ b
             → updatesIn t (placed (startOf (c .logs) d) (map recordOf entries)) ≡ updatesLeft c w t

@@ -140,7 +140,7 @@ module _ {home : ℕ → ℕ} {puts : Told} {c : Core} {w : World} {r : Referenc
   unfolding on
   words-here = sym (words-for-picked t (onDisk d) (F ++ B) elsewhere) ∙ ap (wordsFor t) (on-append d F B)
 
-  reserved-true : reservedAt (c .table) (placeOf (c .table) t) ≡ 2 + updateWords (updatesIn t (logScan c w (diskOf c t)))
+  pub reserved-true : reservedAt (c .table) (placeOf (c .table) t) ≡ 2 + updateWords (updatesIn t (logScan c w (diskOf c t)))
   unfolding d
   reserved-true =
       g .accounts .reserved t o some-number
@@ -160,7 +160,7 @@ module _ {home : ℕ → ℕ} {puts : Told} {c : Core} {w : World} {r : Referenc
           eq-eqb (e .disk) (diskOf c t)
           (h ∙ ap home (eqb-true (e .number) t (and-eq-true-iff (eqb (e .number) t) (eqb (e .position) f) .0 x .0)) ∙ g .accounts .homes t o)
 
-  first-true : hasUpdate (c .table) (placeOf (c .table) t) ≡ true
+  pub first-true : hasUpdate (c .table) (placeOf (c .table) t) ≡ true
       → oldest (updatesIn t (logScan c w (diskOf c t))) ≡ firstAt (c .table) (placeOf (c .table) t)
   unfolding d
   first-true h =

@@ -248,4 +248,5 @@ module _ {home : ℕ → ℕ} {puts : Told} {c : Core} {w : World} {r : Referenc
         told = λ n h.
             since-still (longer (g .safe) e loggable .kept-same n) (λ u y l. sym (same-open u) ∙ y l)
             (told-more (puts .puts) F B e (record { disk = d; content = recordOf e }) refl refl n (g .told n h));
+        marks = g .marks;
       }

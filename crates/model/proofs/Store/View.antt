@@ -147,15 +147,17 @@ pub record Owners (c : Core) (w : World) (r : Reference) : Type 0 where
       → writesSlot page slot (writesOf (ownerOf (c .sizes) (w .work) page slot) (r .writeSets)) ≡ true
 
 -- The entries of a disk are the last of the records that the calls put there since its log began at `base`, and they begin where the
--- words of those before end. Of these none is an update of a transaction that is open or to come.
-pub record Since (base start next : ℕ) (opened : ℕ → Bool) (puts : List Record) (l : List Entry) : Type 0 where
+-- words of those before end, which is where the log is told to start. Of those before none is an update of a transaction that is open
+-- or to come.
+pub record Since (base start told next : ℕ) (opened : ℕ → Bool) (puts : List Record) (l : List Entry) : Type 0 where
   pub old : List Record
   pub all : puts ≡ old ++ map recordOf l
   pub from : start ≡ base + length (encodeAll old)
+  pub since : start ≡ told
   pub past : (t : ℕ) → (t < next → opened t ≡ true) → updatesIn t (placed base old) ≡ []
 
 abbrev pub SinceOn : Told → Core → ℕ → List Entry → Type 0
-SinceOn t c d l = Since (t .base d) (keptOf (c .logs) d) (c .next) (isOpen (c .table)) (recordsOn d (t .puts)) l
+SinceOn t c d l = Since (t .base d) (keptOf (c .logs) d) (t .starts d) (c .next) (isOpen (c .table)) (recordsOn d (t .puts)) l
 
 -- the store and its reference, as the calls find them
 abbrev pub runAt : Core → World → Reference → Run
@@ -170,6 +172,8 @@ pub record Serving (x : ℕ) (home : ℕ → ℕ) (puts : Told) (c : Core) (w : 
   pub sets : Sets c r
   pub owners : Owners c w r
   pub told : (d : ℕ) → d < c .sizes .disks → SinceOn puts c d (on d F ++ on d B)
+  -- the ends that the checkpoint under way remembers are those that were told when it began
+  pub marks : whenOpen (c .stage) ≡ false → (d : ℕ) → d < c .sizes .disks → getD (c .checkpoint .ends) d 0 ≡ puts .marks d
 
 pub record Served (puts : Told) (c : Core) (w : World) (r : Reference) : Type 0 where
   pub home : ℕ → ℕ

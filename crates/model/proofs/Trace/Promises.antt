@@ -11,9 +11,9 @@ use Rattle.model.specs.Restart.{remaining}
 use Rattle.model.specs.Call.{Call, restartBegin, restartStep, restartRun, restartEnd}
 use Rattle.model.specs.Reference.{outcomeOf, Reference, hear}
 use Rattle.model.specs.Machine.{Machine, result, outcome, Run}
-use Rattle.model.specs.Promise.{Always, PowerLoss, RestartAccepted, RestartFinishes, RunMakes, RunIsSteps, LogKept, StateTrue, NeverMalformed, ClosingFits, LogOf}
-use Rattle.model.specs.Trace.{Observed, seen, EventInCode, callInCode, On, afterInCode, followInCode, AllowedAllInCode, formattedInCode, AlwaysInCode, PowerLossInCode, EachRestartEnd, RestartAcceptedInCode, RestartFinishesInCode, RunIsStepsInCode, LogKeptInCode, StateTrueInCode, NeverMalformedInCode, ClosingFitsInCode}
-use Rattle.model.proofs.PowerLoss.{power-loss, restart-accepted, log-kept, state-true, never-malformed}
+use Rattle.model.specs.Promise.{Always, PowerLoss, RestartAccepted, RestartFinishes, RunMakes, RunIsSteps, LogKept, StateTrue, NeverMalformed, ClosingFits, LogOf, BackupSteps}
+use Rattle.model.specs.Trace.{Observed, seen, EventInCode, callInCode, On, afterInCode, followInCode, AllowedAllInCode, formattedInCode, AlwaysInCode, PowerLossInCode, EachRestartEnd, RestartAcceptedInCode, RestartFinishesInCode, RunIsStepsInCode, LogKeptInCode, StateTrueInCode, NeverMalformedInCode, ClosingFitsInCode, BackupStepsInCode}
+use Rattle.model.proofs.PowerLoss.{power-loss, restart-accepted, log-kept, state-true, never-malformed, backup-steps}
 use Rattle.model.proofs.Restart.Run.{run-is-steps}
 use Rattle.model.proofs.Finish.{restart-finishes}
 use Rattle.model.proofs.Sound.Lists.{closing-fits}
@@ -110,6 +110,11 @@ run-is-steps-in-code m o source most is on =
           subst (λ (r : Result). RunMakes m source most (firstOf (r .answer)) (record { core = r .core; world = r .world })) (sym got)
           (run .2 (sym answers ∙ took)),
     )
+
+-- A backup step takes the next page.
+pub backup-steps-in-code : BackupStepsInCode
+unfolding BackupStepsInCode BackupSteps
+backup-steps-in-code = in-code _ backup-steps
 
 -- What the state says is true.
 pub state-true-in-code : StateTrueInCode
