@@ -16,7 +16,7 @@ use Rattle.model.specs.Record.{change, encode, compensationKind}
 use Rattle.model.specs.Scan.{Update}
 use Rattle.model.specs.World.{World, write, pages, each, perform}
 use Rattle.model.specs.Memory.{bufferAt, bufferOf, copyOf}
-use Rattle.model.specs.State.{tailOf, fillOf, endOf, withFill, flushed}
+use Rattle.model.specs.State.{tailOf, fillOf, endOf, withFill, afterFlush}
 use Rattle.model.specs.Append.{Appended, appendIf, append, storeAll, flush, buffered}
 use Rattle.model.specs.Abort.{xorIn, compensate}
 use Rattle.model.proofs.Run.{perform-append, perform-pages, perform-work}
@@ -69,8 +69,8 @@ module _ (s : Sizes) (l : Logs) (w : World) (disk : ℕ) (sized : SizedLogs l) (
   flush-then-reads =
       let buffer : List ℕ = bufferOf s (w .work) disk (fillOf l disk) in
       let v : World = perform (storeAll s disk (tailOf l disk) buffer) w in
-      let tail : tailOf (withFill (flushed l disk) disk (length words)) disk ≡ tailOf l disk + length buffer =
-      tail-put (flushed l disk) disk (length words) ∙ tail-flushed l disk sized below ∙ omega (arith, long) in
+      let tail : tailOf (withFill (afterFlush l disk) disk (length words)) disk ≡ tailOf l disk + length buffer =
+      tail-put (afterFlush l disk) disk (length words) ∙ tail-flushed l disk sized below ∙ omega (arith, long) in
       rw (perform-append (storeAll s disk (tailOf l disk) buffer) (buffered s disk 0 words) w, perform-work (bufferAt s disk + 0) words v, tail)
       (read-ring s (v .logs) disk (tailOf l disk + length buffer) _ q (omega (arith, long))
       ∙ sym (read-ring s (v .logs) disk (tailOf l disk + length buffer) [] q (omega (arith, long)))

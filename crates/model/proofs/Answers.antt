@@ -55,7 +55,7 @@ record Right (c : Core) (w : World) : Type 0 where
 right-lengths : {puts : Told} {m : Machine} {r : Reference} → Holding puts m r → whenShut (m .core .stage) ≡ false
     → lengthsRight (m .core .sizes) (m .world) ≡ true
 right-lengths (shut s k n) e = true-false (ap whenShut s) e
-right-lengths (replaying p k n _) e = rw (p .sizes) (k .sound .lengths)
+right-lengths (replaying p k n _) e = rw (p .sizes) (k .restartable .lengths)
 right-lengths (serving g) e = g .serving .safe .devices .lengths
 
 reached : (m : Machine) (s : Sizes) (budget : ℕ) → outcome m (format s budget) ≡ taken → (es : List Event)
@@ -65,7 +65,7 @@ reached m s budget formats es a =
     let h = follow-holds es nothingTold (formatted m s budget) (format-holds m s budget formats) a in
     record {
       sound = sound-after m s budget formats es .1;
-      restarts = holding-kept h .sound;
+      restarts = holding-kept h .restartable;
       lengths = right-lengths h;
       replays = λ e. replayed h e .progress;
       aborts = λ e. abort-never-bad (served h e);

@@ -16,7 +16,7 @@ use Rattle.model.specs.Sizes.{ringOf, tailWord, ringWord}
 use Rattle.model.specs.Record.{close, encode, commitKind}
 use Rattle.model.specs.World.{World, Device, logs, work, Action, store, write, cost, perform, stores, covered, run, finishes, each}
 use Rattle.model.specs.Memory.{bufferAt, bufferOf}
-use Rattle.model.specs.State.{tailOf, fillOf, endOf, withFill, flushed}
+use Rattle.model.specs.State.{tailOf, fillOf, endOf, withFill, afterFlush}
 use Rattle.model.specs.Refusal.{verdict, accepted}
 use Rattle.model.specs.Append.{storeLog, storeAll, flush, buffered, append}
 use Rattle.model.specs.Transaction.{diskOf, commitRows, commitTask}
@@ -172,11 +172,11 @@ module _ (c : Core) (w : World) (t : ℕ) (a : Arrays (c .sizes) (c .logs)) (rig
   flushes : 64 < fillOf l d + 2 → CommitPoint c w t
   unfolding commitTask append
   flushes h =
-      point (flushing ++ buffered s d 0 words) (tailOf (flushed l d) d) (bufferOf s (perform flushing w .work) d 0)
+      point (flushing ++ buffered s d 0 words) (tailOf (afterFlush l d) d) (bufferOf s (perform flushing w .work) d 0)
       (every-append _ flushing _ flushing-low (uncovered-buffer s d p ring 0 words))
       (rw (lt-leb (fillOf l d + length words) 64 (omega (arith, two)), perform-append)
       (ap (λ (x : List Action). (flushing ++ buffered s d 0 words) ++ x)
-      (put-flush s (flushed l d) (perform flushing w) d words (arrays-flushed d a) (lengths-perform flushing right) below (omega (arith, two))
+      (put-flush s (afterFlush l d) (perform flushing w) d words (arrays-flushed d a) (lengths-perform flushing right) below (omega (arith, two))
       0 (length words) p (sym (fill-flushed l d (a .sized) (below-eight a below))) (sym (zero-add (length words))) (omega (arith, two)) (sym (ends-flushed l d (a .sized) (below-eight a below) d)))))
 
   -- Its last store is the tail that first covers its record.

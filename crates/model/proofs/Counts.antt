@@ -18,7 +18,7 @@ use Rattle.model.specs.Anchor.{startWord}
 use Rattle.model.specs.Record.{close, encode, commitKind}
 use Rattle.model.specs.World.{World, Action, store, anchor, logs, pages, work, cost, perform, stores, each}
 use Rattle.model.specs.Memory.{bufferAt, bufferOf}
-use Rattle.model.specs.State.{tailOf, fillOf, flushed}
+use Rattle.model.specs.State.{tailOf, fillOf, afterFlush}
 use Rattle.model.specs.Append.{storeLog, storeAll, flush, buffered, append, Appended}
 use Rattle.model.specs.Format.{formatStores, freshMemory, formatTask}
 use Rattle.model.specs.Transaction.{diskOf, updateRecord, updateTask, commitTask}
@@ -129,8 +129,8 @@ module _ (s : Sizes) (l : Logs) (memory : List ℕ) (disk : ℕ) (words : List �
   fill-appended fits = rw (le-leb _ _ fits) (fill-set l disk (fillOf l disk + length words) h)
 
   pub fill-restarted : 64 < fillOf l disk + length words → fillOf (append s l memory disk words .logs) disk ≡ length words
-  unfolding append flushed
-  fill-restarted over = rw (lt-leb _ _ over) (fill-set (flushed l disk) disk (length words) (lt-length-set (l .fills) disk 0 h))
+  unfolding append afterFlush
+  fill-restarted over = rw (lt-leb _ _ over) (fill-set (afterFlush l disk) disk (length words) (lt-length-set (l .fills) disk 0 h))
 
 -- Commit: the buffered words, the two of its closing record, and the tail; one tail more where the record did not fit.
 module _ (c : Core) (w : World) (number : ℕ) (right : Lengths (c .sizes) w) (below : diskOf c number < c .sizes .disks)

@@ -137,7 +137,7 @@ restart-finishes m s budget formats events a stage =
     let p = replayed h (ap whenReplaying stage) .progress in
     let passes = sound-after m s budget formats events in
     let ok = passes .1 in
-    let k = holding-kept h .sound in
+    let k = holding-kept h .restartable in
     record {
       steps = step-taken _ _ p ok k;
       less = step-less _ _ p ok k;
@@ -146,7 +146,7 @@ restart-finishes m s budget formats events a stage =
       all = λ source most enough.
           run-all _ _ p ok k source most enough
           (step-taken _ _ (run-progress _ _ p ok k source most) (event-passes _ (call (restartRun source most)) passes .1)
-          (holding-kept (step-call (restartRun source most) _ _ _ h refl) .sound) source);
+          (holding-kept (step-call (restartRun source most) _ _ _ h refl) .restartable) source);
       beside = run-beside _ _ p ok k;
       ends = end-taken _ _ p ok k;
     }

@@ -12,7 +12,7 @@ use lib.Seq.{getD-set-same, getD-set-other}
 use borrow.Author.Tests.{leb-true}
 use Rattle.model.specs.declared.Sizes.{Sizes}
 use Rattle.model.specs.declared.Logs.{Logs}
-use Rattle.model.specs.State.{startOf, keptOf, tailOf, fillOf, endOf, withFill, flushed, emptyLogs}
+use Rattle.model.specs.State.{startOf, keptOf, tailOf, fillOf, endOf, withFill, afterFlush, emptyLogs}
 use Rattle.model.specs.Append.{appendIf, append}
 
 -- a number for each of eight disks
@@ -46,41 +46,41 @@ kept-le l d = omega (arith, kept-start l d)
 
 -- A flush: the disk's tail moves to its end and its buffer is empty; the others stay.
 module _ (l : Logs) (d : ℕ) where
-  pub start-flushed : (e : ℕ) → startOf (flushed l d) e ≡ startOf l e
-  unfolding startOf flushed
+  pub start-flushed : (e : ℕ) → startOf (afterFlush l d) e ≡ startOf l e
+  unfolding startOf afterFlush
   start-flushed e = refl
 
-  pub kept-flushed : (e : ℕ) → keptOf (flushed l d) e ≡ keptOf l e
-  unfolding keptOf startOf flushed
+  pub kept-flushed : (e : ℕ) → keptOf (afterFlush l d) e ≡ keptOf l e
+  unfolding keptOf startOf afterFlush
   kept-flushed e = refl
 
-  pub tail-flushed-other : (e : ℕ) → (e ≡ d → ⊥) → tailOf (flushed l d) e ≡ tailOf l e
-  unfolding tailOf flushed
+  pub tail-flushed-other : (e : ℕ) → (e ≡ d → ⊥) → tailOf (afterFlush l d) e ≡ tailOf l e
+  unfolding tailOf afterFlush
   tail-flushed-other e ne = getD-set-other (l .tails) d e (endOf l d) 0 ne
 
-  pub fill-flushed-other : (e : ℕ) → (e ≡ d → ⊥) → fillOf (flushed l d) e ≡ fillOf l e
-  unfolding fillOf flushed
+  pub fill-flushed-other : (e : ℕ) → (e ≡ d → ⊥) → fillOf (afterFlush l d) e ≡ fillOf l e
+  unfolding fillOf afterFlush
   fill-flushed-other e ne = getD-set-other (l .fills) d e 0 0 ne
 
-  pub sized-flushed : SizedLogs l → SizedLogs (flushed l d)
-  unfolding flushed
+  pub sized-flushed : SizedLogs l → SizedLogs (afterFlush l d)
+  unfolding afterFlush
   sized-flushed k = record { starts = k .starts; tails = simp length-set (k .tails); fills = simp length-set (k .fills) }
 
   module _ (sized : SizedLogs l) (below : d < 8) where
-    pub tail-flushed : tailOf (flushed l d) d ≡ endOf l d
-    unfolding tailOf flushed
+    pub tail-flushed : tailOf (afterFlush l d) d ≡ endOf l d
+    unfolding tailOf afterFlush
     tail-flushed = getD-set-same (l .tails) d (endOf l d) 0 (omega (arith, sized .tails))
 
-    pub fill-flushed : fillOf (flushed l d) d ≡ 0
-    unfolding fillOf flushed
+    pub fill-flushed : fillOf (afterFlush l d) d ≡ 0
+    unfolding fillOf afterFlush
     fill-flushed = getD-set-same (l .fills) d 0 0 (omega (arith, sized .fills))
 
     -- every disk's end stays where it is
-    pub ends-flushed : (e : ℕ) → endOf (flushed l d) e ≡ endOf l e
+    pub ends-flushed : (e : ℕ) → endOf (afterFlush l d) e ≡ endOf l e
     unfolding endOf
     ends-flushed e = go (ℕ-discrete e d)
       where
-        go : Dec (e ≡ d) → tailOf (flushed l d) e + fillOf (flushed l d) e ≡ tailOf l e + fillOf l e
+        go : Dec (e ≡ d) → tailOf (afterFlush l d) e + fillOf (afterFlush l d) e ≡ tailOf l e + fillOf l e
         go (yes same) = rw same (omega (arith, tail-flushed, fill-flushed))
         go (no ne) = rw (tail-flushed-other e ne, fill-flushed-other e ne)
 
@@ -137,7 +137,7 @@ module _ {s : Sizes} {d : ℕ} where
   other-ends g e ne = rw (g .tail-same e ne, g .fill-same e ne)
 
 module _ (s : Sizes) (l : Logs) (d : ℕ) (sized : SizedLogs l) (small : Small s l) (below : d < 8) where
-  pub flush-longer : Longer s d 0 l (flushed l d)
+  pub flush-longer : Longer s d 0 l (afterFlush l d)
   flush-longer =
       record {
         start-same = start-flushed l d;
@@ -150,11 +150,11 @@ module _ (s : Sizes) (l : Logs) (d : ℕ) (sized : SizedLogs l) (small : Small s
         sized = sized-flushed l d sized;
       }
     where
-      tails : (e : ℕ) → Dec (e ≡ d) → tailOf l e ≤ tailOf (flushed l d) e
+      tails : (e : ℕ) → Dec (e ≡ d) → tailOf l e ≤ tailOf (afterFlush l d) e
       tails e (yes same) = rw same (omega (arith, tail-flushed l d sized below, tail-end l d))
       tails e (no ne) = omega (arith, tail-flushed-other l d e ne)
 
-      fills : (e : ℕ) → e < s .disks → Dec (e ≡ d) → fillOf (flushed l d) e ≤ 64
+      fills : (e : ℕ) → e < s .disks → Dec (e ≡ d) → fillOf (afterFlush l d) e ≤ 64
       fills e h (yes same) = rw same (omega (arith, fill-flushed l d sized below))
       fills e h (no ne) = omega (arith, fill-flushed-other l d e ne, small e h)
 
@@ -189,6 +189,6 @@ module _ (s : Sizes) (l : Logs) (d : ℕ) (sized : SizedLogs l) (small : Small s
       go false e =
           let g = flush-longer s l d sized small below in
           let p =
-          put-longer s (flushed l d) d (g .sized) (g .small) below (length words) (length words)
+          put-longer s (afterFlush l d) d (g .sized) (g .small) below (length words) (length words)
           (omega (arith, fill-flushed l d sized below)) short in
           rw zero-add at (longer-then g p)

@@ -99,7 +99,7 @@ power-loss = always _ given
 -- A restart begin of a shut store is refused for its number only.
 pub restart-accepted : RestartAccepted
 unfolding RestartAccepted result
-restart-accepted = always _ (λ puts m r h e. restart-begin-answers (m .core) (m .world) e (holding-kept h .sound))
+restart-accepted = always _ (λ puts m r h e. restart-begin-answers (m .core) (m .world) e (holding-kept h .restartable))
 
 -- The page memory is a plain table of slots.
 pub table : Table
@@ -149,5 +149,5 @@ pub never-malformed : NeverMalformed
 unfolding NeverMalformed result
 never-malformed =
     always _ (λ puts m r h k.
-    never-seven k (m .core) (m .world) (λ e. holding-kept h .sound) (λ e. replayed h (ap whenReplaying e) .progress)
+    never-seven k (m .core) (m .world) (λ e. holding-kept h .restartable) (λ e. replayed h (ap whenReplaying e) .progress)
     (λ e. abort-never-bad (served h e)))

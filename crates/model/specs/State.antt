@@ -111,8 +111,8 @@ endOf l disk = tailOf l disk + fillOf l disk
 unfoldable pub withFill : Logs → ℕ → ℕ → Logs
 withFill l disk n = record { starts = l .starts; tails = l .tails; fills = set (l .fills) disk n }
 
-unfoldable pub flushed : Logs → ℕ → Logs
-flushed l disk = record { starts = l .starts; tails = set (l .tails) disk (endOf l disk); fills = set (l .fills) disk 0 }
+unfoldable pub afterFlush : Logs → ℕ → Logs
+afterFlush l disk = record { starts = l .starts; tails = set (l .tails) disk (endOf l disk); fills = set (l .fills) disk 0 }
 
 -- The table, by place.
 unfoldable pub numberAt : Table → ℕ → ℕ

@@ -11,7 +11,7 @@ use Rattle.model.specs.Sizes.{widthIn, slotBase}
 use Rattle.model.specs.Record.{Record, change, close, encode, wordsOf, updateKind, commitKind}
 use Rattle.model.specs.World.{World, write, pages, work, each, perform}
 use Rattle.model.specs.Memory.{ownerAt, copyOf}
-use Rattle.model.specs.State.{begunWith, withLog, endOf, flushed, placeOf, diskAtPlace, firstAt, reservedAt, withPlace, without, hasUpdate}
+use Rattle.model.specs.State.{begunWith, withLog, endOf, afterFlush, placeOf, diskAtPlace, firstAt, reservedAt, withPlace, without, hasUpdate}
 use Rattle.model.specs.Room.{noDisk, hasRoom, idlest}
 use Rattle.model.specs.Refusal.{Row, row, Task, Verdict, accepted, rejected, verdict}
 use Rattle.model.specs.Causes.{whenServing, stageForbids, anchorWrong, lengthsWrong, slotMissing, notOpen, readerNotOpen, valueWrong, locked, tableFull, spent}
@@ -104,7 +104,7 @@ unfoldable pub commitTask : Core → World → ℕ → Task
 commitTask c w number =
     record {
       actions = added .actions ++ flush (c .sizes) (added .logs) (perform (added .actions) w .work) (diskOf c number);
-      core = withLog c (flushed (added .logs) (diskOf c number)) (without (c .table) number);
+      core = withLog c (afterFlush (added .logs) (diskOf c number)) (without (c .table) number);
       value = 0;
     }
   where

@@ -15,7 +15,7 @@ use Rattle.model.specs.declared.Reply.{Reply}
 use Rattle.model.specs.Record.{encode, close, commitKind}
 use Rattle.model.specs.World.{World}
 use Rattle.model.specs.Memory.{bufferWords}
-use Rattle.model.specs.State.{tailOf, fillOf, endOf, isOpen, servingSound, withFill, withLog, without, flushed}
+use Rattle.model.specs.State.{tailOf, fillOf, endOf, isOpen, servingSound, withFill, withLog, without, afterFlush}
 use Rattle.model.specs.Refusal.{row, verdict, accepted, rejected}
 use Rattle.model.specs.Causes.{whenServing, notOpen}
 use Rattle.model.specs.Append.{appendIf, append, flush}
@@ -52,13 +52,13 @@ module _ (c : Core) (w : World) (number : ℕ) {a : Bool} {r : ℕ} (stage : a �
     commit-accepted none opened = first-accepted whenServing c w stage first none (row 9 (notOpen c number) ∷ []) ∙ rw opened refl
 
 -- a disk whose buffer came to n words, flushed
-flushed-fill : (l : Logs) (disk n : ℕ) → disk < length (l .fills) → flushed (withFill l disk n) disk ≡ withDisk l disk (tailOf l disk + n) 0
-unfolding flushed withFill endOf tailOf fillOf
+flushed-fill : (l : Logs) (disk n : ℕ) → disk < length (l .fills) → afterFlush (withFill l disk n) disk ≡ withDisk l disk (tailOf l disk + n) 0
+unfolding afterFlush withFill endOf tailOf fillOf
 flushed-fill l disk n fills = rw (getD-set-same (l .fills) disk n 0 fills, set-set (l .fills) disk n 0) refl
 
 flushed-twice : (l : Logs) (disk : ℕ) → disk < length (l .tails) → disk < length (l .fills)
-    → flushed (withFill (flushed l disk) disk 2) disk ≡ withDisk l disk (tailOf l disk + fillOf l disk + 2) 0
-unfolding flushed withFill endOf tailOf fillOf
+    → afterFlush (withFill (afterFlush l disk) disk 2) disk ≡ withDisk l disk (tailOf l disk + fillOf l disk + 2) 0
+unfolding afterFlush withFill endOf tailOf fillOf
 flushed-twice l disk tails fills =
     let ends = getD-set-same (l .tails) disk (getD (l .tails) disk 0 + getD (l .fills) disk 0) 0 tails in
     let two = getD-set-same (set (l .fills) disk 0) disk 2 0 (rw (length-set (l .fills) disk 0) fills) in
@@ -102,7 +102,7 @@ committed-logs c w number sized below =
 
     go : (b : Bool)
         → withDisk l disk (tailOf l disk + fillOf l disk + 2) 0
-        ≡ flushed (appendIf b (c .sizes) l (w .work) disk (encode (close commitKind number)) .logs) disk
+        ≡ afterFlush (appendIf b (c .sizes) l (w .work) disk (encode (close commitKind number)) .logs) disk
     go true =
         let ends : tailOf l disk + fillOf l disk + 2 ≡ tailOf l disk + (fillOf l disk + 2) = omega arith in
         rw (ends, two) (sym (flushed-fill l disk (fillOf l disk + 2) (omega (arith, sized .fills))))

@@ -54,7 +54,7 @@ module _ {x size : ℕ} {a : Ledger} (inPage : ℕ → Bool) (before : (w : ℕ)
 -- what its caller has shown
 pub record MaySwitch (size : ℕ) (a : Ledger) (kept : Entry → Bool) : Type 0 where
   -- all is flushed and copied
-  pub flushed : a .buffered ≡ []
+  pub none-buffered : a .buffered ≡ []
   pub all-copied : (w : ℕ) → w < size → a .epoch < a .copies w
   -- what goes is in the new backup, and of finished transactions
   pub old : (w : ℕ) → w < size → All (λ r. mask (leb (a .epoch + 1) (r .copy)) (adds w r) ≡ 0) (pick (λ r. not (kept r)) (a .flushed))
@@ -84,7 +84,7 @@ module _ {size : ℕ} {a : Ledger} {kept : Entry → Bool} (g : Good 0 size a) (
   perm : (f : Entry → ℕ) → sum f ((D ++ R) ++ []) ≡ sum f (a .flushed ++ a .buffered)
   unfolding D R
   perm f =
-      rw (may .flushed, append-nil (D ++ R), append-nil (a .flushed))
+      rw (may .none-buffered, append-nil (D ++ R), append-nil (a .flushed))
       (sum-append f D R ∙ ⊕-comm (sum f D) (sum f R) ∙ sum-pick kept f (a .flushed))
 
   -- a sum that has nothing of what goes

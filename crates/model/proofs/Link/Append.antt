@@ -10,7 +10,7 @@ use Rattle.model.specs.declared.Sizes.{Sizes}
 use Rattle.model.specs.declared.Logs.{Logs}
 use Rattle.model.specs.Record.{encode}
 use Rattle.model.specs.World.{World, work, perform, stores}
-use Rattle.model.specs.State.{fillOf, withFill, flushed}
+use Rattle.model.specs.State.{fillOf, withFill, afterFlush}
 use Rattle.model.specs.Append.{Appended, flush, buffered, append}
 use Rattle.model.proofs.Run.{perform-append}
 use Rattle.model.proofs.Lengths.{Lengths}
@@ -32,7 +32,7 @@ module _ (s : Sizes) (l : Logs) (memory : List ℕ) (d : ℕ) (words : List ℕ)
 
   append-is-flush : 64 < fillOf l d + length words
       → append s l memory d words
-      ≡ record { actions = flush s l memory d ++ buffered s d 0 words; logs = withFill (flushed l d) d (length words) }
+      ≡ record { actions = flush s l memory d ++ buffered s d 0 words; logs = withFill (afterFlush l d) d (length words) }
   unfolding append
   append-is-flush h = rw (lt-leb _ _ h)
 

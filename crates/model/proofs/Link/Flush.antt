@@ -13,7 +13,7 @@ use Rattle.model.specs.Word.{part}
 use Rattle.model.specs.Sizes.{ringOf, diskAt, tailWord, ringWord}
 use Rattle.model.specs.World.{World, Action, store, logs, cost, perform, stores, covered, run, each}
 use Rattle.model.specs.Memory.{bufferOf}
-use Rattle.model.specs.State.{startOf, keptOf, tailOf, fillOf, endOf, flushed}
+use Rattle.model.specs.State.{startOf, keptOf, tailOf, fillOf, endOf, afterFlush}
 use Rattle.model.specs.Causes.{tailOn, tailIn}
 use Rattle.model.specs.Append.{storeLog, storeAll, flush}
 use Rattle.model.proofs.Run.{stores-append, stores-each}
@@ -101,20 +101,20 @@ module _ {s : Sizes} {l : Logs} {w : World} {F B : List Entry} (k : Link s l w F
   unfolding endOf
   end-long = rw (k .fill d below)
 
-  tail-after : (e : ℕ) → e < s .disks → tailOf (flushed l d) e ≡ keptOf l e + length (wordsOf (on e (F ++ on d B)))
+  tail-after : (e : ℕ) → e < s .disks → tailOf (afterFlush l d) e ≡ keptOf l e + length (wordsOf (on e (F ++ on d B)))
   tail-after e h = go (ℕ-discrete e d)
     where
-      go : Dec (e ≡ d) → tailOf (flushed l d) e ≡ keptOf l e + length (wordsOf (on e (F ++ on d B)))
+      go : Dec (e ≡ d) → tailOf (afterFlush l d) e ≡ keptOf l e + length (wordsOf (on e (F ++ on d B)))
       go (yes same) =
           rw (same, on-flushed d F B)
           (omega (arith, tail-flushed l d (a .sized) (below-eight a below), end-long, k .tail d below, length-words-append (on d F) (on d B)))
       go (no ne) = rw (on-other-flushed d F B e ne) (tail-flushed-other l d e ne ∙ k .tail e h)
 
-  stored-after : (e : ℕ) → e < s .disks → tailOn s after e ≡ tailOf (flushed l d) e
+  stored-after : (e : ℕ) → e < s .disks → tailOn s after e ≡ tailOf (afterFlush l d) e
   unfolding tailIn
   stored-after e h = go (ℕ-discrete e d)
     where
-      go : Dec (e ≡ d) → getD (after .logs) (tailWord s e) 0 ≡ tailOf (flushed l d) e
+      go : Dec (e ≡ d) → getD (after .logs) (tailWord s e) 0 ≡ tailOf (afterFlush l d) e
       go (yes same) =
           rw same
           (flush-tail s d (tailOf l d) (wordsOf (on d B)) w fits (k .stored d below) ∙ sym end-long ∙ sym (tail-flushed l d (a .sized) (below-eight a below)))
@@ -123,24 +123,24 @@ module _ {s : Sizes} {l : Logs} {w : World} {F B : List Entry} (k : Link s l w F
           ∙ k .stored e h ∙ sym (tail-flushed-other l d e ne)
 
   buffer-after : (e : ℕ) → e < s .disks
-      → bufferOf s (w .work) e (fillOf (flushed l d) e) ≡ wordsOf (on e (pick (λ r. not (onDisk d r)) B))
+      → bufferOf s (w .work) e (fillOf (afterFlush l d) e) ≡ wordsOf (on e (pick (λ r. not (onDisk d r)) B))
   unfolding bufferOf part
   buffer-after e h = go (ℕ-discrete e d)
     where
-      go : Dec (e ≡ d) → bufferOf s (w .work) e (fillOf (flushed l d) e) ≡ wordsOf (on e (pick (λ r. not (onDisk d r)) B))
+      go : Dec (e ≡ d) → bufferOf s (w .work) e (fillOf (afterFlush l d) e) ≡ wordsOf (on e (pick (λ r. not (onDisk d r)) B))
       go (yes same) = rw (same, fill-flushed l d (a .sized) (below-eight a below), on-emptied d F B) (sym words-none)
       go (no ne) = rw (on-other-kept d F B e ne, fill-flushed-other l d e ne) (k .buffer e h)
 
-  fill-after : (e : ℕ) → e < s .disks → fillOf (flushed l d) e ≡ length (wordsOf (on e (pick (λ r. not (onDisk d r)) B)))
+  fill-after : (e : ℕ) → e < s .disks → fillOf (afterFlush l d) e ≡ length (wordsOf (on e (pick (λ r. not (onDisk d r)) B)))
   fill-after e h = go (ℕ-discrete e d)
     where
-      go : Dec (e ≡ d) → fillOf (flushed l d) e ≡ length (wordsOf (on e (pick (λ r. not (onDisk d r)) B)))
+      go : Dec (e ≡ d) → fillOf (afterFlush l d) e ≡ length (wordsOf (on e (pick (λ r. not (onDisk d r)) B)))
       go (yes same) = rw (same, fill-flushed l d (a .sized) (below-eight a below), on-emptied d F B, words-none)
       go (no ne) = rw (on-other-kept d F B e ne, fill-flushed-other l d e ne) (k .fill e h)
 
   -- the buffered entries of the disk are flushed ones after it
-  pub flush-link : Link s (flushed l d) (perform (flush s l (w .work) d) w) (F ++ on d B) (pick (λ r. not (onDisk d r)) B)
-  unfolding keptOf startOf flushed
+  pub flush-link : Link s (afterFlush l d) (perform (flush s l (w .work) d) w) (F ++ on d B) (pick (λ r. not (onDisk d r)) B)
+  unfolding keptOf startOf afterFlush
   flush-link =
       let same = flush-only-logs s d (tailOf l d) (wordsOf (on d B)) w .work-same in
       rw flush-words

@@ -14,7 +14,7 @@ use Rattle.model.specs.Decode.{readLog}
 use Rattle.model.specs.Scan.{Scan, item, scan, placed}
 use Rattle.model.specs.World.{World, Action, perform}
 use Rattle.model.specs.Memory.{bufferOf}
-use Rattle.model.specs.State.{keptOf, tailOf, fillOf, flushed, endOf}
+use Rattle.model.specs.State.{keptOf, tailOf, fillOf, afterFlush, endOf}
 use Rattle.model.specs.Causes.{tailOn, retainedFrom}
 use Rattle.model.specs.Image.{logOf, wordsFrom, imageFrom}
 use Rattle.model.proofs.Below.{getD-list}
@@ -42,7 +42,7 @@ pub record Arrays (s : Sizes) (l : Logs) : Type 0 where
 pub below-eight : {s : Sizes} {l : Logs} {d : ℕ} → Arrays s l → d < s .disks → d < 8
 below-eight a h = omega (arith, a .disks)
 
-pub arrays-flushed : {s : Sizes} {l : Logs} (d : ℕ) → Arrays s l → Arrays s (flushed l d)
+pub arrays-flushed : {s : Sizes} {l : Logs} (d : ℕ) → Arrays s l → Arrays s (afterFlush l d)
 arrays-flushed {l = l} d a = record { sized = sized-flushed l d (a .sized); disks = a .disks; ring = a .ring }
 
 pub arrays-longer : {s : Sizes} {d n : ℕ} {l m : Logs} → Arrays s l → Longer s d n l m → Arrays s m

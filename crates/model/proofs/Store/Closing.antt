@@ -14,7 +14,7 @@ use Rattle.model.specs.Record.{encode}
 use Rattle.model.specs.Anchor.{backupAt}
 use Rattle.model.specs.World.{World, Action, perform, stores, run}
 use Rattle.model.specs.Memory.{bufferAt, copyAt, copyOf}
-use Rattle.model.specs.State.{limit, keptOf, endOf, flushed, withLog, without, isOpen}
+use Rattle.model.specs.State.{limit, keptOf, endOf, afterFlush, withLog, without, isOpen}
 use Rattle.model.specs.Append.{Appended, append, flush}
 use Rattle.model.specs.Reference.{Reference, writesOf, removed, applied, wordsIn}
 use Rattle.model.specs.History.{Told, also}
@@ -65,7 +65,7 @@ module _ {home : ℕ → ℕ} {puts : Told} {c : Core} {w : World} {r : Referenc
   doneWorld = perform flushing addedWorld
 
   abbrev doneCore : Core
-  doneCore = withLog c (flushed (added .logs) (e .disk)) (without (c .table) (e .number))
+  doneCore = withLog c (afterFlush (added .logs) (e .disk)) (without (c .table) (e .number))
 
   abbrev doneReference : Reference
   doneReference = committedReference r (e .number)
@@ -115,12 +115,12 @@ module _ {home : ℕ → ℕ} {puts : Told} {c : Core} {w : World} {r : Referenc
   lengths : SameLengths doneWorld w
   lengths = same-lengths-trans (perform-lengths flushing addedWorld) (perform-lengths (added .actions) w)
 
-  kept-same : (d : ℕ) → keptOf (flushed (added .logs) (e .disk)) d ≡ keptOf (c .logs) d
+  kept-same : (d : ℕ) → keptOf (afterFlush (added .logs) (e .disk)) d ≡ keptOf (c .logs) d
   kept-same d = kept-flushed (added .logs) (e .disk) d ∙ more .kept-same d
 
   devices : Devices doneCore doneWorld
   devices =
-      devices-kept (g .safe .devices) (flushed (added .logs) (e .disk)) (without (c .table) (e .number)) doneWorld (λ d. start-flushed (added .logs) (e .disk) d ∙ more .start-same d)
+      devices-kept (g .safe .devices) (afterFlush (added .logs) (e .disk)) (without (c .table) (e .number)) doneWorld (λ d. start-flushed (added .logs) (e .disk) d ∙ more .start-same d)
       (arrays-flushed (e .disk) arrays) (only .anchor-same ∙ buffer .anchor-same) lengths
 
   -- each log's end is where it was, on the commit's disk behind the closing record
@@ -179,7 +179,7 @@ module _ {home : ℕ → ℕ} {puts : Told} {c : Core} {w : World} {r : Referenc
         devices = devices;
         good = good;
         link =
-            lists F B e (Link (c .sizes) (flushed (added .logs) (e .disk)) doneWorld)
+            lists F B e (Link (c .sizes) (afterFlush (added .logs) (e .disk)) doneWorld)
             (flush-link linked right arrays (e .disk) below ring-room);
         ordered =
             subst (λ (start : ℕ → ℕ). Ordered (c .sizes .disks) start home gone rest)
@@ -199,7 +199,7 @@ module _ {home : ℕ → ℕ} {puts : Told} {c : Core} {w : World} {r : Referenc
   accounts : Accounts 0 home doneCore gone rest
   accounts =
       accounts-closed (g .accounts) e gone rest opened closes (λ u ne o z. open-place (c .table) u o .0 z) (moved F B e) (closed F B e closes) (bounds F B e)
-      (flushed (added .logs) (e .disk)) kept-same (open-used (g .safe) (e .number) opened .1) (found F B e) (words F B e)
+      (afterFlush (added .logs) (e .disk)) kept-same (open-used (g .safe) (e .number) opened .1) (found F B e) (words F B e)
 
   not-change : {X : Type 0} → isClose e ≡ false → X
   not-change o = true-false closes o
@@ -224,10 +224,10 @@ module _ {home : ℕ → ℕ} {puts : Told} {c : Core} {w : World} {r : Referenc
         safe = safe;
         accounts = accounts;
         copies = copies;
-        sets = sets-closed (g .accounts .tabled) (e .number) opened (g .sets) (flushed (added .logs) (e .disk)) doneReference refl;
+        sets = sets-closed (g .accounts .tabled) (e .number) opened (g .sets) (afterFlush (added .logs) (e .disk)) doneReference refl;
         owners =
             owners-closed (g .accounts .tabled) (e .number) opened (g .safe .devices .bounds) (g .owners) owner-same
-            (flushed (added .logs) (e .disk)) doneReference refl;
+            (afterFlush (added .logs) (e .disk)) doneReference refl;
         told = λ d h. since-still (kept-same d) (λ t y l. was-open (c .table) (g .accounts .tabled) (e .number) opened t (y l) .0) (told F B e (puts .puts) d (g .told d h));
         marks = g .marks;
       }

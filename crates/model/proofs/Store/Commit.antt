@@ -11,7 +11,7 @@ use Rattle.model.specs.declared.Core.{Core}
 use Rattle.model.specs.Sizes.{ringOf}
 use Rattle.model.specs.Record.{encode, close, commitKind}
 use Rattle.model.specs.World.{World, Action, perform, stores, run, finishes}
-use Rattle.model.specs.State.{limit, keptOf, endOf, flushed, withLog, without, isOpen}
+use Rattle.model.specs.State.{limit, keptOf, endOf, afterFlush, withLog, without, isOpen}
 use Rattle.model.specs.Refusal.{accepted, verdict}
 use Rattle.model.specs.Append.{Appended, append, flush}
 use Rattle.model.specs.Transaction.{diskOf, commitRows, commitTask}
@@ -75,7 +75,7 @@ module _ {puts : Told} {c : Core} {w : World} {r : Reference} (g : Served puts c
   task : commitTask c w n
       ≡ record {
         actions = start .flushing ++ (added .actions ++ flushing);
-        core = withLog c (flushed (added .logs) (diskOf c n)) (without (c .table) n);
+        core = withLog c (afterFlush (added .logs) (diskOf c n)) (without (c .table) n);
         value = 0;
       }
   unfolding commitTask recordOf isClose encode
@@ -83,7 +83,7 @@ module _ {puts : Told} {c : Core} {w : World} {r : Reference} (g : Served puts c
       ap (λ (x : Appended).
       record {
         actions = x .actions ++ flush (c .sizes) (x .logs) (perform (x .actions) w .work) (diskOf c n);
-        core = withLog c (flushed (x .logs) (diskOf c n)) (without (c .table) n);
+        core = withLog c (afterFlush (x .logs) (diskOf c n)) (without (c .table) n);
         value = 0;
       })
       (start .split (encode (close commitKind n)) refl)
@@ -110,7 +110,7 @@ module _ {puts : Told} {c : Core} {w : World} {r : Reference} (g : Served puts c
         in-limit = omega (arith, start .ends, a .in-limit, size);
       }
 
-  serves : Served (also puts (record { disk = diskOf c n; content = close commitKind n } ∷ [])) (withLog c (flushed (added .logs) (diskOf c n)) (without (c .table) n))
+  serves : Served (also puts (record { disk = diskOf c n; content = close commitKind n } ∷ [])) (withLog c (afterFlush (added .logs) (diskOf c n)) (without (c .table) n))
       (perform flushing (perform (added .actions) world)) (committedReference r n)
   unfolding withLog diskOf recordOf isClose
   serves =

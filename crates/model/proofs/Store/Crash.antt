@@ -174,5 +174,5 @@ module _ {x : ℕ} {home : ℕ → ℕ} {c : Core} {w : World} {r : Reference} {
             ext-getD 0 _ _ (length-restarted (imageOf w) backup-long ∙ ap total image-sizes ∙ sym (words-length s (r .committed) (g .shaped)))
             (λ i h. word i (subst (λ (n : ℕ). i < n) (length-restarted (imageOf w) backup-long ∙ ap total image-sizes) h));
         logs = λ d h. let k = rw (g .devices .sizes) at h in stored d k puts (told d k);
-        sound = restartable;
+        restartable = restartable;
       }

@@ -11,7 +11,7 @@ use Rattle.model.specs.declared.Core.{Core}
 use Rattle.model.specs.Sizes.{total, ringOf}
 use Rattle.model.specs.World.{World, perform, run, stores}
 use Rattle.model.specs.Memory.{copyOf, lengthsRight}
-use Rattle.model.specs.State.{startOf, keptOf, endOf, flushed, withLog, placeOf, firstAt}
+use Rattle.model.specs.State.{startOf, keptOf, endOf, afterFlush, withLog, placeOf, firstAt}
 use Rattle.model.specs.Anchor.{sizesOn, epochOn, startOn}
 use Rattle.model.specs.Append.{flush}
 use Rattle.model.specs.Transaction.{diskOf}
@@ -59,7 +59,7 @@ devices-kept {c} g l t v starts arrays anchor lengths =
 
 -- the state after the flush
 abbrev pub flushedCore : Core → ℕ → Core
-flushedCore c d = withLog c (flushed (c .logs) d) (c .table)
+flushedCore c d = withLog c (afterFlush (c .logs) d) (c .table)
 
 abbrev pub left : ℕ → List Entry → List Entry
 left d B = pick (λ r. not (onDisk d r)) B
@@ -97,11 +97,11 @@ module _ {x : ℕ} {home : ℕ → ℕ} {c : Core} {w : World} {r : Reference} {
       }
 
   pub flush-safe : Safe x home (flushedCore c d) flushedWorld r (F ++ on d B) (left d B)
-  unfolding withLog view flushed keptOf startOf on
+  unfolding withLog view afterFlush keptOf startOf on
   flush-safe =
       record {
         devices =
-            devices-kept (g .devices) (flushed (c .logs) d) (c .table) flushedWorld (start-flushed (c .logs) d)
+            devices-kept (g .devices) (afterFlush (c .logs) d) (c .table) flushedWorld (start-flushed (c .logs) d)
             (arrays-flushed d (g .devices .arrays)) (only .anchor-same) (perform-lengths _ w);
         good = good-same same (flush-good home (g .ordered .homed) (g .good) d);
         link = flush-link (g .link) right (g .devices .arrays) d below room;
@@ -162,7 +162,7 @@ module _ {x : ℕ} {home : ℕ → ℕ} {puts : Told} {c : Core} {w : World} {r 
   moved P h = all-flush P (onDisk d) F B h
 
   accounts : Accounts x home (flushedCore c d) (F ++ on d B) (left d B)
-  unfolding withLog on flushed keptOf startOf diskOf
+  unfolding withLog on afterFlush keptOf startOf diskOf
   accounts =
       record {
         tabled = g .accounts .tabled;
@@ -177,7 +177,7 @@ module _ {x : ℕ} {home : ℕ → ℕ} {puts : Told} {c : Core} {w : World} {r 
       }
 
   copies : Copies (flushedCore c d) (flushedWorld (g .safe) d below) (F ++ on d B) (left d B)
-  unfolding withLog on flushed keptOf startOf before copyOf
+  unfolding withLog on afterFlush keptOf startOf before copyOf
   copies =
       record {
         copied = g .copies .copied;
@@ -188,7 +188,7 @@ module _ {x : ℕ} {home : ℕ → ℕ} {puts : Told} {c : Core} {w : World} {r 
       }
 
   pub flush-serving : Serving x home puts (flushedCore c d) (flushedWorld (g .safe) d below) r (F ++ on d B) (left d B)
-  unfolding withLog flushed keptOf startOf
+  unfolding withLog afterFlush keptOf startOf
   flush-serving =
       record {
         stage = g .stage;

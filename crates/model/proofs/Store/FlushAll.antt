@@ -10,7 +10,7 @@ use Rattle.model.specs.declared.Logs.{Logs}
 use Rattle.model.specs.declared.Core.{Core}
 use Rattle.model.specs.Below.{joinBelow}
 use Rattle.model.specs.World.{World, Action, perform, run, stores}
-use Rattle.model.specs.State.{tailOf, fillOf, endOf, flushed, withLog}
+use Rattle.model.specs.State.{tailOf, fillOf, endOf, afterFlush, withLog}
 use Rattle.model.specs.Append.{flush}
 use Rattle.model.specs.Reference.{Reference}
 use Rattle.model.specs.History.{Told}
@@ -94,7 +94,7 @@ module _ {x : ℕ} {home : ℕ → ℕ} {puts : Told} {c : Core} {w : World} {r 
 
     Done : List Action → Type 0
     Done l =
-        Serving x home puts (withLog c (flushed (e .logs) n) (c .table)) (perform l now) r (e .flushed ++ on n (e .buffered)) (left n (e .buffered))
+        Serving x home puts (withLog c (afterFlush (e .logs) n) (c .table)) (perform l now) r (e .flushed ++ on n (e .buffered)) (left n (e .buffered))
 
     whole : Done one
     unfolding Done withLog
@@ -123,7 +123,7 @@ module _ {x : ℕ} {home : ℕ → ℕ} {puts : Told} {c : Core} {w : World} {r 
     moved : perform one now .work ≡ now .work
     moved = subst (λ (l : List Action). perform l now .work ≡ now .work) same (flush-only (c .sizes) (e .logs) now n .work-same)
 
-    ends-more : (d : ℕ) → d < c .sizes .disks → endOf (flushed (e .logs) n) d ≡ endOf (c .logs) d
+    ends-more : (d : ℕ) → d < c .sizes .disks → endOf (afterFlush (e .logs) n) d ≡ endOf (c .logs) d
     ends-more d h = ends-flushed (e .logs) n (arrays .sized) (below-eight arrays below) d ∙ e .ends d h
 
     none-more : (d : ℕ) → d < suc n → on d (left n (e .buffered)) ≡ []
@@ -136,7 +136,7 @@ module _ {x : ℕ} {home : ℕ → ℕ} {puts : Told} {c : Core} {w : World} {r 
     unfolding joinBelow Done
     step =
         record {
-          logs = flushed (e .logs) n;
+          logs = afterFlush (e .logs) n;
           flushed = e .flushed ++ on n (e .buffered);
           buffered = left n (e .buffered);
           serving = rw (perform-append (flushes c w n) one w) whole;

@@ -54,7 +54,7 @@ going-on {v = v} {w = w} same further was d l =
 
 -- the committed contents do not hang on the write sets
 pub kept-sets : {puts : Told} {w : World} {r : Reference} → Kept puts w r → (sets : List WriteSet) → Kept puts w (withSets r sets)
-kept-sets k sets = record { sizes = k .sizes; shaped = k .shaped; image = k .image; logs = k .logs; sound = k .sound }
+kept-sets k sets = record { sizes = k .sizes; shaped = k .shaped; image = k .image; logs = k .logs; restartable = k .restartable }
 
 -- whatever the stage, the devices restart to what is committed
 pub holding-kept : {puts : Told} {m : Machine} {r : Reference} → Holding puts m r → Kept puts (m .world) r

@@ -90,5 +90,5 @@ module _ {x : ℕ} {home : ℕ → ℕ} {c : Core} {m : Logs} {w v : World} {r :
             let k = rw sizes at l in
             stored-same (ap sizesOn anchor) (ap (λ (a : List ℕ). startOn a d) anchor) (rw (g .devices .sizes) (tail-linked d k))
             (rw (g .devices .sizes) (words d k)) (rw (g .devices .sizes) (scan-linked d k)) image-linked (stored g d k puts (told d k));
-        sound = restartable-linked (h .sound);
+        restartable = restartable-linked (h .restartable);
       }

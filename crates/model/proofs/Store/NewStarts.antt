@@ -176,7 +176,7 @@ module _ {home : ℕ → ℕ} {puts : Told} {c : Core} {w : World} {r : Referenc
   unfolding view
   may =
       record {
-        flushed = refl;
+        none-buffered = refl;
         all-copied = λ i h. omega (arith, page-copied (pageOf (c .sizes) i) (page-in (c .sizes) i h .0));
         old = λ i h. switch-old (g .safe .ordered) (newStart c) placed (λ d l. new-start c d .at-most-end) i;
         closed = rw (append-nil F) at (switch-closed (g .safe .ordered) (newStart c) placed reach);

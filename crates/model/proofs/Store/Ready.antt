@@ -11,7 +11,7 @@ use borrow.Author.Tests.{leb-true, leb-false, le-leb, lt-leb}
 use Rattle.model.specs.declared.Logs.{Logs}
 use Rattle.model.specs.declared.Core.{Core}
 use Rattle.model.specs.World.{World, Action, perform, run, stores}
-use Rattle.model.specs.State.{keptOf, fillOf, endOf, flushed, withLog}
+use Rattle.model.specs.State.{keptOf, fillOf, endOf, afterFlush, withLog}
 use Rattle.model.specs.Append.{append, flush}
 use Rattle.model.specs.Reference.{Reference}
 use Rattle.model.specs.History.{Told}
@@ -73,17 +73,17 @@ module _ {x : ℕ} {home : ℕ → ℕ} {puts : Told} {c : Core} {w : World} {r 
   only : OnlyLogs w (perform flushing w)
   only = flush-only (c .sizes) (c .logs) w d
 
-  longer : Longer (c .sizes) d 0 (c .logs) (flushed (c .logs) d)
+  longer : Longer (c .sizes) d 0 (c .logs) (afterFlush (c .logs) d)
   longer = flush-longer (c .sizes) (c .logs) d (g .safe .devices .arrays .sized) small (below-eight (g .safe .devices .arrays) below)
 
-  emptied : fillOf (flushed (c .logs) d) d ≡ 0
+  emptied : fillOf (afterFlush (c .logs) d) d ≡ 0
   emptied = fill-flushed (c .logs) d (g .safe .devices .arrays .sized) (below-eight (g .safe .devices .arrays) below)
 
   split : 64 < fillOf (c .logs) d + n → (words : List ℕ) → length words ≡ n
       → append (c .sizes) (c .logs) (w .work) d words
       ≡ record {
-        actions = flushing ++ append (c .sizes) (flushed (c .logs) d) (perform flushing w .work) d words .actions;
-        logs = append (c .sizes) (flushed (c .logs) d) (perform flushing w .work) d words .logs;
+        actions = flushing ++ append (c .sizes) (afterFlush (c .logs) d) (perform flushing w .work) d words .actions;
+        logs = append (c .sizes) (afterFlush (c .logs) d) (perform flushing w .work) d words .logs;
       }
   unfolding append
   split over words e =
@@ -101,7 +101,7 @@ module _ {x : ℕ} {home : ℕ → ℕ} {puts : Told} {c : Core} {w : World} {r 
   full over =
       record {
         flushing = flushing;
-        logs = flushed (c .logs) d;
+        logs = afterFlush (c .logs) d;
         flushed = F ++ on d B;
         buffered = left d B;
         serving = flush-serving g d below;

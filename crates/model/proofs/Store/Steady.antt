@@ -38,7 +38,7 @@ steady-restartable {v} {w} k h =
 pub steady-kept : {puts : Told} {v w : World} {r : Reference} → Steady v w → Kept puts w r → Kept puts v r
 unfolding tailIn retainedFrom wordsFrom
 steady-kept {v = v} {w = w} k h =
-    let eight = bounded (sizesOn (w .anchor)) (h .sound .image .bounds) .disks-max in
+    let eight = bounded (sizesOn (w .anchor)) (h .restartable .image .bounds) .disks-max in
     let same = steady-image k eight in
     record {
       sizes = k .sizes ∙ h .sizes;
@@ -48,7 +48,7 @@ steady-kept {v = v} {w = w} k h =
           let below = rw (k .sizes) at l in
           let start = k .starts d (omega (arith, eight, below)) in
           stored-same (k .sizes) start (rw (k .logs)) (rw (k .logs, start)) (rw (k .logs, start)) same (h .logs d below);
-      sound = steady-restartable k (h .sound);
+      restartable = steady-restartable k (h .restartable);
     }
 
 -- the same devices, and memories of the same lengths
@@ -83,5 +83,5 @@ kept-lost {puts} k more =
             finds = was .finds;
             reads = was .reads;
           };
-      sound = k .sound;
+      restartable = k .restartable;
     }

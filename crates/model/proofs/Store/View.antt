@@ -43,7 +43,7 @@ pub record Kept (puts : Told) (w : World) (r : Reference) : Type 0 where
   pub shaped : Shaped (r .sizes) (r .committed)
   pub image : restarted (imageOf w) ≡ wordsIn (r .committed)
   pub logs : (d : ℕ) → d < sizesOn (w .anchor) .disks → Stored puts w d
-  pub sound : Restartable w
+  pub restartable : Restartable w
 
 -- the store and its reference as a ledger, with the flushed entries F and the buffered entries B
 unfoldable pub view : Core → World → Reference → List Entry → List Entry → Ledger
