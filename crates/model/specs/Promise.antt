@@ -97,15 +97,15 @@ Table = Always λ m r. whenServing (m .core .stage) ≡ true → PlainTable m r
 -- (`reads`), finds the stretch, each record at its position, and no others. The rest is in the buffer, or lost with it.
 pub record Stored (t : Told) (w : World) (disk : ℕ) : Type 0 where
   pub old : List Record
-  pub kept : List Record
+  pub stretch : List Record
   pub rest : List Record
-  pub parts : recordsOn disk (t .puts) ≡ old ++ (kept ++ rest)
+  pub parts : recordsOn disk (t .puts) ≡ old ++ (stretch ++ rest)
   pub start : startOn (w .anchor) disk ≡ t .base disk + length (encodeAll old)
   pub since : startOn (w .anchor) disk ≡ t .starts disk
-  pub tail : tailOn (sizesOn (w .anchor)) w disk ≡ t .base disk + length (encodeAll (old ++ kept))
-  pub words : retainedWords (sizesOn (w .anchor)) w disk ≡ encodeAll kept
-  pub finds : retained (sizesOn (w .anchor)) w disk ≡ placed (startOn (w .anchor) disk) kept
-  pub reads : logOf (imageOf w) disk ≡ placed (startOn (w .anchor) disk) kept
+  pub tail : tailOn (sizesOn (w .anchor)) w disk ≡ t .base disk + length (encodeAll (old ++ stretch))
+  pub words : retainedWords (sizesOn (w .anchor)) w disk ≡ encodeAll stretch
+  pub finds : retained (sizesOn (w .anchor)) w disk ≡ placed (startOn (w .anchor) disk) stretch
+  pub reads : logOf (imageOf w) disk ≡ placed (startOn (w .anchor) disk) stretch
 
 -- the log from the start to the end, the buffer included
 unfoldable pub logScan : Core → World → ℕ → Scan
@@ -123,21 +123,21 @@ pub record AbortReads (c : Core) (w : World) (disk number : ℕ) (records : List
 
 -- While the store is open or copying nothing is lost: the rest is in the buffer, and the log from the start to the end reads as all
 -- records put since the start. What an abort takes back are the updates that were put under its number.
-pub record Buffered (t : Told) (c : Core) (w : World) (disk : ℕ) (kept rest : List Record) : Type 0 where
+pub record Buffered (t : Told) (c : Core) (w : World) (disk : ℕ) (stretch rest : List Record) : Type 0 where
   pub buffer : bufferOf (c .sizes) (w .work) disk (fillOf (c .logs) disk) ≡ encodeAll rest
-  pub reads : logScan c w disk ≡ placed (startOf (c .logs) disk) (kept ++ rest)
+  pub reads : logScan c w disk ≡ placed (startOf (c .logs) disk) (stretch ++ rest)
   pub aborts : (number : ℕ) → isOpen (c .table) number ≡ true → diskOf c number ≡ disk
-      → hasUpdate (c .table) (placeOf (c .table) number) ≡ true → AbortReads c w disk number (kept ++ rest)
+      → hasUpdate (c .table) (placeOf (c .table) number) ≡ true → AbortReads c w disk number (stretch ++ rest)
   pub undoes : (number : ℕ) → isOpen (c .table) number ≡ true → diskOf c number ≡ disk → updatesLeft c w number ≡ updatesPut t disk number
 
 -- While it replays, the steps have taken the first records of the stretch and the others are left. From its position on a log step's
 -- reader finds these and no others: the record that the step takes is the first of them, and it looks for a closing record among those
 -- after it. The step takes exactly that record: its position moves to behind the record's words, and nothing else of the state changes.
 -- "Each replay step changes the pages by the item it took": by that record's difference, or by nothing.
-pub record StepReads (c : Core) (w : World) (disk : ℕ) (kept : List Record) : Type 0 where
+pub record StepReads (c : Core) (w : World) (disk : ℕ) (stretch : List Record) : Type 0 where
   pub done : List Record
   pub left : List Record
-  pub parts : kept ≡ done ++ left
+  pub parts : stretch ≡ done ++ left
   pub position : positionOf c disk ≡ startOn (w .anchor) disk + length (encodeAll done)
   pub reads : scan (c .sizes) (readDisk c w disk) (tailOf (c .logs) disk) (positionOf c disk) ≡ placed (positionOf c disk) left
   pub takes : (r : Record) (more : List Record) → left ≡ r ∷ more → nextRecord c w disk ≡ decoded (positionOf c disk) r
@@ -153,8 +153,8 @@ pub record StepReads (c : Core) (w : World) (disk : ℕ) (kept : List Record) : 
 
 pub record LogOf (m : Machine) (t : Told) (disk : ℕ) : Type 0 where
   pub stored : Stored t (m .world) disk
-  pub serving : whenServing (m .core .stage) ≡ true → Buffered t (m .core) (m .world) disk (stored .kept) (stored .rest)
-  pub replaying : m .core .stage ≡ Replaying → StepReads (m .core) (m .world) disk (stored .kept)
+  pub serving : whenServing (m .core .stage) ≡ true → Buffered t (m .core) (m .world) disk (stored .stretch) (stored .rest)
+  pub replaying : m .core .stage ≡ Replaying → StepReads (m .core) (m .world) disk (stored .stretch)
 
 unfoldable pub LogKept : Type 0
 LogKept =

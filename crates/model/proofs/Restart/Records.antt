@@ -147,12 +147,12 @@ unfolding positionOf startOf restartBeginTask
 begun-positions w d = refl
 
 pub begun-replayed : {c : Core} {w : World} → Progress c w → (d : ℕ) → positionOf c d ≡ startOf (c .logs) d → {puts : Told} → (k : Stored puts w d)
-    → d < sizesOn (w .anchor) .disks → StepReads c w d (k .kept)
+    → d < sizesOn (w .anchor) .disks → StepReads c w d (k .stretch)
 unfolding logLeft encodeAll
 begun-replayed {c} {w} p d first k below =
     let inside : d < c .sizes .disks = rw (p .sizes) below in
     let start : positionOf c d ≡ startOn (w .anchor) d = first ∙ p .starts d inside in
-    replayed-at c c refl refl (record { anchor = refl; backups = refl; logs = refl }) d inside [] (k .kept) (positionOf c d) refl refl (start ∙ sym (add-zero (startOn (w .anchor) d)))
+    replayed-at c c refl refl (record { anchor = refl; backups = refl; logs = refl }) d inside [] (k .stretch) (positionOf c d) refl refl (start ∙ sym (add-zero (startOn (w .anchor) d)))
     (left-retained c w d (p .tails d inside) start ∙ rw (← p .sizes, ← start) at (k .finds))
 
 -- A step takes the next record of its log, and nothing of the others.

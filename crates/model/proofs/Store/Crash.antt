@@ -54,7 +54,7 @@ unfoldable pub stored-same : {v w : World} {puts : Told} {d : ℕ} → sizesOn (
 stored-same {d = d} sizes start tail words scan image k =
     record {
       old = k .old;
-      kept = k .kept;
+      stretch = k .stretch;
       rest = k .rest;
       parts = k .parts;
       start = start ∙ k .start;
@@ -153,7 +153,7 @@ module _ {x : ℕ} {home : ℕ → ℕ} {c : Core} {w : World} {r : Reference} {
       let long = ap length (encode-append (told .old) (map recordOf (on d F))) ∙ length-append (encodeAll (told .old)) (encodeAll (map recordOf (on d F))) in
       record {
         old = told .old;
-        kept = map recordOf (on d F);
+        stretch = map recordOf (on d F);
         rest = map recordOf (on d B);
         parts = told .all ∙ ap (λ (l : List Record). told .old ++ l) (map-append recordOf (on d F) (on d B));
         start = start ∙ told .from;

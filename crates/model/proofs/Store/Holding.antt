@@ -29,7 +29,7 @@ use Rattle.model.proofs.Store.Cases.{call-cases}
 -- What the log of a disk holds of what was put, and how far the steps of a restart have come in it.
 pub record Going (puts : Told) (c : Core) (w : World) (d : ℕ) : Type 0 where
   pub stored : Stored puts w d
-  pub steps : StepReads c w d (stored .kept)
+  pub steps : StepReads c w d (stored .stretch)
 
 -- A shut store has devices that restart to the committed contents, a replaying one too, and how far it got; an open one serves.
 pub data Holding (puts : Told) (m : Machine) (r : Reference) : Type 0 where
@@ -49,7 +49,7 @@ going-on {v = v} {w = w} same further was d l =
     let image = image-devices same in
     record {
       stored = stored-same (ap sizesOn (same .anchor)) start (rw (same .logs)) (rw (same .logs, start)) (rw (same .logs, start)) image (was d inside .stored);
-      steps = further d inside (was d inside .stored .kept) (was d inside .steps);
+      steps = further d inside (was d inside .stored .stretch) (was d inside .steps);
     }
 
 -- the committed contents do not hang on the write sets

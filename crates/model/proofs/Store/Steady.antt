@@ -72,10 +72,10 @@ kept-lost {puts} k more =
           let last = recordsOn d more in
           record {
             old = was .old;
-            kept = was .kept;
+            stretch = was .stretch;
             rest = was .rest ++ last;
             parts = records-append d (puts .puts) more ∙ ap (λ (l : List Record). l ++ last) (was .parts)
-                ∙ append-assoc (was .old) (was .kept ++ was .rest) last ∙ ap (λ (l : List Record). was .old ++ l) (append-assoc (was .kept) (was .rest) last);
+                ∙ append-assoc (was .old) (was .stretch ++ was .rest) last ∙ ap (λ (l : List Record). was .old ++ l) (append-assoc (was .stretch) (was .rest) last);
             start = was .start;
             since = was .since;
             tail = was .tail;
