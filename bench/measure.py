@@ -9,7 +9,7 @@ import sys
 
 from contestants import (ALL, LOGGING, ROOM, SIZES, copied_bytes, device_kilobytes, hot_functions, instructions, peak_kilobytes,
                          restart_instructions, restart_times, stores, transaction_times)
-from shapes import SHAPES, empty_restart, restarted_record, undone_update
+from shapes import SHAPES, empty_restart, open_record, restarted_record, undone_update
 
 QUICK = "--quick" in sys.argv
 ROUNDS = 3 if QUICK else 7
@@ -127,20 +127,22 @@ def log_series():
            *(f"{name}, ns a record" for name in LOGGING)], rows)
 
 
+def shape_row(name, part, empty):
+    """A shape of the log that fills a part of the ring."""
+    plan = SHAPES[name](SIZES["ring"] // part)
+    records, closed = restarted_record(plan, empty)
+    updates, undone = undone_update(plan)
+    return [name, f"1/{part}" if part > 1 else "1", f"{records:,}", closed, open_record(plan, empty), f"{updates:,}", undone]
+
+
 def shape_series():
-    """Shapes of the log by the part of a ring that they fill."""
-    rows, empty = [], empty_restart()
-    for part in [16] if QUICK else [16, 4, 1]:
-        for name, plan_of in SHAPES.items():
-            plan = plan_of(SIZES["ring"] // part)
-            records, closed = restarted_record(plan, empty)
-            _, left_open = restarted_record(plan, empty, closed=False)
-            updates, undone = undone_update(plan)
-            rows.append([name, f"1/{part}" if part > 1 else "1", f"{records:,}", closed, left_open, f"{updates:,}", undone])
-    say("By the shape of the log, the proved store's instructions (one-word slots; an undone update is an abort less a commit):\n")
-    table(["the log", "of the ring", "records", "a restarted record", "the same, left open", "updates", "an undone update"], rows)
-    dear = lambda *columns: (lambda found: max(found) / min(found))([row[k] for row in rows for k in columns if row[k] is not None])
-    say(f"The dearest costs {shown(dear(3, 4))} times the cheapest of the restarted records, {shown(dear(6))} times of the undone updates.\n")
+    empty = empty_restart()
+    rows = [shape_row(name, part, empty) for part in ([16] if QUICK else [16, 4, 1]) for name in SHAPES]
+    say("By the shape of the log, the proved store's instructions:\n")
+    table(["the log", "of the ring", "records", "a restarted record", "left open, a restarted record", "updates", "an undone update"], rows)
+    record, undone = ([row[k] for row in rows for k in columns if row[k] is not None] for columns in [(3, 4), (6,)])
+    say(f"The dearest restarted record costs {shown(max(record) / min(record))} times the cheapest, "
+        f"the dearest undone update {shown(max(undone) / min(undone))} times.\n")
 
 
 def profile():
