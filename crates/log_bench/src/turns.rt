@@ -4,8 +4,8 @@ use rehearsal::words::more;
 use rehearsal::words::sum;
 use rehearsal::words::times;
 
-// In a round `together` transactions begin, make `length` updates each, by turns, and are closed, or left open: so the rounds leave at
-// most sixteen. One long transaction is a round, sixteen interleaved ones are a round, short ones are a round each.
+// In a round `together` transactions begin, make `length` updates each, by turns, and are closed. One long transaction is a round,
+// sixteen interleaved ones are a round, short ones are a round each. Those that are left open have one round, and are at most sixteen.
 pub struct Plan {
     pub together: u64,
     pub length: u64,
@@ -14,7 +14,7 @@ pub struct Plan {
     pub restarts: u64,
 }
 
-// What `closing` means: any other number commits.
+// What `closing` may be; any other number commits.
 pub const ABORTED: u64 = 1;
 
 pub const LEFT_OPEN: u64 = 2;
