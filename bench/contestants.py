@@ -22,7 +22,6 @@ LONGER = {"C": 10}  # times as many transactions, so that a run is long enough t
 LOGGING = ["proved", "C"]  # these have the same devices, and so must agree in every count
 
 
-
 def stdin_of(sizes, transactions, restarts):
     return f"{sizes['pages']} {sizes['slots']} {sizes['width']} {sizes['disks']} {sizes['ring']} {transactions} {restarts}\n"
 
@@ -133,20 +132,31 @@ def copied_bytes(name, n=2_000):
     return (count(n) - count(0)) / (5 * n)
 
 
+def counted(command, text, profile="/dev/null"):
+    """Instructions of a run on a text, counted by callgrind: the one figure without noise; and what the run prints."""
+    tool = ["valgrind", "--tool=callgrind", "--callgrind-out-file=" + profile, "--main-stacksize=8388608"]
+    done = subprocess.run([*tool, *command], input=text, capture_output=True, text=True, check=True)
+    return int(re.search(r"Collected : (\d+)", done.stderr).group(1)), done.stdout
+
+
 def instructions(name, n=2_000):
-    """Instructions for a transaction, counted by callgrind: the one figure without noise."""
-    tool = ["valgrind", "--tool=callgrind", "--callgrind-out-file=/dev/null", "--main-stacksize=8388608"]
-    count = lambda k: int(re.search(r"Collected : (\d+)", said(name, k, before=tool)).group(1))
+    """Instructions for a transaction: many less none."""
+    count = lambda k: counted(COMMANDS[name], stdin_of(SIZES, k, 0))[0]
     return (count(n) - count(0)) / n
+
+
+def restart_instructions(name, n, most=11):
+    """Instructions for a restarted record: many restarts less one."""
+    one, _ = counted(COMMANDS[name], stdin_of(SIZES, n, 1))
+    many, printed = counted(COMMANDS[name], stdin_of(SIZES, n, most))
+    return (many - one) / (most - 1) / parsed(printed)["records"]
 
 
 def hot_functions(transactions, restarts, most=8):
     """The functions that take most of the proved store's instructions, each with its own share."""
     with tempfile.TemporaryDirectory() as folder:
         profile = folder + "/profile"
-        tool = ["valgrind", "--tool=callgrind", "--callgrind-out-file=" + profile, "--main-stacksize=8388608"]
-        subprocess.run([*tool, *COMMANDS["proved"]], input=stdin_of(SIZES, transactions, restarts), capture_output=True, text=True,
-                       check=True)
+        counted(COMMANDS["proved"], stdin_of(SIZES, transactions, restarts), profile)
         text = subprocess.run(["callgrind_annotate", profile], capture_output=True, text=True, check=True).stdout
     rows = re.findall(r"^ *[\d,]+ \( *([\d.]+)%\)  [^:\n]*:(\S+)", text, re.M)
     return [[function, f"{float(share):.0f} %"] for share, function in rows[:most]]

@@ -8,7 +8,8 @@ import shutil
 import sys
 
 from contestants import (ALL, LOGGING, ROOM, SIZES, copied_bytes, device_kilobytes, hot_functions, instructions, peak_kilobytes,
-                         restart_times, stores, transaction_times)
+                         restart_instructions, restart_times, stores, transaction_times)
+from shapes import SHAPES, empty_restart, open_record, restarted_record, undone_update
 
 QUICK = "--quick" in sys.argv
 ROUNDS = 3 if QUICK else 7
@@ -72,6 +73,7 @@ def main_table():
         figure("a transaction, ns", {name: t * 1e9 for name, (t, _) in transaction.items()}),
         figure("a transaction, instructions", {name: instructions(name) for name in ALL}),
         figure("a restarted record, ns", {name: restart[name][0] / records * 1e9 for name in LOGGING}),
+        figure("a restarted record, instructions", {name: restart_instructions(name, RETAINED) for name in LOGGING}),
         figure("a restart, µs", {name: t * 1e6 for name, (t, _) in restart.items()}),
         figure("stores for a transaction, words", {name: stores(name, results) for name in ALL}),
         figure("bytes copied for a call", {name: copied_bytes(name) for name in ALL}),
@@ -125,6 +127,24 @@ def log_series():
            *(f"{name}, ns a record" for name in LOGGING)], rows)
 
 
+def shape_row(name, part, empty):
+    """A shape of the log that fills a part of the ring."""
+    plan = SHAPES[name](SIZES["ring"] // part)
+    records, closed = restarted_record(plan, empty)
+    updates, undone = undone_update(plan)
+    return [name, f"1/{part}" if part > 1 else "1", f"{records:,}", closed, open_record(plan, empty), f"{updates:,}", undone]
+
+
+def shape_series():
+    empty = empty_restart()
+    rows = [shape_row(name, part, empty) for part in ([16] if QUICK else [16, 4, 1]) for name in SHAPES]
+    say("By the shape of the log, the proved store's instructions:\n")
+    table(["the log", "of the ring", "records", "a restarted record", "left open, a restarted record", "updates", "an undone update"], rows)
+    record, undone = ([row[k] for row in rows for k in columns if row[k] is not None] for columns in [(3, 4), (6,)])
+    say(f"The dearest restarted record costs {shown(max(record) / min(record))} times the cheapest, "
+        f"the dearest undone update {shown(max(undone) / min(undone))} times.\n")
+
+
 def profile():
     say("Where the proved store's instructions go, by function: a run of transactions, and a run with many restarts.\n")
     table(["transactions", "share"], hot_functions(4_000, 0))
@@ -152,6 +172,7 @@ def main():
         width_series()
         disk_series()
         log_series()
+        shape_series()
         profile()
     finally:
         shutil.rmtree(ROOM)

@@ -1,0 +1,25 @@
+-- `log_bench::restarting::restarted` is safe and ends: the restarts that are left fall. Assumes nothing.
+use borrow.Author.Needs.{needs}
+use Rattle.log_bench.proofs.restarting.restarted.Statement.{statement}
+use Rattle.log_bench.proofs.restarting.restarted.Tie as tie
+
+abbrev Inv-loop : tie.InvT-loop
+Inv-loop restarts anchor pages₀ backups logs work last₀ left₀ pages last left = Unit {0}
+
+abbrev μ-loop : tie.MeasureT-loop
+μ-loop restarts anchor pages₀ backups logs work last₀ left₀ pages last left = left
+
+pub restarted-spec : {M : Type 1} → statement M
+restarted-spec =
+    tie.close
+    (tie.spec
+    Inv-loop
+    μ-loop
+    (λ c κs. tt)
+    (λ c. tt)
+    (λ c. search needs)
+    (λ c κs. tt)
+    (λ c. search needs)
+    (λ c. tt)
+    (λ c κs. tt)
+    (λ c. tt))
