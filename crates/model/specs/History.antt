@@ -110,25 +110,25 @@ startedFrom starts t = record { base = t .base; puts = t .puts; marks = t .marks
 -- What a taken call does to that. A format, and a restart end, "all pages to backup (c + 1) mod 2; each tail into row (c + 1) mod 2;
 -- c := c + 1", leave the logs empty: what was put before is told no more, and each log begins at its tail. A checkpoint's begin sets the
 -- marks, its end the starts; an end that is cut has not stored c, and the old starts stand.
-abbrev pub emptied : Call → Run → Told → Told
-emptied (restartEnd budget) x t = emptyFrom (tailOn (x .machine .core .sizes) (x .machine .world))
-emptied (format s budget) x t = nothingTold
-emptied newState x t = t
-emptied begin x t = t
-emptied (update number page slot value budget) x t = t
-emptied (look q) x t = t
-emptied (commit number budget) x t = t
-emptied (abort number budget) x t = t
-emptied checkpointBegin x t = marked t
-emptied (checkpointStep budget) x t = t
-emptied (checkpointEnd budget) x t = startedFrom (startPut t (x .reference .writeSets)) t
-emptied restartBegin x t = t
-emptied (restartStep source) x t = t
-emptied (restartRun source most) x t = t
+abbrev pub startsAfter : Call → Run → Told → Told
+startsAfter (restartEnd budget) x t = emptyFrom (tailOn (x .machine .core .sizes) (x .machine .world))
+startsAfter (format s budget) x t = nothingTold
+startsAfter newState x t = t
+startsAfter begin x t = t
+startsAfter (update number page slot value budget) x t = t
+startsAfter (look q) x t = t
+startsAfter (commit number budget) x t = t
+startsAfter (abort number budget) x t = t
+startsAfter checkpointBegin x t = marked t
+startsAfter (checkpointStep budget) x t = t
+startsAfter (checkpointEnd budget) x t = startedFrom (startPut t (x .reference .writeSets)) t
+startsAfter restartBegin x t = t
+startsAfter (restartStep source) x t = t
+startsAfter (restartRun source most) x t = t
 
 -- a cut call's records are told too: some of them may have been stored, the rest are lost with the buffers
 abbrev pub toldBy : Outcome → Call → Run → Told → Told
-toldBy taken k x t = also (emptied k x t) (putBy k x t)
+toldBy taken k x t = also (startsAfter k x t) (putBy k x t)
 toldBy refused k x t = t
 toldBy interrupted k x t = also t (putBy k x t)
 
