@@ -86,7 +86,7 @@ fn replayed(
 }
 
 // Restarts that are not ended: an end empties the retained log.
-fn rehearsed(
+fn repeated(
     plan: Plan,
     anchor: &[u64],
     pages: &mut [u64],
@@ -125,6 +125,6 @@ pub fn restarted(
     logs: &[u64],
     work: &mut [u64],
 ) -> u64 {
-    rehearsed(plan, anchor, pages, backups, logs, work);
+    repeated(plan, anchor, pages, backups, logs, work);
     finished(plan, anchor, pages, backups, logs, work)
 }

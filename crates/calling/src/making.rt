@@ -1,11 +1,4 @@
 // A call of the store, made as it is described, on slices whose lengths fit. It lowers the budget by the stores that it makes.
-use rehearsal::calls::Call;
-use rehearsal::calls::Kind;
-use rehearsal::calls::lay_value;
-use rehearsal::shape::Shape;
-use rehearsal::shape::list_pages;
-use rehearsal::sheets::note_seen;
-use rehearsal::words::front;
 use store::Called;
 use store::State;
 use store::checkpoints::checkpoint_begin;
@@ -17,6 +10,13 @@ use store::restarts::restart_step;
 use store::transactions::abort;
 use store::transactions::begin;
 use store::transactions::commit;
+use trial_table::calls::Call;
+use trial_table::calls::Kind;
+use trial_table::calls::lay_value;
+use trial_table::shape::Shape;
+use trial_table::shape::list_pages;
+use trial_table::words::front;
+use trial_table::write_sets::note_seen;
 
 // What a read hands out is noted in the book.
 pub fn make(

@@ -1,10 +1,10 @@
 // Damaged images: one word of a good image changed, or words at random.
 use crate::devices::Devices;
-use rehearsal::random;
-use rehearsal::words::get;
-use rehearsal::words::less;
-use rehearsal::words::put;
-use rehearsal::words::sum;
+use trial_table::random;
+use trial_table::words::get;
+use trial_table::words::less;
+use trial_table::words::put;
+use trial_table::words::sum;
 
 // A good image damaged; pages and work memory hold anything.
 pub fn damaged(good: Devices, which: u64, seed: u64) -> Devices {

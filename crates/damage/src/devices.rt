@@ -1,6 +1,6 @@
 // What is lent to a store: one page of two one-word slots, one disk, W = 128.
-use rehearsal::words::differing;
-use rehearsal::words::put_words;
+use trial_table::words::differing;
+use trial_table::words::put_words;
 
 pub struct Devices {
     pub anchor: [u64; 148],

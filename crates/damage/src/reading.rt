@@ -4,14 +4,14 @@ use crate::devices::Devices;
 use crate::records::first_malformed;
 use crate::records::start_of;
 use model::Answer;
-use rehearsal::answers::number_of;
-use rehearsal::answers::second_of;
-use rehearsal::answers::value_of;
-use rehearsal::words::get;
-use rehearsal::words::less;
-use rehearsal::words::sum;
-use rehearsal::words::tally;
-use rehearsal::words::times;
+use trial_table::answers::number_of;
+use trial_table::answers::second_of;
+use trial_table::answers::value_of;
+use trial_table::words::get;
+use trial_table::words::less;
+use trial_table::words::sum;
+use trial_table::words::tally;
+use trial_table::words::times;
 
 // A number of 01's table and the values that come with it; the number 0 for a taken call.
 pub struct Expected {

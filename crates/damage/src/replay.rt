@@ -3,11 +3,11 @@ use crate::devices::Devices;
 use crate::records::record_words;
 use crate::records::ring;
 use crate::records::start_of;
-use rehearsal::words::get;
-use rehearsal::words::less;
-use rehearsal::words::put;
-use rehearsal::words::sum;
-use rehearsal::words::times;
+use trial_table::words::get;
+use trial_table::words::less;
+use trial_table::words::put;
+use trial_table::words::sum;
+use trial_table::words::times;
 
 // A word of the page memory: the current backup's, with the difference of every record that is replayed.
 fn replayed(anchor: &[u64], backups: &[u64], logs: &[u64], address: u64) -> u64 {

@@ -2,9 +2,9 @@
 use calling::lending::lend;
 use damage::devices::Devices;
 use model::Answer;
-use rehearsal::calls::Call;
-use rehearsal::shape::Shape;
 use store::State;
+use trial_table::calls::Call;
+use trial_table::shape::Shape;
 
 pub struct Machine {
     pub devices: Devices,

@@ -21,11 +21,11 @@ use crate::probe::Probe;
 use crate::trial::try_image;
 use damage::devices::Devices;
 use damage::devices::blank;
-use rehearsal::calls::Kind;
-use rehearsal::random;
-use rehearsal::text::count;
-use rehearsal::text::read_number;
-use rehearsal::words::sum;
+use trial_table::calls::Kind;
+use trial_table::random;
+use trial_table::text::count;
+use trial_table::text::read_number;
+use trial_table::words::sum;
 
 // The good image: two commits with a checkpoint between them, then an abort and a third commit.
 fn make_image(p: Probe) -> Probe {

@@ -2,12 +2,12 @@
 use crate::machine::Machine;
 use crate::machine::performed;
 use damage::devices::same;
-use rehearsal::answers::number_of;
-use rehearsal::calls::Call;
-use rehearsal::calls::Kind;
-use rehearsal::words::more;
-use rehearsal::words::sum;
-use rehearsal::words::tally;
+use trial_table::answers::number_of;
+use trial_table::calls::Call;
+use trial_table::calls::Kind;
+use trial_table::words::more;
+use trial_table::words::sum;
+use trial_table::words::tally;
 
 // The machine, and what was found so far. `taken` tells that the restart's begin was taken: until then every later call answers 1.
 pub struct Probe {

@@ -14,14 +14,14 @@ use damage::devices::same_but_work;
 use damage::reading::answers;
 use damage::reading::wanted_on;
 use damage::replay::restarted;
-use rehearsal::answers::number_of;
-use rehearsal::answers::stores_of;
-use rehearsal::calls::Call;
-use rehearsal::calls::Kind;
-use rehearsal::calls::call_of;
-use rehearsal::words::more;
-use rehearsal::words::tally;
 use store::restarts::restart_remaining;
+use trial_table::answers::number_of;
+use trial_table::answers::stores_of;
+use trial_table::calls::Call;
+use trial_table::calls::Kind;
+use trial_table::calls::call_of;
+use trial_table::words::more;
+use trial_table::words::tally;
 
 pub fn try_image(p: Probe, good: Devices, which: u64, seed: u64) -> Probe {
     let machine = shut(damaged(good, which, seed));

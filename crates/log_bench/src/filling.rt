@@ -10,10 +10,6 @@ use crate::turns::Turn;
 use crate::turns::calls;
 use crate::turns::first_turn;
 use crate::turns::turn_after;
-use rehearsal::answers::number_of;
-use rehearsal::words::more;
-use rehearsal::words::sum;
-use rehearsal::words::tally;
 use store::Called;
 use store::State;
 use store::formats::format;
@@ -21,6 +17,10 @@ use store::transactions::abort;
 use store::transactions::begin;
 use store::transactions::commit;
 use store::transactions::update;
+use trial_table::answers::number_of;
+use trial_table::words::more;
+use trial_table::words::sum;
+use trial_table::words::tally;
 
 fn formatted(
     anchor: &mut Anchor,

@@ -6,14 +6,14 @@ mod sizes;
 mod turns;
 
 use filling::filled;
-use rehearsal::random::digest;
-use rehearsal::text::count;
 use restarting::restarted;
 use sizes::Anchor;
 use sizes::Backups;
 use sizes::Logs;
 use sizes::Pages;
 use sizes::Work;
+use trial_table::random::digest;
+use trial_table::text::count;
 use turns::Plan;
 use turns::calls;
 use turns::read_plan;

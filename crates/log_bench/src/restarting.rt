@@ -4,12 +4,12 @@ use crate::sizes::Backups;
 use crate::sizes::Logs;
 use crate::sizes::Pages;
 use crate::sizes::Work;
-use rehearsal::answers::number_of;
-use rehearsal::words::more;
 use store::State;
 use store::restarts::restart_begin;
 use store::restarts::restart_end;
 use store::restarts::restart_step;
+use trial_table::answers::number_of;
+use trial_table::words::more;
 
 // A restart under way, and the items of the source that it took last.
 struct Progress {

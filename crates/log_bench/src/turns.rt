@@ -1,8 +1,8 @@
 // What is done, and which call comes next.
-use rehearsal::text::read_number;
-use rehearsal::words::more;
-use rehearsal::words::sum;
-use rehearsal::words::times;
+use trial_table::text::read_number;
+use trial_table::words::more;
+use trial_table::words::sum;
+use trial_table::words::times;
 
 // In a round `together` transactions begin, make `length` updates each, by turns, and are closed. One long transaction is a round,
 // sixteen interleaved ones are a round, short ones are a round each. Those that are left open have one round, and are at most sixteen.

@@ -8,10 +8,10 @@ mod watching;
 
 use crate::turns::Trial;
 use crate::turns::turn;
-use rehearsal::text::read_number;
-use script::desk::new_desk;
 use script::sizes::how_many;
 use script::sizes::shape_at;
+use script::trial::new_trial;
+use trial_table::text::read_number;
 ghost use Prim.Native.Nat.{_<_};
 
 // How many turns are left: none once the last size is done.
@@ -50,7 +50,7 @@ fn main() {
     let lists = read_number(1);
     let first = Trial {
         state: store::new_state(),
-        desk: new_desk(shape_at(0), lists),
+        trial: new_trial(shape_at(0), lists),
         size: 0,
         lists,
     };

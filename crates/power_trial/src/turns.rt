@@ -1,29 +1,29 @@
 // A trial, turn by turn: a call that is made and judged, or lost power, or the pages compared, or the counts told.
 use crate::watching::Made;
 use crate::watching::watch;
-use rehearsal::calls::Call;
-use rehearsal::calls::Kind;
-use rehearsal::random::below;
-use rehearsal::random::fill;
-use rehearsal::shape::total_of;
-use rehearsal::shape::work_words;
-use rehearsal::wanted::cause;
-use rehearsal::words::more;
-use rehearsal::words::put;
-use rehearsal::words::wipe;
-use script::desk;
-use script::desk::Desk;
-use script::desk::mode_of;
-use script::desk::new_desk;
-use script::desk::next_call;
 use script::plan::Mode;
 use script::sizes::shape_at;
 use script::sizes::tell;
+use script::trial;
+use script::trial::Trial;
+use script::trial::mode_of;
+use script::trial::new_trial;
+use script::trial::next_call;
 use store::State;
+use trial_table::calls::Call;
+use trial_table::calls::Kind;
+use trial_table::random::below;
+use trial_table::random::fill;
+use trial_table::shape::total_of;
+use trial_table::shape::work_words;
+use trial_table::wanted::cause;
+use trial_table::words::more;
+use trial_table::words::put;
+use trial_table::words::wipe;
 
 pub struct Trial {
     pub state: State,
-    pub desk: Desk,
+    pub trial: Trial,
     pub size: u64,
     pub lists: u64,
 }
@@ -37,7 +37,7 @@ pub fn turn(
     work: &mut [u64],
     book: &mut [u64],
 ) -> Trial {
-    let mode = mode_of(t.desk);
+    let mode = mode_of(t.trial);
     match mode {
         Mode::Losing | Mode::Comparing | Mode::Telling => {
             quiet_turn(t, mode, anchor, pages, work, book)
@@ -58,11 +58,11 @@ fn quiet_turn(
     match mode {
         Mode::Losing => Trial {
             state: store::new_state(),
-            desk: lose_power(t.desk, pages, work, book),
+            trial: lose_power(t.trial, pages, work, book),
             ..t
         },
         Mode::Comparing => Trial {
-            desk: desk::compared(t.desk, pages, book),
+            trial: trial::compared(t.trial, pages, book),
             ..t
         },
         _ => next_size(t, anchor, book),
@@ -70,34 +70,34 @@ fn quiet_turn(
 }
 
 // Power is lost: sheets and buffers go, pages and work hold anything.
-fn lose_power(desk: Desk, pages: &mut [u64], work: &mut [u64], book: &mut [u64]) -> Desk {
-    let shape = desk.shape;
-    let plan = desk.plan;
+fn lose_power(trial: Trial, pages: &mut [u64], work: &mut [u64], book: &mut [u64]) -> Trial {
+    let shape = trial.shape;
+    let plan = trial.plan;
     let filled = fill(pages, total_of(shape), plan.seed);
     let seed = fill(work, work_words(shape), filled);
-    desk::after_loss(desk, seed, book)
+    trial::after_loss(trial, seed, book)
 }
 
 // Tells what was tried on a size, and goes on to the next: no store, an empty book.
 fn next_size(t: Trial, anchor: &mut [u64], book: &mut [u64]) -> Trial {
-    let desk = t.desk;
-    tell(desk.shape, desk.counts);
+    let trial = t.trial;
+    tell(trial.shape, trial.counts);
     put(anchor, 3, 0);
     wipe(book, 8328);
     let size = more(t.size);
     Trial {
         state: store::new_state(),
-        desk: new_desk(shape_at(size), t.lists),
+        trial: new_trial(shape_at(size), t.lists),
         size,
         lists: t.lists,
     }
 }
 
 // The first source from a random one on, in turn, of which something remains; one too large where there is none, or in another stage.
-fn some_source(state: State, desk: Desk) -> u64 {
-    let shape = desk.shape;
-    let plan = desk.plan;
-    let plain = desk.plain;
+fn some_source(state: State, trial: Trial) -> u64 {
+    let shape = trial.shape;
+    let plan = trial.plan;
+    let plain = trial.plain;
     let sources = more(shape.disks);
     if plain.stage != 1 {
         return sources;
@@ -139,11 +139,11 @@ struct Asked {
     remains: u64,
 }
 
-fn ask(state: State, desk: Desk, book: &[u64]) -> Asked {
-    let shape = desk.shape;
-    let plan = desk.plan;
-    let source = some_source(state, desk);
-    let call = next_call(desk, source, book);
+fn ask(state: State, trial: Trial, book: &[u64]) -> Asked {
+    let shape = trial.shape;
+    let plan = trial.plan;
+    let source = some_source(state, trial);
+    let call = next_call(trial, source, book);
     Asked {
         call,
         budget: plan.budget,
@@ -161,11 +161,11 @@ fn call_turn(
     work: &mut [u64],
     book: &mut [u64],
 ) -> Trial {
-    let desk = t.desk;
-    let asked = ask(t.state, desk, book);
+    let trial = t.trial;
+    let asked = ask(t.state, trial, book);
     let made = watch(
         t.state,
-        desk.shape,
+        trial.shape,
         asked.call,
         asked.budget,
         anchor,
@@ -182,8 +182,8 @@ fn judge(t: Trial, asked: Asked, made: Made, book: &mut [u64]) -> Trial {
     let called = made.called;
     let answer = called.answer;
     let state = called.state;
-    let desk = desk::after_call(
-        t.desk,
+    let trial = trial::after_call(
+        t.trial,
         asked.call,
         asked.remains,
         answer,
@@ -191,5 +191,5 @@ fn judge(t: Trial, asked: Asked, made: Made, book: &mut [u64]) -> Trial {
         made.kept,
         book,
     );
-    Trial { state, desk, ..t }
+    Trial { state, trial, ..t }
 }

@@ -1,10 +1,10 @@
 // A call made, and whether one that has to leave the slices did.
 use calling::lending::lend;
-use rehearsal::calls::Call;
-use rehearsal::random::digest;
-use rehearsal::shape::Shape;
 use store::Called;
 use store::State;
+use trial_table::calls::Call;
+use trial_table::random::digest;
+use trial_table::shape::Shape;
 
 // What a call handed back, the budget after it, and whether it left what it has to leave.
 pub struct Made {

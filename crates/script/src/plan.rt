@@ -2,13 +2,13 @@
 // budget is used up; then power is lost, and a restart is tried until one is taken. There are three sweeps: the same list under every
 // budget from 0 on until it is not cut; lists of every length, each another, with power lost between two calls; one list, and the end
 // of the restart after it under every budget from 0 on.
-use rehearsal::calls::Kind;
-use rehearsal::random::below;
-use rehearsal::random::next;
-use rehearsal::words::less;
-use rehearsal::words::more;
-use rehearsal::words::tally;
-use rehearsal::words::times;
+use trial_table::calls::Kind;
+use trial_table::random::below;
+use trial_table::random::next;
+use trial_table::words::less;
+use trial_table::words::more;
+use trial_table::words::tally;
+use trial_table::words::times;
 
 // What the next turn does: a call (of a format, of the restart after a cut format, of a list, of a restart), or power is lost, or
 // the pages are compared with the results, or the size's counts are told.

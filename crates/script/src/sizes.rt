@@ -1,7 +1,7 @@
 // The sizes that are tried, by number, and what is told of each.
-use crate::desk::Counts;
-use rehearsal::shape::Shape;
-use rehearsal::text::count;
+use crate::trial::Counts;
+use trial_table::shape::Shape;
+use trial_table::text::count;
 
 pub fn how_many() -> u64 {
     10

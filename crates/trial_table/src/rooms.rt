@@ -1,0 +1,235 @@
+// 01's counting, for a list of calls that nobody else disturbs: each disk's start, tail and buffered words, what is owed, and so the
+// stores that a call makes and where it is cut. No record is kept, only lengths.
+// A room memory, the first words of a book, has the starts, tails, buffered words and remembered ends, 8 words each; then for each of 16
+// places its disk, the position of its first update record and the words owed.
+use crate::budget::Budget;
+use crate::budget::spend;
+use crate::words::add_to;
+use crate::words::get;
+use crate::words::less;
+use crate::words::put;
+use crate::words::sum;
+use crate::words::tail_mut;
+use crate::words::wipe;
+
+// Where the retained log starts, its tail, its buffered words, and the end that a checkpoint's begin remembered.
+pub fn start_at(disk: u64) -> u64 {
+    disk % 8
+}
+
+pub fn tail_at(disk: u64) -> u64 {
+    8 + disk % 8
+}
+
+pub fn fill_at(disk: u64) -> u64 {
+    16 + disk % 8
+}
+
+pub fn mark_at(disk: u64) -> u64 {
+    24 + disk % 8
+}
+
+// Of a place: its disk, its first position, what it is owed.
+pub fn disk_at(place: u64) -> u64 {
+    32 + place % 16
+}
+
+pub fn first_at(place: u64) -> u64 {
+    48 + place % 16
+}
+
+pub fn owed_at(place: u64) -> u64 {
+    64 + place % 16
+}
+
+// Tail plus buffered words.
+pub fn end_of(rooms: &[u64], disk: u64) -> u64 {
+    sum(get(rooms, tail_at(disk)), get(rooms, fill_at(disk)))
+}
+
+// The words owed to a disk's open transactions.
+pub fn owed_on(rooms: &[u64], disk: u64) -> u64 {
+    let mut left = 16;
+    let mut owed = 0;
+    while left > 0 {
+        left -= 1;
+        owed = sum(owed, owed_by(rooms, disk, left));
+    }
+    owed
+}
+
+fn owed_by(rooms: &[u64], disk: u64, place: u64) -> u64 {
+    if get(rooms, disk_at(place)) == disk {
+        get(rooms, owed_at(place))
+    } else {
+        0
+    }
+}
+
+// Whether a need fits.
+pub fn fits(rooms: &[u64], disk: u64, ring: u64, need: u64) -> bool {
+    let used = less(end_of(rooms, disk), get(rooms, start_at(disk)));
+    sum(sum(used, owed_on(rooms, disk)), need) <= ring
+}
+
+// The disk with the fewest buffered words among those with room for a begin; the number of disks where there is none.
+pub fn idlest(rooms: &[u64], disks: u64, ring: u64) -> u64 {
+    let mut left = disks;
+    let mut best = disks;
+    while left > 0 {
+        left -= 1;
+        best = idler(rooms, disks, ring, best, left);
+    }
+    best
+}
+
+fn idler(rooms: &[u64], disks: u64, ring: u64, best: u64, disk: u64) -> u64 {
+    if !fits(rooms, disk, ring, 2) {
+        return best;
+    }
+    if best == disks {
+        return disk;
+    }
+    if get(rooms, fill_at(disk)) <= get(rooms, fill_at(best)) {
+        return disk;
+    }
+    best
+}
+
+// A begun transaction is owed its closing record.
+pub fn begin(rooms: &mut [u64], place: u64, disk: u64) {
+    put(rooms, disk_at(place), disk);
+    put(rooms, first_at(place), 0);
+    put(rooms, owed_at(place), 2);
+}
+
+// An update's record is owed again, for its compensation; the first one's position is remembered.
+pub fn update(rooms: &mut [u64], place: u64, words: u64) {
+    let first = first_of(rooms, place, words);
+    put(rooms, first_at(place), first);
+    add_to(rooms, owed_at(place), words);
+}
+
+// The position of a place's first update record; the last record, of so many words, is its newest.
+fn first_of(rooms: &[u64], place: u64, words: u64) -> u64 {
+    if get(rooms, owed_at(place)) != 2 {
+        return get(rooms, first_at(place));
+    }
+    let disk = get(rooms, disk_at(place));
+    less(end_of(rooms, disk), words)
+}
+
+// A closed transaction is owed nothing.
+pub fn close(rooms: &mut [u64], place: u64) {
+    put(rooms, owed_at(place), 0);
+}
+
+// The stores of a flush: the buffer's words, then the tail.
+fn flush_stores(rooms: &[u64], disk: u64) -> u64 {
+    let fill = get(rooms, fill_at(disk));
+    if fill > 0 { sum(fill, 1) } else { 0 }
+}
+
+pub fn flush(rooms: &mut [u64], disk: u64, budget: Budget) -> Budget {
+    let after = spend(budget, flush_stores(rooms, disk));
+    if !after.cut {
+        drain(rooms, disk);
+    }
+    after
+}
+
+// The buffered words lie below the tail now.
+fn drain(rooms: &mut [u64], disk: u64) {
+    let end = end_of(rooms, disk);
+    put(rooms, tail_at(disk), end);
+    put(rooms, fill_at(disk), 0);
+}
+
+// A record is appended, or nothing where the budget is used up; where it does not fit the buffer's free words, that is flushed first.
+pub fn append(rooms: &mut [u64], disk: u64, words: u64, budget: Budget) -> Budget {
+    let after = make_room(rooms, disk, words, budget);
+    if !after.cut {
+        add_to(rooms, fill_at(disk), words);
+    }
+    after
+}
+
+fn make_room(rooms: &mut [u64], disk: u64, words: u64, budget: Budget) -> Budget {
+    let fill = get(rooms, fill_at(disk));
+    if sum(fill, words) <= 64 {
+        return budget;
+    }
+    flush(rooms, disk, budget)
+}
+
+// All disks are flushed, in order.
+pub fn flush_all(rooms: &mut [u64], disks: u64, budget: Budget) -> Budget {
+    let mut i = 0;
+    let mut after = budget;
+    while i < disks {
+        after = flush(rooms, i, after);
+        i += 1;
+    }
+    after
+}
+
+// A checkpoint's begin remembers each end.
+pub fn mark(rooms: &mut [u64], disks: u64) {
+    let mut left = disks;
+    while left > 0 {
+        left -= 1;
+        let end = end_of(rooms, left);
+        put(rooms, mark_at(left), end);
+    }
+}
+
+// A checkpoint's end moves each start to the remembered end, or to the first record of a transaction that is still open.
+pub fn move_starts(rooms: &mut [u64], disks: u64) {
+    let mut left = disks;
+    while left > 0 {
+        left -= 1;
+        let start = new_start(rooms, left);
+        put(rooms, start_at(left), start);
+    }
+}
+
+fn new_start(rooms: &[u64], disk: u64) -> u64 {
+    let mut left = 16;
+    let mut start = get(rooms, mark_at(disk));
+    while left > 0 {
+        left -= 1;
+        start = held_back(rooms, disk, left, start);
+    }
+    start
+}
+
+// A transaction with no update holds no start back.
+fn held_back(rooms: &[u64], disk: u64, place: u64, start: u64) -> u64 {
+    let first = get(rooms, first_at(place));
+    if get(rooms, disk_at(place)) != disk {
+        return start;
+    }
+    if get(rooms, owed_at(place)) <= 2 {
+        return start;
+    }
+    if first < start {
+        return first;
+    }
+    start
+}
+
+// What lost power leaves: the starts and the tails.
+pub fn lose(rooms: &mut [u64]) {
+    wipe(tail_mut(rooms, fill_at(0)), 8);
+    wipe(tail_mut(rooms, owed_at(0)), 16);
+}
+
+// A restart's end moves each start to its tail.
+pub fn empty(rooms: &mut [u64]) {
+    let mut left = 8;
+    while left > 0 {
+        left -= 1;
+        let tail = get(rooms, tail_at(left));
+        put(rooms, start_at(left), tail);
+    }
+}
