@@ -11,16 +11,18 @@ use Rattle.model.specs.declared.Core.{Core}
 use Rattle.model.specs.declared.Answer.{Answer}
 use Rattle.model.specs.declared.Answer.the-variants.{Finished, Refused, Interrupted}
 use Rattle.model.specs.World.{World}
-use Rattle.model.specs.Anchor.{sizesOn}
+use Rattle.model.specs.Anchor.{sizesOn, startOn}
 use Rattle.model.specs.Causes.{whenShut, whenReplaying, whenServing}
-use Rattle.model.specs.Restart.{restartEndRows}
-use Rattle.model.specs.Call.{Call, format, restartEnd, resultOf}
+use Rattle.model.specs.Restart.{positionOf, restartBeginTask, restartEndRows}
+use Rattle.model.specs.Call.{Call, format, restartBegin, restartEnd, resultOf}
 use Rattle.model.specs.Reference.{Reference, taken, refused, outcomeOf, hear, heardOf, wordsIn}
 use Rattle.model.specs.Machine.{Machine, Event, call, lent, scramble, result, outcome, isRefused, allowed, after, referred, Run, follow, allowedAll, formatted}
 use Rattle.model.specs.Promise.{Always, PowerLoss, RestartAccepted, Table, LogOf, LogKept, StateTrue, NeverMalformed, BackupSteps}
 use Rattle.model.specs.History.{Told, nothingTold, told, history}
 use Rattle.model.proofs.Booleans.{true-false}
 use Rattle.model.proofs.Restart.Taken.{taken-call}
+use Rattle.model.proofs.Restart.Progress.{begin-progress}
+use Rattle.model.proofs.Restart.Records.{begun-positions}
 use Rattle.model.proofs.Restart.BackupStep.{backup-step}
 use Rattle.model.proofs.Restart.End.{end-gives}
 use Rattle.model.proofs.Store.Format.{format-serves}
@@ -106,6 +108,16 @@ pub table : Table
 unfolding Table
 table = always _ (λ puts m r h e. plain m r (served h e))
 
+-- a restart begins at the starts
+begins : (m : Machine) (d : ℕ) → d < sizesOn (m .world .anchor) .disks → outcome m restartBegin ≡ taken
+    → positionOf (result m restartBegin .core) d ≡ startOn (m .world .anchor) d
+unfolding outcome result
+begins m d below o =
+    let t = taken-call restartBegin (m .core) (m .world) o in
+    let p = rw (t .core, t .world) at (begin-progress (m .core) (m .world) o) in
+    rw (t .core)
+    (begun-positions (m .world) d ∙ p .0 .starts d (rw (p .0 .sizes, p .1 .anchor) below) ∙ ap (λ (a : List ℕ). startOn a d) (p .1 .anchor))
+
 -- Each disk's words are the records that the calls put there, and the readers find these and no others.
 log-holds : {puts : Told} {m : Machine} {r : Reference} → Holding puts m r → (d : ℕ) → d < sizesOn (m .world .anchor) .disks → LogOf m puts d
 unfolding stored
@@ -113,12 +125,14 @@ log-holds {m = m} (shut s k n) d below =
     record {
       stored = k .logs d below;
       serving = λ e. true-false (sym (ap whenServing s) ∙ e) refl;
+      begins = begins m d below;
       replaying = λ e. true-false (sym (ap whenShut e) ∙ ap whenShut s) refl;
     }
 log-holds {m = m} (replaying p k l n) d below =
     record {
       stored = l d below .stored;
       serving = λ e. true-false (sym (ap whenServing (p .stage)) ∙ e) refl;
+      begins = begins m d below;
       replaying = λ e. l d below .steps;
     }
 log-holds {puts} {m} {r} (serving g) d below =
@@ -126,6 +140,7 @@ log-holds {puts} {m} {r} (serving g) d below =
     record {
       stored = stored (g .serving .safe) d inside puts (g .serving .told d inside);
       serving = λ e. buffered (g .serving) d inside;
+      begins = begins m d below;
       replaying = λ e. true-false (sym (ap whenServing e) ∙ g .serving .stage) refl;
     }
 
@@ -136,8 +151,12 @@ log-kept m s budget formats events a =
 
 -- A backup step takes the next page.
 pub backup-steps : BackupSteps
-unfolding BackupSteps
-backup-steps = always _ (λ puts m r h e left. backup-step (m .core) (m .world) (replayed h (ap whenReplaying e) .progress) left)
+unfolding BackupSteps outcome result restartBeginTask
+backup-steps =
+    always _ (λ puts m r h. (
+      λ o. rw (taken-call restartBegin (m .core) (m .world) o .core),
+      λ e left. backup-step (m .core) (m .world) (replayed h (ap whenReplaying e) .progress) left,
+    ))
 
 -- What the state says is true.
 pub state-true : StateTrue

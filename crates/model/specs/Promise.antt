@@ -151,9 +151,11 @@ pub record StepReads (c : Core) (w : World) (disk : ℕ) (stretch : List Record)
       restartStepTask c w disk .actions ≡ cond (replays (c .epoch) fate copy) (xorIn (slotBase (c .sizes) page slot) diff (w .pages)) []
   pub closes : (kind number : ℕ) (more : List Record) → left ≡ close kind number ∷ more → restartStepTask c w disk .actions ≡ []
 
+-- The log of a disk, by stage. A restart begins at its start.
 pub record LogOf (m : Machine) (t : Told) (disk : ℕ) : Type 0 where
   pub stored : Stored t (m .world) disk
   pub serving : whenServing (m .core .stage) ≡ true → Buffered t (m .core) (m .world) disk (stored .stretch) (stored .rest)
+  pub begins : outcome m restartBegin ≡ taken → positionOf (result m restartBegin .core) disk ≡ startOn (m .world .anchor) disk
   pub replaying : m .core .stage ≡ Replaying → StepReads (m .core) (m .world) disk (stored .stretch)
 
 unfoldable pub LogKept : Type 0
@@ -166,8 +168,8 @@ LogKept =
     let t : Told = history events (formatted m s budget) nothingTold in
     (disk : ℕ) → disk < sizesOn (n .world .anchor) .disks → LogOf n t disk
 
--- While it replays and pages are left, a backup step changes the pages by the next page of the backup that the anchor's number names,
--- and by nothing else, and goes on to the page after it; the logs' positions stay.
+-- The backup: a restart begins at its first page. While it replays and pages are left, a backup step changes the pages by the next page
+-- of the current backup, and by nothing else, and goes on to the page after it; the logs' positions stay.
 pub record BackupStep (c : Core) (w : World) (page : ℕ) : Type 0 where
   pub changes : restartStepTask c w (c .sizes .disks) .actions
       ≡ xorIn (pageBase (c .sizes) page) (part (pageBase (c .sizes) page) (pageWords (c .sizes) page) (imageOf w .backup)) (w .pages)
@@ -175,8 +177,8 @@ pub record BackupStep (c : Core) (w : World) (page : ℕ) : Type 0 where
 
 unfoldable pub BackupSteps : Type 0
 BackupSteps =
-    Always λ m r. m .core .stage ≡ Replaying → m .core .replay .page < m .core .sizes .pages
-    → BackupStep (m .core) (m .world) (m .core .replay .page)
+    Always λ m r. (outcome m restartBegin ≡ taken → result m restartBegin .core .replay .page ≡ 0)
+    × (m .core .stage ≡ Replaying → m .core .replay .page < m .core .sizes .pages → BackupStep (m .core) (m .world) (m .core .replay .page))
 
 -- No call on the machine's own slices ever finds a malformed record.
 unfoldable pub NeverMalformed : Type 0

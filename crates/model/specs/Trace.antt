@@ -221,11 +221,12 @@ LogKeptInCode =
     let t : Told = historyInCode events (formattedInCode o s) nothingTold in
     (disk : ℕ) → disk < sizesOn (n .world .anchor) .disks → LogOf n t disk
 
--- A backup step, on the state and the words that the code's calls left.
+-- A restart begin of the code hands back the backup's first page as the next; a backup step, on the state and the words that the code's
+-- calls left.
 unfoldable pub BackupStepsInCode : Type 0
 BackupStepsInCode =
-    AlwaysInCode λ m r. m .core .stage ≡ Replaying → m .core .replay .page < m .core .sizes .pages
-    → BackupStep (m .core) (m .world) (m .core .replay .page)
+    AlwaysInCode λ m r. ((o : Observed) → o .call ≡ restartBegin → On m o → seen o ≡ taken → o .reply .core .replay .page ≡ 0)
+    × (m .core .stage ≡ Replaying → m .core .replay .page < m .core .sizes .pages → BackupStep (m .core) (m .world) (m .core .replay .page))
 
 -- The state that the code hands back says what is true of the words that it left.
 unfoldable pub StateTrueInCode : Type 0

@@ -3,14 +3,14 @@ use mathlib.Core.Path.{_≡_, refl, sym, ap, _∙_}
 use mathlib.Core.Logic.{_⊎_, inl, inr}
 use mathlib.Core.List.{List, [], _∷_, _++_}
 use mathlib.Core.Bool.{Bool, true, false, _||_}
-use Prim.Native.Nat.{ℕ, _+_, _≤_, _<_, min}
+use Prim.Native.Nat.{ℕ, _+_, _≤_, _<_}
 use native.Mathlib.Omega.{arith}
 use native.Mathlib.Decide.{ℕ-discrete}
 use lib.Dec.{ltb, eqb}
 use lib.ListN.{getD}
 use borrow.Author.Tests.{lt-ltb, ltb-true, eqb-true, eq-eqb, ne-eqb}
 use Rattle.model.specs.declared.Core.{Core}
-use Rattle.model.specs.Scan.{Scan, Update, updatesIn, updateWords, oldest}
+use Rattle.model.specs.Scan.{Update, updatesIn, updateWords, oldest}
 use Rattle.model.specs.World.{World}
 use Rattle.model.specs.State.{places, startOf, numberAt, diskAtPlace, isOpen, placeOf, firstAt, reservedAt, hasUpdate}
 use Rattle.model.specs.Causes.{whenOpen}
@@ -23,7 +23,7 @@ use Rattle.model.proofs.Booleans.{true-false, or-right}
 use Rattle.model.proofs.Meaning.{Holds, new-start}
 use Rattle.model.proofs.Growth.{kept-start}
 use Rattle.model.proofs.Places.{open-place, place-open, place-holds, served-is, served-here}
-use Rattle.model.proofs.Ledger.Entry.{Entry, All, onDisk}
+use Rattle.model.proofs.Ledger.Entry.{Entry, onDisk}
 use Rattle.model.proofs.Ledger.Order.{on}
 use Rattle.model.proofs.Ledger.Sums.{all-zip}
 use Rattle.model.proofs.Ledger.Lists.{on-append}

@@ -114,7 +114,11 @@ run-is-steps-in-code m o source most is on =
 -- A backup step takes the next page.
 pub backup-steps-in-code : BackupStepsInCode
 unfolding BackupStepsInCode BackupSteps
-backup-steps-in-code = in-code _ backup-steps
+backup-steps-in-code =
+    carried _ _ backup-steps (λ m r h. (
+      λ o is on took. ap (λ (c : Core). c .replay .page) (gave-core m o restartBegin is on) ∙ h .0 (sym (gave-outcome m o restartBegin is on) ∙ took),
+      h .1,
+    ))
 
 -- What the state says is true.
 pub state-true-in-code : StateTrueInCode
