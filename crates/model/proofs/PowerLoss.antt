@@ -17,7 +17,8 @@ use Rattle.model.specs.Restart.{positionOf, restartBeginTask, restartEnd
 use Rattle.model.specs.Call.{Call, format, restartBegin, restartEnd, resultOf}
 use Rattle.model.specs.Reference.{Reference, taken, refused, outcomeOf, hear, heardOf, wordsIn}
 use Rattle.model.specs.Machine.{Machine, Event, call, lent, scramble, result, outcome, isRefused, allowed, after, referred, Run, follow, allowedAll, formatted}
-use Rattle.model.specs.Promise.{Always, PowerLoss, RestartAccepted, Table, LogOf, LogKept, StateTrue, NeverMalformed, BackupSteps}
+use Rattle.model.specs.Promise.{Always, PowerLoss, RestartAccepted, Table}
+use Rattle.model.specs.LogPromise.{LogOf, LogKept, StateTrue, NeverMalformed, BackupSteps}
 use Rattle.model.specs.History.{Told, nothingTold, told, history}
 use Rattle.model.proofs.Booleans.{true-false}
 use Rattle.model.proofs.Restart.Taken.{taken-call}

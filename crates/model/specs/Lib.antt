@@ -41,6 +41,7 @@ pub mod Reference
 pub mod Machine
 pub mod History
 pub mod Promise
+pub mod LogPromise
 -- What is never refused; what an answer tells.
 pub mod Answers
 -- The promises for traces of the code's own calls.

@@ -22,7 +22,8 @@ use Rattle.model.specs.Call.{Call, format, update, look, read, commit, r
 use Rattle.model.specs.Reference.{Outcome, taken, refused, interrupted, outcomeOf, Reference, blank, heardOf, hear, slotIndex, wordsIn, plainTable, writtenByOther}
 use Rattle.model.specs.Machine.{Machine, result, outcome, isRefused, scrambled, Run}
 use Rattle.model.specs.History.{Told, nothingTold, toldBy}
-use Rattle.model.specs.Promise.{RunMakes, PlainTable, LogOf, Truth, Closable, BackupStep}
+use Rattle.model.specs.Promise.{RunMakes, PlainTable}
+use Rattle.model.specs.LogPromise.{LogOf, Truth, Closable, BackupStep}
 
 -- A call of the code as it was observed: the call with its arguments; the state and the words that it got; the answer and the state
 -- that it handed back; the budget that it left, 0 for a call that takes none; the words as it left them. A new state touches no word;

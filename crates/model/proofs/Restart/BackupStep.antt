@@ -18,7 +18,7 @@ use Rattle.model.specs.Causes.{tailIn}
 use Rattle.model.specs.State.{withReplay}
 use Rattle.model.specs.Restart.{positionOf, readDisk, backupStep, restartStepTask}
 use Rattle.model.specs.Image.{imageOf, xorAt, restarted, wordsFrom, imageFrom}
-use Rattle.model.specs.Promise.{BackupStep}
+use Rattle.model.specs.LogPromise.{BackupStep}
 use Rattle.model.proofs.Ledger.Entry.{mask, spanning, share}
 use Rattle.model.proofs.Xor.{xor, ⊕-zero-l, ⊕-zero-r}
 use Rattle.model.proofs.Restart.Words.{length-xor-at, xor-at-word, withPages, perform-xor}

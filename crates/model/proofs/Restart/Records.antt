@@ -25,7 +25,7 @@ use Rattle.model.specs.State.{withReplay, startOf, tailOf}
 use Rattle.model.specs.Abort.{xorIn}
 use Rattle.model.specs.Restart.{positionOf, remaining, replays, readDisk, fateFrom, nextRecord, movedTo, recordStep, backupStep, restartBeginTask, restartStepTask}
 use Rattle.model.specs.History.{Told}
-use Rattle.model.specs.Promise.{Stored, StepReads}
+use Rattle.model.specs.LogPromise.{Stored, StepReads}
 use Rattle.model.proofs.Decode.{found-change, found-close}
 use Rattle.model.proofs.Scan.{scan-change, scan-close, scan-bad}
 use Rattle.model.proofs.Reading.{Reads, scan-reads}

@@ -24,7 +24,8 @@ use Rattle.model.proofs.Sound.Test.{Sized, Passing}
 use Rattle.model.proofs.Sound.Transaction.{commit-grown}
 use Rattle.model.proofs.Sound.Abort.{abort-grown}
 use Rattle.model.proofs.Sound.Restart.{format-passes}
-use Rattle.model.specs.Promise.{Always, Closable, ClosingFits}
+use Rattle.model.specs.Promise.{Always}
+use Rattle.model.specs.LogPromise.{Closable, ClosingFits}
 use Rattle.model.proofs.Sound.Calls.{sized-kept, sound-kept}
 use Rattle.model.proofs.Store.Accepted.{open-entry, commit-accepted, abort-accepted}
 

@@ -11,7 +11,7 @@ use Rattle.model.specs.State.{startOf, isOpen, placeOf, firstAt, hasUpda
 use Rattle.model.specs.Transaction.{diskOf}
 use Rattle.model.specs.Reference.{Reference}
 use Rattle.model.specs.History.{Told, updatesPut}
-use Rattle.model.specs.Promise.{AbortReads, Buffered}
+use Rattle.model.specs.LogPromise.{AbortReads, Buffered}
 use Rattle.model.proofs.Ledger.Entry.{Entry, recordOf, pick}
 use Rattle.model.proofs.Growth.{kept-start}
 use Rattle.model.proofs.Ledger.Order.{wordsOf, on, Laid, boundary}

@@ -18,7 +18,7 @@ use Rattle.model.specs.Causes.{tailOn, retained as retainedScan}
 use Rattle.model.specs.Image.{Image, imageOf, retainedWords, logOf, restarted, imageFrom}
 use Rattle.model.specs.Reference.{Reference, wordsIn}
 use Rattle.model.specs.History.{Told}
-use Rattle.model.specs.Promise.{Stored}
+use Rattle.model.specs.LogPromise.{Stored}
 use Rattle.model.proofs.Bounds.{in-bounds}
 use Rattle.model.proofs.Reading.{ending}
 use Rattle.model.proofs.RoundTrip.{encode-append}

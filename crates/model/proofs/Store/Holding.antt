@@ -17,7 +17,7 @@ use Rattle.model.specs.Call.{Call, rowsOf, taskOf, budgetOf}
 use Rattle.model.specs.Reference.{Reference, WriteSet, withSets, taken, outcomeOf, isBegin, afterTaken, heardOf, hear}
 use Rattle.model.specs.Machine.{Machine, call, result, outcome, after, referred, Run}
 use Rattle.model.specs.History.{Told, also, putBy, toldBy, told}
-use Rattle.model.specs.Promise.{Stored, StepReads}
+use Rattle.model.specs.LogPromise.{Stored, StepReads}
 use Rattle.model.proofs.Booleans.{true-false}
 use Rattle.model.proofs.Run.{finished-run}
 use Rattle.model.proofs.Restart.Image.{SameDevices, image-devices}

@@ -18,7 +18,7 @@ use Rattle.model.specs.Transaction.{diskOf}
 use Rattle.model.specs.Checkpoint.{newStart}
 use Rattle.model.specs.Reference.{Reference, WriteSet, hasSet}
 use Rattle.model.specs.History.{Told, updatesPut, startPut, orOldest}
-use Rattle.model.specs.Promise.{logScan}
+use Rattle.model.specs.LogPromise.{logScan}
 use Rattle.model.proofs.Booleans.{true-false, or-right}
 use Rattle.model.proofs.Meaning.{Holds, new-start}
 use Rattle.model.proofs.Growth.{kept-start}

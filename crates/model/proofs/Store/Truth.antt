@@ -14,7 +14,7 @@ use Rattle.model.specs.Transaction.{diskOf}
 use Rattle.model.specs.Reference.{Reference}
 use Rattle.model.specs.Machine.{Machine}
 use Rattle.model.specs.History.{Told}
-use Rattle.model.specs.Promise.{logScan, Truth}
+use Rattle.model.specs.LogPromise.{logScan, Truth}
 use Rattle.model.proofs.Ledger.Entry.{Entry, recordOf, isClose, some, All, pick, onDisk}
 use Rattle.model.proofs.Ledger.Order.{on, sizeOf, Laid, boundary, entriesScan}
 use Rattle.model.proofs.Ledger.Sums.{all-map, all-append, all-right}

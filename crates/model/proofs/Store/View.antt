@@ -21,7 +21,7 @@ use Rattle.model.specs.Record.{Record, encodeAll}
 use Rattle.model.specs.Scan.{placed, updatesIn}
 use Rattle.model.specs.Machine.{Run}
 use Rattle.model.specs.History.{Told, recordsOn}
-use Rattle.model.specs.Promise.{Stored}
+use Rattle.model.specs.LogPromise.{Stored}
 use Rattle.model.proofs.Bounds.{Bounded}
 use Rattle.model.proofs.Growth.{kept-start}
 use Rattle.model.proofs.Checked.{Restartable}

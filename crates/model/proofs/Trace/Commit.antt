@@ -20,7 +20,8 @@ use Rattle.model.specs.Transaction.{diskOf, commitRows, commitTask}
 use Rattle.model.specs.Call.{commit}
 use Rattle.model.specs.Reference.{taken, interrupted, outcomeOf}
 use Rattle.model.specs.Machine.{Machine, result}
-use Rattle.model.specs.Promise.{coversCommit, CommitPoint, CommitPoints, Truth, StateTrue}
+use Rattle.model.specs.Promise.{coversCommit, CommitPoint, CommitPoints}
+use Rattle.model.specs.LogPromise.{Truth, StateTrue}
 use Rattle.model.specs.Trace.{followInCode, formattedInCode, AlwaysInCode, CommitPointsInCode}
 use Rattle.model.proofs.Members.{Every}
 use Rattle.model.proofs.Booleans.{cond-all}

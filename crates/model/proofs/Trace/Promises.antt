@@ -11,7 +11,8 @@ use Rattle.model.specs.Restart.{remaining}
 use Rattle.model.specs.Call.{Call, restartBegin, restartStep, restartRun, restartEnd}
 use Rattle.model.specs.Reference.{outcomeOf, Reference, hear}
 use Rattle.model.specs.Machine.{Machine, result, outcome, Run}
-use Rattle.model.specs.Promise.{Always, PowerLoss, RestartAccepted, RestartFinishes, RunMakes, RunIsSteps, LogKept, StateTrue, NeverMalformed, ClosingFits, LogOf, BackupSteps}
+use Rattle.model.specs.Promise.{Always, PowerLoss, RestartAccepted, RestartFinishes, RunMakes, RunIsSteps}
+use Rattle.model.specs.LogPromise.{LogKept, StateTrue, NeverMalformed, ClosingFits, LogOf, BackupSteps}
 use Rattle.model.specs.Trace.{Observed, seen, EventInCode, callInCode, On, afterInCode, followInCode, AllowedAllInCode, formattedInCode, AlwaysInCode, PowerLossInCode, EachRestartEnd, RestartAcceptedInCode, RestartFinishesInCode, RunIsStepsInCode, LogKeptInCode, StateTrueInCode, NeverMalformedInCode, ClosingFitsInCode, BackupStepsInCode}
 use Rattle.model.proofs.PowerLoss.{power-loss, restart-accepted, log-kept, state-true, never-malformed, backup-steps}
 use Rattle.model.proofs.Restart.Run.{run-is-steps}
