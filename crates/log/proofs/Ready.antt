@@ -10,15 +10,25 @@ use Rattle.model.specs.State.{limit}
 use Rattle.model.specs.Causes.{tailIn}
 use Rattle.model.proofs.Bounds.{Bounded}
 use Rattle.model.proofs.Ring.{disk-within}
+use Rattle.log.specs.declared.read.Extent.{Extent}
 use Rattle.log.specs.Reading.{LiesAt, extentOf, OfDisk, Readable, Checkable}
 
--- where a disk lies
-pub extent-lies : (s : Sizes) (disk tail stop : ℕ) → LiesAt s disk (extentOf s disk tail stop .place) (extentOf s disk tail stop .ring)
-unfolding extentOf
-extent-lies s disk tail stop = record { same-place = refl; same-ring = refl }
+-- An extent that a function answered is that of the disk.
+module _ (s : Sizes) (disk tail stop : ℕ) {e : Extent} (is : e ≡ extentOf s disk tail stop) where
+  pub lies-there : LiesAt s disk (e .place) (e .ring)
+  unfolding extentOf
+  lies-there = rw is (record { same-place = refl; same-ring = refl })
 
-pub extent-disk : (s : Sizes) (disk tail stop : ℕ) → OfDisk s (extentOf s disk tail stop)
-extent-disk s disk tail stop = record { disk = disk; lies = extent-lies s disk tail stop }
+  pub disk-there : OfDisk s e
+  disk-there = record { disk = disk; lies = lies-there }
+
+  pub tail-there : e .tail ≡ tail
+  unfolding extentOf
+  tail-there = rw is refl
+
+  pub end-there : e .end ≡ stop
+  unfolding extentOf
+  end-there = rw is refl
 
 module _ (s : Sizes) (b : Bounded s) where
   pub readable : (logs : List ℕ) (disk tail : ℕ) (buffer : List ℕ) (stop : ℕ) → length logs ≡ logWords s → disk < s .disks

@@ -1,4 +1,6 @@
 // Reading a log: a word, and a record.
+use layout::disks::disk_at;
+use layout::disks::ring_of;
 use model::Decoded;
 use model::Sizes;
 ghost use mathlib.Core.Path.{_≡_};
@@ -6,7 +8,7 @@ ghost use Prim.Native.Nat.{ℕ, _+_, _≤_, _<_, _^_};
 ghost use lib.ListN.{length};
 ghost use Rattle.model.specs.Record.{wordsOf};
 ghost use Rattle.model.specs.Decode.{readLog, misplaced, decodeAt};
-ghost use Rattle.log.specs.Reading.{decodedChange, decodedClose, LiesAt, Readable};
+ghost use Rattle.log.specs.Reading.{decodedChange, decodedClose, LiesAt, extentOf, Readable};
 
 // What a reader needs of a disk's log: the index of its tail word in the logs of all disks, its ring size, its tail, and where it ends.
 pub struct Extent {
@@ -14,6 +16,19 @@ pub struct Extent {
     pub ring: u64,
     pub tail: u64,
     pub end: u64,
+}
+
+// The extent of a disk's log with this tail, read up to `end`.
+pub fn extent_of(sizes: Sizes, disk: u64, tail: u64, end: u64) -> Extent
+    requires { ⌜ (disk ≤ 8) × (sizes .ring ≤ 65536) ⌝ }
+    ensures { λ r. ⌜ r ≡ extentOf sizes disk tail end ⌝ }
+{
+    Extent {
+        place: disk_at(sizes, disk),
+        ring: ring_of(sizes, disk),
+        tail,
+        end,
+    }
 }
 
 // The word at position p of a disk's log: below the tail the ring's, from the tail on the buffer's. It takes numbers, since a struct

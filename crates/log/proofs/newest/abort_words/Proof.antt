@@ -50,8 +50,7 @@ loop-again c =
     let read = c .before .before .before .before .before in
     let at = read .before .before .before .before .before .pre .1 in
     let f = got-change _ _ _ (read .decode-at .ensures (at .disk) (at .lies)) (c .before .before .before .here .given .1) in
-    let number = read .before .before .before .before .before .args .number in
-    (
+    let number = read .before .before .before .before .before .args .number in (
       omega arith,
       λ disk lies.
           let e =
@@ -72,8 +71,7 @@ loop-again-2 c =
     let read = c .before .before .before .before .before in
     let at = read .before .before .before .before .before .pre .1 in
     let f = got-change _ _ _ (read .decode-at .ensures (at .disk) (at .lies)) (c .before .before .before .here .given .1) in
-    let number = read .before .before .before .before .before .args .number in
-    (
+    let number = read .before .before .before .before .before .args .number in (
       omega arith,
       λ disk lies.
           let e =
@@ -94,8 +92,7 @@ loop-again-3 c =
     let read = c .before .before .before in
     let number = read .before .before .before .before .before .args .number in
     let at = read .before .before .before .before .before .pre .1 in
-    let f = got-close _ _ _ (read .decode-at .ensures (at .disk) (at .lies)) (c .before .here2 .given .1) in
-    (
+    let f = got-close _ _ _ (read .decode-at .ensures (at .disk) (at .lies)) (c .before .here2 .given .1) in (
       omega arith,
       λ disk lies.
           let e = words-close _ _ _ (read .decode-at .ensures disk lies) (read .before .loop-test .taken) number (c .before .here2 .given .1) in
