@@ -6,6 +6,7 @@ use native.Mathlib.Omega.{arith}
 use lib.ListN.{length}
 use Rattle.model.specs.declared.Sizes.{Sizes}
 use Rattle.model.specs.Sizes.{ringOf, diskAt, tailWord, logWords}
+use Rattle.model.specs.Decode.{readLog}
 use Rattle.model.specs.State.{limit}
 use Rattle.model.specs.Causes.{tailIn}
 use Rattle.model.proofs.Bounds.{Bounded}
@@ -29,6 +30,12 @@ module _ (s : Sizes) (disk tail stop : ℕ) {e : Extent} (is : e ≡ extentOf s 
   pub end-there : e .end ≡ stop
   unfolding extentOf
   end-there = rw is refl
+
+  -- what a reader answered of the extent, it answered of the disk's log
+  pub read-there : (logs buffer : List ℕ) {A : Type 0} {r : A} (f : (ℕ → ℕ) → ℕ → A)
+      → ((d : ℕ) → LiesAt s d (e .place) (e .ring) → r ≡ f (readLog s logs d (e .tail) buffer) (e .end))
+      → r ≡ f (readLog s logs disk tail buffer) stop
+  read-there logs buffer f read = rw (tail-there, end-there) at (read disk lies-there)
 
 module _ (s : Sizes) (b : Bounded s) where
   pub readable : (logs : List ℕ) (disk tail : ℕ) (buffer : List ℕ) (stop : ℕ) → length logs ≡ logWords s → disk < s .disks

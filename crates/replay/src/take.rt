@@ -19,14 +19,7 @@ ghost use Rattle.model.specs.Image.{xorAt};
 ghost use Rattle.log.specs.Reading.{LiesAt, Readable};
 
 // XORs the n words below the tail of a disk's log that start at position `from` into pages at `at`.
-fn xor_span(
-    pages: &mut [u64],
-    at: u64,
-    logs: &[u64],
-    extent: Extent,
-    from: u64,
-    n: u64,
-)
+fn xor_span(pages: &mut [u64], at: u64, logs: &[u64], extent: Extent, from: u64, n: u64)
     requires { ⌜ Readable extent (now logs) [] × (at + n ≤ length (now pages)) × (from + n ≤ extent .tail) ⌝ }
     ensures { λ _. ⌜ ((s : Sizes) (disk : ℕ) → LiesAt s disk (extent .place) (extent .ring)
         → now (pages .exit) ≡ xorAt at (span (readLog s (now (logs .entry)) disk (extent .tail) []) from n) (now (pages .entry))) ⌝ }

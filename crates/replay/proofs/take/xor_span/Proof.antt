@@ -34,8 +34,7 @@ slice-write-pages c = omega (arith, c .before .before .before .loop .inv .1)
 
 loop-again : tie.Need-loop-again Inv-loop μ-loop
 loop-again c =
-    let at-loop = c .before .before .before in
-    (
+    let at-loop = c .before .before .before in (
       omega arith,
       simp length-set (at-loop .loop .inv .1),
       λ s disk lies.
