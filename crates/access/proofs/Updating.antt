@@ -31,7 +31,7 @@ use Rattle.log.specs.declared.write.Logged.{Logged}
 use Rattle.log.specs.Write.{Encodable}
 use Rattle.log.proofs.Words.{change-length}
 use Rattle.frame.specs.Checks.{firstRefusal, verdictOf}
-use Rattle.frame.specs.declared.home.Home.{Home}
+use Rattle.log.specs.declared.write.Home.{Home}
 use Rattle.frame.specs.Home.{Serves, homeOf, withDisk}
 use Rattle.frame.specs.Settle.{settled, Concludes}
 use Rattle.frame.proofs.Verdicts.{first-refused, first-accepted, task-settled}
@@ -137,7 +137,7 @@ module _ {c : Core} {number page slot : ℕ} {value p l k : List ℕ} (ok : Chan
 
 -- An open transaction's log ends, and its reserved words are, below the bound of positions.
 module _ (c : Core) (number : ℕ) (ok : servingSound c ≡ true) (opened : isOpen (c .table) number ≡ true) where
-  pub home-low : {h : Home} → h ≡ homeOf c (diskOf c number) → h .tail + h .fill ≤ limit
+  pub home-low : {h : Home} → h ≡ homeOf (c .sizes) (c .logs) (diskOf c number) → h .tail + h .fill ≤ limit
   unfolding homeOf endOf
   home-low e = rw e (omega (arith, disk-sound c (diskOf c number) ok (open-below c number ok opened) .limit))
 
@@ -145,7 +145,7 @@ module _ (c : Core) (number : ℕ) (ok : servingSound c ≡ true) (opened : isOp
   reserved-low = omega (arith, open-entry c number ok opened .on, disk-sound c (diskOf c number) ok (open-below c number ok opened) .limit)
 
   -- the table that the code makes is that of the update
-  pub grown-updated : {h : Home} {t : Table} (words : ℕ) → h ≡ homeOf c (diskOf c number)
+  pub grown-updated : {h : Home} {t : Table} (words : ℕ) → h ≡ homeOf (c .sizes) (c .logs) (diskOf c number)
       → t ≡ grown (c .table) number (h .disk) (h .tail + h .fill) words → t ≡ updated c number words
   unfolding grown updated homeOf endOf
   grown-updated words e q = rw (q, e) refl
@@ -159,7 +159,7 @@ record Changed (budget rest : ℕ) (c : Core) (number page slot : ℕ) (value : 
 -- The record logged, the slot set and its owner are the task of an update.
 change-task : (c : Core) (w v : World) (number page slot : ℕ) (value : List ℕ) {h : Home} {head : Head} {at budget rest : ℕ} {r : Logged}
     → length value ≡ widthIn (c .sizes) page → slotBase (c .sizes) page slot + length value ≤ length (w .pages)
-    → h ≡ homeOf c (diskOf c number)
+    → h ≡ homeOf (c .sizes) (c .logs) (diskOf c number)
     → head ≡ record { kind = updateKind; page = page; slot = slot; number = number; copy = copyOf (c .sizes) (w .work) page }
     → at ≡ slotBase (c .sizes) page slot → Replaced budget rest (c .sizes) (c .logs) (h .disk) head at value w v r
     → Changed budget rest c number page slot value w v r
@@ -175,7 +175,7 @@ change-task c w v number page slot value {r} wide fits home head at did =
 
 -- The reply of an update whose record is logged and whose slot is set, or that is cut before.
 pub update-concluded : (c : Core) (w v : World) (number page slot : ℕ) (value : List ℕ) {h : Home} {head : Head} {at budget rest : ℕ} {r : Logged} {reply : Reply}
-    → Changes c number page slot value (w .pages) (w .logs) (w .work) → h ≡ homeOf c (diskOf c number)
+    → Changes c number page slot value (w .pages) (w .logs) (w .work) → h ≡ homeOf (c .sizes) (c .logs) (diskOf c number)
     → head ≡ record { kind = updateKind; page = page; slot = slot; number = number; copy = copyOf (c .sizes) (w .work) page }
     → at ≡ slotBase (c .sizes) page slot → Replaced budget rest (c .sizes) (c .logs) (h .disk) head at value w v r
     → reply ≡ settled (r .finished) budget rest 0 (withLog c (withDisk (c .logs) (diskOf c number) (r .tail) (r .fill)) (updated c number (3 + length value)))

@@ -1,8 +1,8 @@
 // The work of an update: its record appended, the slot changed, its owner set.
-use frame::home::Home;
 use frame::home::with_disk;
 use layout::memory::page_copy;
 use log::write::Head;
+use log::write::Home;
 use log::write::Logged;
 use log::write::append_change;
 use model::Core;
@@ -41,8 +41,8 @@ fn log_change(
     work: &mut [u64],
     budget: &mut u64,
 ) -> Logged
-    requires { ⌜ Within (home .disk) (home .ring) (home .buffer) (home .tail) (home .fill) (now logs) (now work) × Encodable head (length (now value)) × (at + length (now value) ≤ length (now pages)) ⌝ }
-    ensures { λ r. ⌜ ((s : Sizes) (l : Logs) (w : World) → Lent s l w (home .disk) (home .ring) (home .buffer) (home .tail) (home .fill) (now (logs .entry)) (now (work .entry))
+    requires { ⌜ Within home (now logs) (now work) × Encodable head (length (now value)) × (at + length (now value) ≤ length (now pages)) ⌝ }
+    ensures { λ r. ⌜ ((s : Sizes) (l : Logs) (w : World) → Lent s l w home (now (logs .entry)) (now (work .entry))
         → Appends (now (budget .entry)) (now (budget .exit)) s l (home .disk)
         (encode (changeOf head (xors (part at (length (now (value .entry))) (now (pages .entry))) (now (value .entry))))) w
         (withSlices w (now (logs .exit)) (now (work .exit))) r) ⌝ }
@@ -51,18 +51,7 @@ fn log_change(
     let n = value.len();
     let mut diff = [0u64; 32];
     difference(&mut diff, 0, pages, at, value);
-    append_change(
-        logs,
-        work,
-        home.disk,
-        home.ring,
-        home.buffer,
-        home.tail,
-        home.fill,
-        head,
-        &diff[..n],
-        budget,
-    )
+    append_change(logs, work, home, head, &diff[..n], budget)
 }
 
 // Sets a slot's words, and its owner.
@@ -86,8 +75,8 @@ pub fn log_and_set(
     work: &mut [u64],
     budget: &mut u64,
 ) -> Logged
-    requires { ⌜ Within (home .disk) (home .ring) (home .buffer) (home .tail) (home .fill) (now logs) (now work) × Encodable head (length (now value)) × (at + length (now value) ≤ length (now pages)) × (at < length (now work)) ⌝ }
-    ensures { λ r. ⌜ ((s : Sizes) (l : Logs) (w : World) → Lent s l w (home .disk) (home .ring) (home .buffer) (home .tail) (home .fill) (now (logs .entry)) (now (work .entry)) → w .pages ≡ now (pages .entry)
+    requires { ⌜ Within home (now logs) (now work) × Encodable head (length (now value)) × (at + length (now value) ≤ length (now pages)) × (at < length (now work)) ⌝ }
+    ensures { λ r. ⌜ ((s : Sizes) (l : Logs) (w : World) → Lent s l w home (now (logs .entry)) (now (work .entry)) → w .pages ≡ now (pages .entry)
         → Replaced (now (budget .entry)) (now (budget .exit)) s l (home .disk) head at (now (value .entry)) w (withMemory w (now (pages .exit)) (now (logs .exit)) (now (work .exit))) r) ⌝ }
 {
     let added = log_change(home, head, pages, at, value, logs, work, budget);
@@ -132,7 +121,7 @@ pub fn head_of(core: Core, number: u64, page: u64, slot: u64, work: &[u64]) -> H
 
 // The state after an update of so many words, whose disk was `home` and whose log now ends as `added` says.
 pub fn changed_core(core: Core, number: u64, home: Home, added: Logged, width: usize) -> Core
-    requires { ⌜ (servingSound core ≡ true) × (isOpen (core .table) number ≡ true) × (home ≡ homeOf core (diskOf core number)) × (width ≤ 32) ⌝ }
+    requires { ⌜ (servingSound core ≡ true) × (isOpen (core .table) number ≡ true) × (home ≡ homeOf (core .sizes) (core .logs) (diskOf core number)) × (width ≤ 32) ⌝ }
     ensures { λ r. ⌜ r ≡ withLog core (withDisk (core .logs) (diskOf core number) (added .tail) (added .fill)) (updated core number (3 + width)) ⌝ }
 {
     let logs = with_disk(core.logs, home.disk, added.tail, added.fill);

@@ -1,5 +1,5 @@
 // All buffers go to their disks.
-use layout::places::total;
+use frame::home::home_of;
 use log::write::flush_disk;
 use model::Core;
 ghost use mathlib.Core.List.{List};
@@ -18,15 +18,12 @@ pub fn flush_all(core: Core, logs: &mut [u64], work: &[u64], budget: &mut u64) -
         (worldOf anchor pages backups (now (logs .entry)) (now (work .entry)))
         (worldOf anchor pages backups (now (logs .exit)) (now (work .entry))) r) ⌝ }
 {
-    let disks = core.sizes.disks;
-    let ring = core.sizes.ring;
-    let all = total(core.sizes);
-    let parts = core.logs;
+    let sizes = core.sizes;
+    let state = core.logs;
     let mut d: u64 = 0;
-    while d < disks {
-        let tail = parts.tails[d as usize];
-        let fill = parts.fills[d as usize];
-        if !flush_disk(logs, work, d, ring, all + 64 * d, tail, fill, budget) {
+    while d < sizes.disks {
+        let home = home_of(sizes, state, work.len(), d);
+        if !flush_disk(logs, work, home, budget) {
             return false;
         }
         d += 1;

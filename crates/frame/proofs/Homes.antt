@@ -5,18 +5,19 @@ use Prim.Native.Nat.{ℕ, _+_, _*_, _-_, _≤_, _<_}
 use native.Mathlib.Omega.{arith}
 use lib.ListN.{length}
 use Rattle.model.specs.declared.Sizes.{Sizes}
+use Rattle.model.specs.declared.Logs.{Logs}
 use Rattle.model.specs.declared.Core.{Core}
-use Rattle.model.specs.Sizes.{ringOf, diskAt, logWords}
+use Rattle.model.specs.Sizes.{ringOf, logWords}
 use Rattle.model.specs.World.{World}
 use Rattle.model.specs.Memory.{bufferAt, copyAt, workWords}
-use Rattle.model.specs.State.{endOf}
+use Rattle.model.specs.State.{limit, fillOf, endOf}
 use Rattle.model.specs.Causes.{whenServing}
-use Rattle.model.proofs.Bounds.{bounded}
+use Rattle.model.proofs.Bounds.{Bounded, bounded}
 use Rattle.model.proofs.Lengths.{lengths-right}
 use Rattle.model.proofs.Ring.{disk-within}
 use Rattle.model.proofs.Store.Rows.{serving-sound, sizes-sound, disk-sound}
 use Rattle.log.specs.Write.{Within, Lent}
-use Rattle.frame.specs.declared.home.Home.{Home}
+use Rattle.log.specs.declared.write.Home.{Home}
 use Rattle.frame.specs.Home.{Serves, homeOf}
 use Rattle.frame.proofs.Verdicts.{Passed}
 
@@ -26,25 +27,36 @@ pub buffer-from-end : (s : Sizes) (work disk : ℕ) → work ≡ workWords s →
 unfolding workWords copyAt bufferAt
 buffer-from-end s work disk e below = omega (arith, e, below)
 
-pub home-lent : (c : Core) (w : World) (disk : ℕ)
-    → Lent (c .sizes) (c .logs) w disk (homeOf c disk .ring) (homeOf c disk .buffer) (homeOf c disk .tail) (homeOf c disk .fill) (w .logs) (w .work)
+pub home-lent : (s : Sizes) (l : Logs) (w : World) (disk : ℕ) → Lent s l w (homeOf s l disk) (w .logs) (w .work)
 unfolding homeOf
-home-lent c w disk =
-    record { same-ring = refl; same-buffer = refl; same-tail = refl; same-fill = refl; same-logs = refl; same-work = refl }
+home-lent s l w disk =
+    record {
+      lies = record { same-place = refl; same-ring = refl };
+      same-buffer = refl;
+      same-tail = refl;
+      same-fill = refl;
+      same-logs = refl;
+      same-work = refl;
+    }
+
+pub home-fits : (s : Sizes) (l : Logs) (logs work : List ℕ) (disk : ℕ) → Bounded s → length logs ≡ logWords s → length work ≡ workWords s
+    → disk < s .disks → fillOf l disk ≤ 64 → endOf l disk ≤ limit → Within (homeOf s l disk) logs work
+unfolding homeOf logWords ringOf workWords copyAt bufferAt endOf
+home-fits s l logs work disk b log-words work-words below fill end =
+    record {
+      some-ring = omega (arith, b .ring-min);
+      ring-within = omega (arith, disk-within s disk below, log-words);
+      buffer-within = omega (arith, work-words);
+      fill-small = fill;
+      end-small = omega (arith, end);
+    }
 
 pub home-within : (c : Core) (logs work : List ℕ) (disk : ℕ) → Serves c logs work → disk < c .sizes .disks
-    → Within disk (homeOf c disk .ring) (homeOf c disk .buffer) (homeOf c disk .tail) (homeOf c disk .fill) logs work
-unfolding homeOf logWords diskAt ringOf workWords copyAt bufferAt endOf
+    → Within (homeOf (c .sizes) (c .logs) disk) logs work
 home-within c logs work disk serves below =
     let b = bounded (c .sizes) (sizes-sound c (serves .state)) in
     let d = disk-sound c disk (serves .state) below in
-    record {
-      some-ring = omega (arith, b .ring-min);
-      disk-within = omega (arith, disk-within (c .sizes) disk below, serves .log-words);
-      buffer-within = omega (arith, serves .work-words);
-      fill-small = d .fill;
-      end-small = omega (arith, d .limit);
-    }
+    home-fits (c .sizes) (c .logs) logs work disk b (serves .log-words) (serves .work-words) below (d .fill) (omega (arith, d .limit))
 
 -- what the first checks of a serving call leave
 pub serves-passed : (c : Core) (w : World) → Passed whenServing c w → Serves c (w .logs) (w .work)
@@ -53,17 +65,14 @@ serves-passed c w passed =
     record { state = serving-sound c (passed .stage) (passed .state); log-words = lengths .logs; work-words = lengths .work }
 
 -- The same of a home that a function answered.
-module _ (c : Core) (disk : ℕ) {h : Home} (e : h ≡ homeOf c disk) where
-  pub lent-there : (w : World) {logs work : List ℕ} → w .logs ≡ logs → w .work ≡ work
-      → Lent (c .sizes) (c .logs) w (h .disk) (h .ring) (h .buffer) (h .tail) (h .fill) logs work
-  unfolding homeOf
-  lent-there w same-logs same-work = rw (e, ← same-logs, ← same-work) (home-lent c w disk)
-
-  pub within-there : (logs work : List ℕ) → Serves c logs work → disk < c .sizes .disks
-      → Within (h .disk) (h .ring) (h .buffer) (h .tail) (h .fill) logs work
-  unfolding homeOf
-  within-there logs work serves below = rw e (home-within c logs work disk serves below)
+module _ (s : Sizes) (l : Logs) (disk : ℕ) {h : Home} (e : h ≡ homeOf s l disk) where
+  pub lent-there : (w : World) {logs work : List ℕ} → w .logs ≡ logs → w .work ≡ work → Lent s l w h logs work
+  lent-there w same-logs same-work = rw (e, ← same-logs, ← same-work) (home-lent s l w disk)
 
   pub disk-there : h .disk ≡ disk
   unfolding homeOf
   disk-there = rw e refl
+
+pub within-there : (c : Core) (disk : ℕ) {h : Home} → h ≡ homeOf (c .sizes) (c .logs) disk → (logs work : List ℕ) → Serves c logs work
+    → disk < c .sizes .disks → Within h logs work
+within-there c disk e logs work serves below = rw e (home-within c logs work disk serves below)

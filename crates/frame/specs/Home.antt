@@ -4,12 +4,13 @@ use mathlib.Core.List.{List}
 use mathlib.Core.Bool.{true}
 use Prim.Native.Nat.{ℕ}
 use lib.ListN.{length, set}
+use Rattle.model.specs.declared.Sizes.{Sizes}
 use Rattle.model.specs.declared.Logs.{Logs}
 use Rattle.model.specs.declared.Core.{Core}
-use Rattle.model.specs.Sizes.{logWords}
+use Rattle.model.specs.Sizes.{ringOf, diskAt, logWords}
 use Rattle.model.specs.Memory.{bufferAt, workWords}
 use Rattle.model.specs.State.{tailOf, fillOf, servingSound}
-use Rattle.frame.specs.declared.home.Home.{Home}
+use Rattle.log.specs.declared.write.Home.{Home}
 
 -- A serving state, and slices of the lengths that it gives.
 pub record Serves (c : Core) (logs work : List ℕ) : Type 0 where
@@ -17,14 +18,15 @@ pub record Serves (c : Core) (logs work : List ℕ) : Type 0 where
   pub log-words : length logs ≡ logWords (c .sizes)
   pub work-words : length work ≡ workWords (c .sizes)
 
-unfoldable pub homeOf : Core → ℕ → Home
-homeOf c disk =
+unfoldable pub homeOf : Sizes → Logs → ℕ → Home
+homeOf s l disk =
     record {
       disk = disk;
-      ring = c .sizes .ring;
-      buffer = bufferAt (c .sizes) disk;
-      tail = tailOf (c .logs) disk;
-      fill = fillOf (c .logs) disk;
+      place = diskAt s disk;
+      ring = ringOf s disk;
+      buffer = bufferAt s disk;
+      tail = tailOf l disk;
+      fill = fillOf l disk;
     }
 
 -- the logs with another tail and fill of one disk

@@ -1,6 +1,10 @@
 // A disk of a serving state: the numbers that the functions of `log` are lent.
+use layout::disks::disk_at;
+use layout::disks::ring_of;
+use log::write::Home;
 use model::Core;
 use model::Logs;
+use model::Sizes;
 use table::place::place_of;
 ghost use mathlib.Core.Path.{_≡_};
 ghost use mathlib.Core.Bool.{true};
@@ -11,14 +15,6 @@ ghost use Rattle.model.specs.State.{isOpen, servingSound};
 ghost use Rattle.model.specs.Transaction.{diskOf};
 ghost use Rattle.frame.specs.Home.{homeOf, withDisk};
 
-pub struct Home {
-    pub disk: u64,
-    pub ring: u64,
-    pub buffer: u64,
-    pub tail: u64,
-    pub fill: u64,
-}
-
 // A disk's buffer in a work memory of this length: the buffers lie before its last 64 words, so that the pages need not be summed up.
 fn buffer_place(work: usize, disks: u64, disk: u64) -> u64
     requires { ⌜ (disk < disks) × (disks ≤ 8) × (64 * disks + 64 ≤ work) ⌝ }
@@ -27,37 +23,34 @@ fn buffer_place(work: usize, disks: u64, disk: u64) -> u64
     work as u64 - 64 * (disks - disk + 1)
 }
 
-// `work` is the work memory's length.
+// A disk, by the sizes and the logs' part of a state. `work` is the work memory's length.
 // That the arrays are as long as their types say is told here, where it is near: callers' proofs use it.
-fn home_of(core: Core, work: usize, disk: u64) -> Home
-    requires { ⌜ (disk < core .sizes .disks) × (core .sizes .disks ≤ 8) × (work ≡ workWords (core .sizes)) ⌝ }
-    ensures { λ r. ⌜ r ≡ homeOf core disk ⌝ }
-    ensures { λ _. ⌜ (length (core .logs .starts) ≡ 8) × (length (core .logs .tails) ≡ 8) × (length (core .logs .fills) ≡ 8) ⌝ }
+pub fn home_of(sizes: Sizes, logs: Logs, work: usize, disk: u64) -> Home
+    requires { ⌜ (disk < sizes .disks) × (sizes .disks ≤ 8) × (sizes .ring ≤ 65536) × (work ≡ workWords sizes) ⌝ }
+    ensures { λ r. ⌜ r ≡ homeOf sizes logs disk ⌝ }
+    ensures { λ _. ⌜ (length (logs .starts) ≡ 8) × (length (logs .tails) ≡ 8) × (length (logs .fills) ≡ 8) ⌝ }
 {
-    let sizes = core.sizes;
-    let tails = core.logs.tails;
-    let fills = core.logs.fills;
     let d = disk as usize;
-    let buffer = buffer_place(work, sizes.disks, disk);
     Home {
         disk,
-        ring: sizes.ring,
-        buffer,
-        tail: tails[d],
-        fill: fills[d],
+        place: disk_at(sizes, disk),
+        ring: ring_of(sizes, disk),
+        buffer: buffer_place(work, sizes.disks, disk),
+        tail: logs.tails[d],
+        fill: logs.fills[d],
     }
 }
 
 // The disk of an open transaction.
 pub fn home_of_transaction(core: Core, work: usize, number: u64) -> Home
     requires { ⌜ (servingSound core ≡ true) × (isOpen (core .table) number ≡ true) × (work ≡ workWords (core .sizes)) ⌝ }
-    ensures { λ r. ⌜ r ≡ homeOf core (diskOf core number) ⌝ }
+    ensures { λ r. ⌜ r ≡ homeOf (core .sizes) (core .logs) (diskOf core number) ⌝ }
     ensures { λ _. ⌜ (length (core .logs .starts) ≡ 8) × (length (core .logs .tails) ≡ 8) × (length (core .logs .fills) ≡ 8) ⌝ }
 {
     let place = place_of(core.table, number);
     let disks = core.table.disks;
     let disk = disks[place];
-    home_of(core, work, disk)
+    home_of(core.sizes, core.logs, work, disk)
 }
 
 // The logs with another tail and fill of one disk.

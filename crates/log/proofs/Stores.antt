@@ -2,13 +2,13 @@
 use mathlib.Core.Path.{_≡_, _∙_}
 use mathlib.Core.List.{List, [], _∷_, _++_}
 use mathlib.Core.Bool.{Bool, true, false}
-use Prim.Native.Nat.{ℕ, _+_, _*_, _≤_, _<_}
+use Prim.Native.Nat.{ℕ, _+_, _≤_, _<_}
 use native.Mathlib.Omega.{arith}
 use lib.ListN.{length}
 use Rattle.model.specs.declared.Sizes.{Sizes}
 use Rattle.model.specs.declared.Logs.{Logs}
 use Rattle.model.specs.Word.{part}
-use Rattle.model.specs.Sizes.{ringOf, diskAt, tailWord}
+use Rattle.model.specs.Sizes.{tailWord}
 use Rattle.model.specs.World.{World, store, logs, each}
 use Rattle.model.specs.Memory.{bufferOf}
 use Rattle.model.specs.Append.{storeLog, flush}
@@ -20,19 +20,21 @@ use Rattle.device.proofs.Memory.{ran-none}
 use Rattle.device.proofs.Ran.{ran-then, ran-cut}
 use Rattle.device.proofs.Ring.{ring-ran}
 use Rattle.device.proofs.Runs.{logs-ran}
+use Rattle.log.specs.declared.write.Home.{Home}
 use Rattle.log.specs.Write.{Lent}
 
--- A flush of disk `disk`, which has `fill` words in its buffer.
-module _ {s : Sizes} {l : Logs} {w : World} {disk ring buffer tail fill : ℕ} {before memory : List ℕ}
-    (lent : Lent s l w disk ring buffer tail fill before memory) (fits : buffer + 64 ≤ length memory) (small : fill ≤ 64) where
-  pub flush-nothing : (budget : ℕ) → fill ≡ 0 → Ran budget budget (flush s l (w .work) disk) w (withSlices w before memory) true
+-- A flush of a disk that is lent.
+module _ {s : Sizes} {l : Logs} {w : World} {h : Home} {before memory : List ℕ}
+    (lent : Lent s l w h before memory) (fits : h .buffer + 64 ≤ length memory) (small : h .fill ≤ 64) where
+  pub flush-nothing : (budget : ℕ) → h .fill ≡ 0 → Ran budget budget (flush s l (w .work) (h .disk)) w (withSlices w before memory) true
   flush-nothing budget none =
-      rw (flush-empty s l (w .work) disk (lent .same-fill ∙ none), ← lent .same-logs, ← lent .same-work) (ran-none budget w)
+      rw (flush-empty s l (w .work) (h .disk) (lent .same-fill ∙ none), ← lent .same-logs, ← lent .same-work) (ran-none budget w)
 
   -- the flush as its words and its tail
-  flush-is : 0 < fill
-      → flush s l (w .work) disk
-      ≡ each (storeLog s disk) tail (part buffer fill memory) ++ store logs (tailWord s disk) (tail + fill) ∷ []
+  flush-is : 0 < h .fill
+      → flush s l (w .work) (h .disk)
+      ≡ each (storeLog s (h .disk)) (h .tail) (part (h .buffer) (h .fill) memory)
+      ++ store logs (tailWord s (h .disk)) (h .tail + h .fill) ∷ []
   unfolding flush bufferOf
   flush-is some =
       rw (
@@ -40,29 +42,26 @@ module _ {s : Sizes} {l : Logs} {w : World} {disk ring buffer tail fill : ℕ} {
         lent .same-fill,
         lent .same-buffer,
         lent .same-work,
-        store-some s disk tail (part buffer fill memory) (rw (length-part buffer fill memory (omega arith)) some),
-        length-part buffer fill memory (omega arith),
+        store-some s (h .disk) (h .tail) (part (h .buffer) (h .fill) memory) (rw (length-part (h .buffer) (h .fill) memory (omega arith)) some),
+        length-part (h .buffer) (h .fill) memory (omega arith),
       )
 
-  place : diskAt s disk ≡ disk * (ring + 1)
-  unfolding diskAt
-  place = rw (lent .same-ring)
-
   module _ {budget rest : ℕ} {words : List ℕ} {whole : Bool}
-      (did : StoredRing (disk * (ring + 1) + 1) ring budget rest tail (part buffer fill memory) before words whole) where
+      (did : StoredRing (h .place + 1) (h .ring) budget rest (h .tail) (part (h .buffer) (h .fill) memory) before words whole) where
     -- its words, as far as the budget goes
-    words-ran : Ran budget rest (each (storeLog s disk) tail (part buffer fill memory)) w (withSlices w words memory) whole
-    unfolding ringOf
-    words-ran = rw (← lent .same-work) (ring-ran s disk w (rw (place, lent .same-ring, lent .same-logs, lent .same-work) did))
+    words-ran : Ran budget rest (each (storeLog s (h .disk)) (h .tail) (part (h .buffer) (h .fill) memory)) w (withSlices w words memory) whole
+    words-ran =
+        rw (← lent .same-work)
+        (ring-ran s (h .disk) w (rw (lent .lies .same-place, lent .lies .same-ring, lent .same-logs, lent .same-work) did))
 
     -- they are cut, and no tail is stored
-    pub flush-cut : 0 < fill → whole ≡ false → Ran budget rest (flush s l (w .work) disk) w (withSlices w words memory) false
+    pub flush-cut : 0 < h .fill → whole ≡ false → Ran budget rest (flush s l (w .work) (h .disk)) w (withSlices w words memory) false
     flush-cut some e = rw (flush-is some) (ran-cut words-ran _ e)
 
     -- all of them are stored, and then the new tail, if the budget goes so far
-    pub flush-tail : {last : ℕ} {after : List ℕ} {all : Bool} → 0 < fill → whole ≡ true
-        → Stored rest last (disk * (ring + 1)) ((tail + fill) ∷ []) words after all
-        → Ran budget last (flush s l (w .work) disk) w (withSlices w after memory) all
+    pub flush-tail : {last : ℕ} {after : List ℕ} {all : Bool} → 0 < h .fill → whole ≡ true
+        → Stored rest last (h .place) ((h .tail + h .fill) ∷ []) words after all
+        → Ran budget last (flush s l (w .work) (h .disk)) w (withSlices w after memory) all
     unfolding each tailWord
     flush-tail some e tailed =
-        rw (flush-is some, place) (ran-then words-ran _ e (logs-ran (withSlices w words memory) tailed))
+        rw (flush-is some, lent .lies .same-place) (ran-then words-ran _ e (logs-ran (withSlices w words memory) tailed))

@@ -2,7 +2,7 @@
 use mathlib.Core.Path.{_≡_}
 use mathlib.Core.List.{List}
 use mathlib.Core.Bool.{Bool, true, false}
-use Prim.Native.Nat.{ℕ, _+_, _-_, _*_, _≤_, _<_, _^_}
+use Prim.Native.Nat.{ℕ, _+_, _≤_, _<_, _^_}
 use lib.ListN.{length, set}
 use Rattle.model.specs.declared.Sizes.{Sizes}
 use Rattle.model.specs.declared.Logs.{Logs}
@@ -12,16 +12,18 @@ use Rattle.model.specs.Memory.{bufferAt}
 use Rattle.model.specs.State.{tailOf, fillOf}
 use Rattle.model.specs.Append.{append}
 use Rattle.device.specs.Ran.{Ran}
+use Rattle.log.specs.declared.write.Home.{Home}
 use Rattle.log.specs.declared.write.Head.{Head}
 use Rattle.log.specs.declared.write.Logged.{Logged}
+use Rattle.log.specs.Reading.{LiesAt}
 
 -- The numbers lay every index within its slice, and the end of the log within the bound of positions.
-pub record Within (disk ring buffer tail fill : ℕ) (logs work : List ℕ) : Type 0 where
-  pub some-ring : 0 < ring
-  pub disk-within : disk * (ring + 1) + (ring + 1) ≤ length logs
-  pub buffer-within : buffer + 64 ≤ length work
-  pub fill-small : fill ≤ 64
-  pub end-small : tail + fill ≤ 2 ^ 62
+pub record Within (h : Home) (logs work : List ℕ) : Type 0 where
+  pub some-ring : 0 < h .ring
+  pub ring-within : h .place + 1 + h .ring ≤ length logs
+  pub buffer-within : h .buffer + 64 ≤ length work
+  pub fill-small : h .fill ≤ 64
+  pub end-small : h .tail + h .fill ≤ 2 ^ 62
 
 -- The fields of a change fit its first word.
 pub record Encodable (h : Head) (width : ℕ) : Type 0 where
@@ -34,11 +36,11 @@ abbrev pub changeOf : Head → List ℕ → Record
 changeOf h difference = change (h .kind) (h .page) (h .slot) (h .number) (h .copy) difference
 
 -- The numbers and the two slices are those of a disk, in a state and a world.
-pub record Lent (s : Sizes) (l : Logs) (w : World) (disk ring buffer tail fill : ℕ) (logs work : List ℕ) : Type 0 where
-  pub same-ring : s .ring ≡ ring
-  pub same-buffer : bufferAt s disk ≡ buffer
-  pub same-tail : tailOf l disk ≡ tail
-  pub same-fill : fillOf l disk ≡ fill
+pub record Lent (s : Sizes) (l : Logs) (w : World) (h : Home) (logs work : List ℕ) : Type 0 where
+  pub lies : LiesAt s (h .disk) (h .place) (h .ring)
+  pub same-buffer : bufferAt s (h .disk) ≡ h .buffer
+  pub same-tail : tailOf l (h .disk) ≡ h .tail
+  pub same-fill : fillOf l (h .disk) ≡ h .fill
   pub same-logs : w .logs ≡ logs
   pub same-work : w .work ≡ work
 

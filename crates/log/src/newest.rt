@@ -1,12 +1,13 @@
 // The updates that an abort takes back: the newest before a bound, and the words of all.
+use crate::read::Extent;
 use crate::read::decode_at;
 use model::Decoded;
 use model::Sizes;
 ghost use mathlib.Core.Path.{_≡_};
-ghost use Prim.Native.Nat.{_≤_};
+ghost use Prim.Native.Nat.{ℕ, _≤_};
 ghost use Rattle.model.specs.Decode.{readLog};
 ghost use Rattle.model.specs.Scan.{scan, updatesIn, updateWords};
-ghost use Rattle.log.specs.Reading.{Readable, isUpdateOf, newerOf, newestIn};
+ghost use Rattle.log.specs.Reading.{LiesAt, OfDisk, Readable, isUpdateOf, newerOf, newestIn};
 
 // Where an update's record stands, the slot that it changed, and the slot's width.
 pub struct Site {
@@ -74,21 +75,20 @@ fn newer(here: Decoded, number: u64, position: u64, sofar: Newest) -> Newest
 pub fn newest_update(
     sizes: Sizes,
     logs: &[u64],
-    disk: u64,
-    tail: u64,
+    extent: Extent,
     buffer: &[u64],
-    end: u64,
     from: u64,
     number: u64,
     bound: u64,
 ) -> Newest
-    requires { ⌜ Readable sizes (now logs) disk tail (now buffer) end × (bound ≤ end) ⌝ }
-    ensures { λ r. ⌜ r ≡ newestIn number bound Newest.Absent (scan sizes (readLog sizes (now (logs .entry)) disk tail (now (buffer .entry))) end from) ⌝ }
+    requires { ⌜ Readable extent (now logs) (now buffer) × OfDisk sizes extent × (bound ≤ extent .end) ⌝ }
+    ensures { λ r. ⌜ ((disk : ℕ) → LiesAt sizes disk (extent .place) (extent .ring)
+        → r ≡ newestIn number bound Newest.Absent (scan sizes (readLog sizes (now (logs .entry)) disk (extent .tail) (now (buffer .entry))) (extent .end) from)) ⌝ }
 {
     let mut newest = Newest::Absent;
     let mut p = from;
     while p < bound {
-        let here = decode_at(sizes, logs, disk, tail, buffer, end, p);
+        let here = decode_at(sizes, logs, extent, buffer, p);
         match here {
             Decoded::Change { next, .. } => {
                 newest = newer(here, number, p, newest);
@@ -105,20 +105,20 @@ pub fn newest_update(
 pub fn abort_words(
     sizes: Sizes,
     logs: &[u64],
-    disk: u64,
-    tail: u64,
+    extent: Extent,
     buffer: &[u64],
-    end: u64,
     from: u64,
     number: u64,
 ) -> u64
-    requires { ⌜ Readable sizes (now logs) disk tail (now buffer) end ⌝ }
-    ensures { λ r. ⌜ r ≡ updateWords (updatesIn number (scan sizes (readLog sizes (now (logs .entry)) disk tail (now (buffer .entry))) end from)) ⌝ }
+    requires { ⌜ Readable extent (now logs) (now buffer) × OfDisk sizes extent ⌝ }
+    ensures { λ r. ⌜ ((disk : ℕ) → LiesAt sizes disk (extent .place) (extent .ring)
+        → r ≡ updateWords (updatesIn number (scan sizes (readLog sizes (now (logs .entry)) disk (extent .tail) (now (buffer .entry))) (extent .end) from))) ⌝ }
 {
+    let end = extent.end;
     let mut words: u64 = 0;
     let mut p = from;
     while p < end {
-        let here = decode_at(sizes, logs, disk, tail, buffer, end, p);
+        let here = decode_at(sizes, logs, extent, buffer, p);
         match here {
             Decoded::Change { next, .. } => {
                 if is_update_of(here, number) {

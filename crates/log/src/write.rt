@@ -16,32 +16,36 @@ ghost use Rattle.model.specs.Append.{flush};
 ghost use Rattle.device.specs.Ran.{Ran, withSlices};
 ghost use Rattle.log.specs.Write.{Within, Encodable, changeOf, Lent, Ends, Appends};
 
+// A disk, and what a writer needs of it: the index of its tail word in the logs of all disks, its ring size, where its buffer lies in
+// the work memory, its tail, and how many words are buffered.
+pub struct Home {
+    pub disk: u64,
+    pub place: u64,
+    pub ring: u64,
+    pub buffer: u64,
+    pub tail: u64,
+    pub fill: u64,
+}
+
 // Stores a disk's buffered words at the tail and onward, then the new tail, as far as the budget goes; true if all are stored.
-pub fn flush_disk(
-    logs: &mut [u64],
-    work: &[u64],
-    disk: u64,
-    ring: u64,
-    buffer: u64,
-    tail: u64,
-    fill: u64,
-    budget: &mut u64,
-) -> bool
-    requires { ⌜ Within disk ring buffer tail fill (now logs) (now work) ⌝ }
-    ensures { λ r. ⌜ ((s : Sizes) (l : Logs) (w : World) → Lent s l w disk ring buffer tail fill (now (logs .entry)) (now (work .entry))
-        → Ran (now (budget .entry)) (now (budget .exit)) (flush s l (w .work) disk) w (withSlices w (now (logs .exit)) (now (work .entry))) r) ⌝ }
+pub fn flush_disk(logs: &mut [u64], work: &[u64], home: Home, budget: &mut u64) -> bool
+    requires { ⌜ Within home (now logs) (now work) ⌝ }
+    ensures { λ r. ⌜ ((s : Sizes) (l : Logs) (w : World) → Lent s l w home (now (logs .entry)) (now (work .entry))
+        → Ran (now (budget .entry)) (now (budget .exit)) (flush s l (w .work) (home .disk)) w (withSlices w (now (logs .exit)) (now (work .entry))) r) ⌝ }
 {
+    let fill = home.fill;
     if fill == 0 {
         return true;
     }
-    let place = (disk * (ring + 1)) as usize;
+    let place = home.place as usize;
+    let tail = home.tail;
     if !store_ring(
         logs,
         place + 1,
-        ring as usize,
+        home.ring as usize,
         tail as usize,
         work,
-        buffer as usize,
+        home.buffer as usize,
         fill as usize,
         budget,
     ) {
@@ -90,20 +94,19 @@ pub struct Logged {
 pub fn append(
     logs: &mut [u64],
     work: &mut [u64],
-    disk: u64,
-    ring: u64,
-    buffer: u64,
-    tail: u64,
-    fill: u64,
+    home: Home,
     words: &[u64],
     budget: &mut u64,
 ) -> Logged
-    requires { ⌜ Within disk ring buffer tail fill (now logs) (now work) × (length (now words) ≤ 64) ⌝ }
-    ensures { λ r. ⌜ ((s : Sizes) (l : Logs) (w : World) → Lent s l w disk ring buffer tail fill (now (logs .entry)) (now (work .entry))
-        → Appends (now (budget .entry)) (now (budget .exit)) s l disk (now (words .entry)) w (withSlices w (now (logs .exit)) (now (work .exit))) r) ⌝ }
-    ensures { λ r. ⌜ Ends tail fill (length (now (words .entry))) r ⌝ }
+    requires { ⌜ Within home (now logs) (now work) × (length (now words) ≤ 64) ⌝ }
+    ensures { λ r. ⌜ ((s : Sizes) (l : Logs) (w : World) → Lent s l w home (now (logs .entry)) (now (work .entry))
+        → Appends (now (budget .entry)) (now (budget .exit)) s l (home .disk) (now (words .entry)) w (withSlices w (now (logs .exit)) (now (work .exit))) r) ⌝ }
+    ensures { λ r. ⌜ Ends (home .tail) (home .fill) (length (now (words .entry))) r ⌝ }
 {
     let n = words.len() as u64;
+    let buffer = home.buffer;
+    let tail = home.tail;
+    let fill = home.fill;
     if fill + n <= 64 {
         put_record(work, buffer + fill, words);
         return Logged {
@@ -112,7 +115,7 @@ pub fn append(
             fill: fill + n,
         };
     }
-    if !flush_disk(logs, work, disk, ring, buffer, tail, fill, budget) {
+    if !flush_disk(logs, work, home, budget) {
         return Logged {
             finished: false,
             tail,
@@ -131,55 +134,37 @@ pub fn append(
 pub fn append_close(
     logs: &mut [u64],
     work: &mut [u64],
-    disk: u64,
-    ring: u64,
-    buffer: u64,
-    tail: u64,
-    fill: u64,
+    home: Home,
     kind: u64,
     number: u64,
     budget: &mut u64,
 ) -> Logged
-    requires { ⌜ Within disk ring buffer tail fill (now logs) (now work) ⌝ }
-    ensures { λ r. ⌜ ((s : Sizes) (l : Logs) (w : World) → Lent s l w disk ring buffer tail fill (now (logs .entry)) (now (work .entry))
-        → Appends (now (budget .entry)) (now (budget .exit)) s l disk (encode (close kind number)) w (withSlices w (now (logs .exit)) (now (work .exit))) r) ⌝ }
-    ensures { λ r. ⌜ Ends tail fill 2 r ⌝ }
+    requires { ⌜ Within home (now logs) (now work) ⌝ }
+    ensures { λ r. ⌜ ((s : Sizes) (l : Logs) (w : World) → Lent s l w home (now (logs .entry)) (now (work .entry))
+        → Appends (now (budget .entry)) (now (budget .exit)) s l (home .disk) (encode (close kind number)) w (withSlices w (now (logs .exit)) (now (work .exit))) r) ⌝ }
+    ensures { λ r. ⌜ Ends (home .tail) (home .fill) 2 r ⌝ }
 {
     let words = [kind, number];
-    append(logs, work, disk, ring, buffer, tail, fill, &words, budget)
+    append(logs, work, home, &words, budget)
 }
 
 // Appends a change, whose difference is lent.
 pub fn append_change(
     logs: &mut [u64],
     work: &mut [u64],
-    disk: u64,
-    ring: u64,
-    buffer: u64,
-    tail: u64,
-    fill: u64,
+    home: Home,
     head: Head,
     difference: &[u64],
     budget: &mut u64,
 ) -> Logged
-    requires { ⌜ Within disk ring buffer tail fill (now logs) (now work) × Encodable head (length (now difference)) ⌝ }
-    ensures { λ r. ⌜ ((s : Sizes) (l : Logs) (w : World) → Lent s l w disk ring buffer tail fill (now (logs .entry)) (now (work .entry))
-        → Appends (now (budget .entry)) (now (budget .exit)) s l disk (encode (changeOf head (now (difference .entry)))) w (withSlices w (now (logs .exit)) (now (work .exit))) r) ⌝ }
-    ensures { λ r. ⌜ Ends tail fill (3 + length (now (difference .entry))) r ⌝ }
+    requires { ⌜ Within home (now logs) (now work) × Encodable head (length (now difference)) ⌝ }
+    ensures { λ r. ⌜ ((s : Sizes) (l : Logs) (w : World) → Lent s l w home (now (logs .entry)) (now (work .entry))
+        → Appends (now (budget .entry)) (now (budget .exit)) s l (home .disk) (encode (changeOf head (now (difference .entry)))) w (withSlices w (now (logs .exit)) (now (work .exit))) r) ⌝ }
+    ensures { λ r. ⌜ Ends (home .tail) (home .fill) (3 + length (now (difference .entry))) r ⌝ }
 {
     let n = difference.len();
     let mut words = [0u64; 35];
     put_record(&mut words, 3, difference);
     encode_change(&mut words, head, n as u64);
-    append(
-        logs,
-        work,
-        disk,
-        ring,
-        buffer,
-        tail,
-        fill,
-        &words[..3 + n],
-        budget,
-    )
+    append(logs, work, home, &words[..3 + n], budget)
 }

@@ -5,9 +5,13 @@ use Prim.Native.Nat.{ℕ, _+_, _≤_, _<_}
 use native.Mathlib.Omega.{arith}
 use lib.ListN.{length}
 use Rattle.model.specs.declared.Core.{Core}
+use Rattle.model.specs.declared.Fate.{Fate}
+use Rattle.model.specs.declared.Decoded.{Decoded}
 use Rattle.model.specs.declared.Decoded.the-variants.{Change}
 use Rattle.model.specs.Sizes.{slotBase}
 use Rattle.model.specs.World.{World}
+use Rattle.model.specs.Decode.{readLog, decodeAt}
+use Rattle.model.specs.Scan.{scan, fateIn}
 use Rattle.model.specs.State.{limit, tailOf}
 use Rattle.model.specs.Causes.{whenReplaying}
 use Rattle.model.specs.Restart.{positionOf, readDisk, nextRecord}
@@ -17,8 +21,9 @@ use Rattle.model.proofs.Geometry.{slot-end-total}
 use Rattle.model.proofs.Lengths.{Lengths, lengths-right}
 use Rattle.model.proofs.Sound.Test.{ReplaySound, replay-sound}
 use Rattle.frame.proofs.Verdicts.{Passed}
-use Rattle.log.specs.Reading.{Readable}
-use Rattle.log.proofs.Ready.{readable}
+use Rattle.log.specs.declared.read.Extent.{Extent}
+use Rattle.log.specs.Reading.{LiesAt, extentOf, Readable}
+use Rattle.log.proofs.Ready.{readable, read-there}
 use Rattle.restart.specs.Rest.{Replays, OnLog}
 
 module _ (c : Core) (r : Replays c) where
@@ -47,10 +52,27 @@ module _ {c : Core} {disk : ℕ} {pages logs : List ℕ} (on : OnLog c disk page
   pub tail-low : tailOf (c .logs) disk ≤ limit
   tail-low = replaying c (on .replays) .tails disk (on .disk-in)
 
-  pub log-readable : Readable (c .sizes) logs disk (tailOf (c .logs) disk) [] (tailOf (c .logs) disk)
-  log-readable =
-      readable (c .sizes) (sizes-bounded c (on .replays)) logs disk (tailOf (c .logs) disk) [] (tailOf (c .logs) disk) (on .log-words)
-      (on .disk-in) (omega arith) (omega (arith, tail-low))
+  -- its extent, and what the readers answer of it
+  pub extent-asked : (disk ≤ 8) × (c .sizes .ring ≤ 65536)
+  extent-asked = (omega (arith, eight), sizes-bounded c (on .replays) .ring-max)
+
+  module _ {e : Extent} (is : e ≡ extentOf (c .sizes) disk (tailOf (c .logs) disk) (tailOf (c .logs) disk)) where
+    pub log-readable : Readable e logs []
+    log-readable =
+        rw is
+        (readable (c .sizes) (sizes-bounded c (on .replays)) logs disk (tailOf (c .logs) disk) [] (tailOf (c .logs) disk) (on .log-words)
+        (on .disk-in) (omega arith) (omega (arith, tail-low)))
+
+    pub decoded-there : (p : ℕ) {r : Decoded}
+        → ((d : ℕ) → LiesAt (c .sizes) d (e .place) (e .ring) → r ≡ decodeAt (c .sizes) (readLog (c .sizes) logs d (e .tail) []) (e .end) p)
+        → r ≡ decodeAt (c .sizes) (readLog (c .sizes) logs disk (tailOf (c .logs) disk) []) (tailOf (c .logs) disk) p
+    decoded-there p = read-there _ _ _ _ is logs [] (λ read stop. decodeAt (c .sizes) read stop p)
+
+    pub fate-there : (p number : ℕ) {r : Fate}
+        → ((d : ℕ) → LiesAt (c .sizes) d (e .place) (e .ring)
+        → r ≡ fateIn number (scan (c .sizes) (readLog (c .sizes) logs d (e .tail) []) (e .end) p))
+        → r ≡ fateIn number (scan (c .sizes) (readLog (c .sizes) logs disk (tailOf (c .logs) disk) []) (tailOf (c .logs) disk) p)
+    fate-there p number = read-there _ _ _ _ is logs [] (λ read stop. fateIn number (scan (c .sizes) read stop p))
 
   -- A change found there: its slot is one of the pages', and its difference ends within the log.
   module _ (w : World) {kind page slot number copy width next : ℕ} (e : nextRecord c w disk ≡ Change kind page slot number copy width next) where

@@ -5,6 +5,7 @@ use frame::settle::refuse_at;
 use frame::stages::is_replaying;
 use layout::places::slot_base;
 use log::read::decode_at;
+use log::read::extent_of;
 use log::scan::fate_from;
 use model::Answer;
 use model::Core;
@@ -75,7 +76,8 @@ fn log_step(core: Core, disk: u64, pages: &mut [u64], logs: &[u64]) -> Reply
         return refuse(core, 15);
     }
     let none = &logs[0..0];
-    let here = decode_at(sizes, logs, disk, tail, none, tail, position);
+    let extent = extent_of(sizes, disk, tail, tail);
+    let here = decode_at(sizes, logs, extent, none, position);
     match here {
         Decoded::Malformed => refuse_at(core, 7, disk, position),
         Decoded::Close { next, .. } => move_on(core, disk, next),
@@ -88,14 +90,14 @@ fn log_step(core: Core, disk: u64, pages: &mut [u64], logs: &[u64]) -> Reply
             next,
             ..
         } => {
-            let fate = fate_from(sizes, logs, disk, tail, none, tail, next, number);
+            let fate = fate_from(sizes, logs, extent, none, next, number);
             if let Fate::Unreadable { position: p } = fate {
                 return refuse_at(core, 7, disk, p);
             }
             let replays = is_replayed(core.epoch, fate, copy);
             let at = slot_base(sizes, page, slot);
             let from = position + 3;
-            replay_span(replays, pages, at, sizes, logs, disk, tail, from, width);
+            replay_span(replays, pages, at, logs, extent, from, width);
             move_on(core, disk, next)
         }
     }

@@ -28,7 +28,7 @@ use Rattle.device.proofs.Ran.{ran-then, ran-cut, ran-whole}
 use Rattle.log.specs.declared.write.Logged.{Logged}
 use Rattle.log.specs.Write.{Appends}
 use Rattle.frame.specs.Checks.{firstRefusal}
-use Rattle.frame.specs.declared.home.Home.{Home}
+use Rattle.log.specs.declared.write.Home.{Home}
 use Rattle.frame.specs.Home.{homeOf, withDisk}
 use Rattle.frame.specs.Settle.{settled, Concludes}
 use Rattle.txn.specs.Tasks.{closing}
@@ -110,14 +110,14 @@ committed-logs c w number sized below =
 
 -- The task of a commit, settled.
 pub commit-settled : (c : Core) (w v : World) (number : ℕ) {h : Home} {budget rest : ℕ} {whole : Bool} {reply : Reply}
-    → servingSound c ≡ true → isOpen (c .table) number ≡ true → SizedLogs (c .logs) → h ≡ homeOf c (diskOf c number)
+    → servingSound c ≡ true → isOpen (c .table) number ≡ true → SizedLogs (c .logs) → h ≡ homeOf (c .sizes) (c .logs) (diskOf c number)
     → (h .disk < length (c .logs .tails) → h .disk < length (c .logs .fills) → Ran budget rest (closing (c .sizes) (c .logs) w (h .disk) number) w v whole)
     → reply ≡ settled whole budget rest 0 (withLog c (withDisk (c .logs) (h .disk) (h .tail + h .fill + 2) 0) (without (c .table) number))
     → Concludes budget rest (commitTask c w number) w v reply
 unfolding commitTask closing homeOf
 commit-settled c w v number {whole} sound opened sized e ran reply =
     let eight : diskOf c number < 8 = omega (arith, open-below c number sound opened, disks-max c sound) in
-    let there = disk-there c (diskOf c number) e in
+    let there = disk-there (c .sizes) (c .logs) (diskOf c number) e in
     task-settled {whole = whole} (commitTask c w number)
     (rw e at (ran (omega (arith, there, eight, sized .tails)) (omega (arith, there, eight, sized .fills)))) reply
     (λ _. rw e (committed-logs c w number sized eight))

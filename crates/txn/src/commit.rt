@@ -1,11 +1,11 @@
 // Commit: the closing record, and a flush of its disk. The slots are released with the transaction's place in the table.
 use frame::checks::first_refusal;
-use frame::home::Home;
 use frame::home::home_of_transaction;
 use frame::home::with_disk;
 use frame::settle::refuse;
 use frame::settle::settle;
 use frame::stages::is_serving;
+use log::write::Home;
 use log::write::append_close;
 use log::write::flush_disk;
 use model::Core;
@@ -33,37 +33,22 @@ fn store_close(
     work: &mut [u64],
     budget: &mut u64,
 ) -> bool
-    requires { ⌜ Within (home .disk) (home .ring) (home .buffer) (home .tail) (home .fill) (now logs) (now work) ⌝ }
+    requires { ⌜ Within home (now logs) (now work) ⌝ }
     requires { ⌜ home .tail + home .fill + 2 ≤ limit ⌝ }
-    ensures { λ r. ⌜ ((s : Sizes) (l : Logs) (w : World) → Lent s l w (home .disk) (home .ring) (home .buffer) (home .tail) (home .fill) (now (logs .entry)) (now (work .entry))
+    ensures { λ r. ⌜ ((s : Sizes) (l : Logs) (w : World) → Lent s l w home (now (logs .entry)) (now (work .entry))
         → home .disk < length (l .tails) → home .disk < length (l .fills)
         → Ran (now (budget .entry)) (now (budget .exit)) (closing s l w (home .disk) number) w (withSlices w (now (logs .exit)) (now (work .exit))) r) ⌝ }
 {
-    let added = append_close(
-        logs,
-        work,
-        home.disk,
-        home.ring,
-        home.buffer,
-        home.tail,
-        home.fill,
-        2,
-        number,
-        budget,
-    );
+    let added = append_close(logs, work, home, 2, number, budget);
     if !added.finished {
         return false;
     }
-    flush_disk(
-        logs,
-        work,
-        home.disk,
-        home.ring,
-        home.buffer,
-        added.tail,
-        added.fill,
-        budget,
-    )
+    let after = Home {
+        tail: added.tail,
+        fill: added.fill,
+        ..home
+    };
+    flush_disk(logs, work, after, budget)
 }
 
 // The state without the transaction, whose disk was `home`: its log ends after the closing record, and nothing is buffered.

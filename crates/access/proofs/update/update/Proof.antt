@@ -86,7 +86,7 @@ returns-3 c =
     let home = c .before .before .before .before .before .before .before .before .before .before .before .before .before .before .before .before .before .home-of-transaction .ensures .0 in
     task-given (update (x .number) (x .page) (x .slot) (x .value .now) (x .budget .now)) (x .core) w _ _ _ accepted
     (update-concluded (x .core) w _ (x .number) (x .page) (x .slot) (x .value .now) (update-taken (x .core) w (x .number) (x .page) (x .slot) (x .value .now) accepted) home (c .before .before .before .before .before .before .before .before .before .before .before .before .before .before .before .head-of .ensures) (c .before .before .before .before .before .before .before .before .before .before .before .before .before .before .slot-base .ensures .0)
-    (c .before .before .before .before .before .before .before .before .before .log-and-set .ensures (x .core .sizes) (x .core .logs) w (lent-there (x .core) (diskOf (x .core) (x .number)) home w refl refl) refl)
+    (c .before .before .before .before .before .before .before .before .before .log-and-set .ensures (x .core .sizes) (x .core .logs) w (lent-there (x .core .sizes) (x .core .logs) (diskOf (x .core) (x .number)) home w refl refl) refl)
     (rw cut (c .settle .ensures)))
 
 changed-core-requires : tie.Need-changed-core-requires
@@ -105,7 +105,7 @@ returns-4 c =
     let home = c .before .before .before .before .before .before .before .before .before .before .before .before .before .before .before .before .before .before .home-of-transaction .ensures .0 in
     task-given (update (x .number) (x .page) (x .slot) (x .value .now) (x .budget .now)) (x .core) w _ _ _ accepted
     (update-concluded (x .core) w _ (x .number) (x .page) (x .slot) (x .value .now) (update-taken (x .core) w (x .number) (x .page) (x .slot) (x .value .now) accepted) home (c .before .before .before .before .before .before .before .before .before .before .before .before .before .before .before .before .head-of .ensures) (c .before .before .before .before .before .before .before .before .before .before .before .before .before .before .before .slot-base .ensures .0)
-    (c .before .before .before .before .before .before .before .before .before .before .log-and-set .ensures (x .core .sizes) (x .core .logs) w (lent-there (x .core) (diskOf (x .core) (x .number)) home w refl refl) refl)
+    (c .before .before .before .before .before .before .before .before .before .before .log-and-set .ensures (x .core .sizes) (x .core .logs) w (lent-there (x .core .sizes) (x .core .logs) (diskOf (x .core) (x .number)) home w refl refl) refl)
     (rw (whole, ← c .before .changed-core .ensures) (c .settle2 .ensures)))
 
 pub update-spec : {M : Type 1} → statement M

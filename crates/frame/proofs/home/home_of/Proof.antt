@@ -16,11 +16,20 @@ buffer-place-requires c κs = (search needs, search needs, omega arith)
 returns : tie.Need-returns
 unfolding homeOf tailOf fillOf
 returns c =
-    let start = c .before .before .before .before in
+    let start = c .before .before .before .before .before in
     let x = start .args in
-    let logs = start .good .0 .1 .1 .1 .1 .1 .0 in
-    (rw (c .buffer-place .ensures ∙ buffer-from-end (x .core .sizes) (x .work) (x .disk) (start .pre .2) (start .pre .0)) refl, (search (needs, logs), search (needs, logs), search (needs, logs)))
+    let buffer = c .before .before .buffer-place .ensures ∙ buffer-from-end (x .sizes) (x .work) (x .disk) (start .pre .3) (start .pre .0) in
+    (rw (c .before .before .before .before .disk-at .ensures .0, c .before .before .before .ring-of .ensures, buffer) refl, (search needs, search needs, search needs))
 
 pub home-of-spec : {M : Type 1} → statement M
 home-of-spec =
-    tie.close (tie.spec buffer-place-requires (λ c. search needs) (λ c. search needs) (λ c. search needs) (λ c. search needs) returns)
+    tie.close
+    (tie.spec
+    (λ c κs. search needs)
+    (λ c κs. search needs)
+    buffer-place-requires
+    (λ c. search needs)
+    (λ c. search needs)
+    (λ c. search needs)
+    (λ c. search needs)
+    returns)

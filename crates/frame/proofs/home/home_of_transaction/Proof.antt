@@ -30,7 +30,7 @@ home-of-requires c κs =
     let x = start .args in
     let b = bounded (x .core .sizes) (sizes-sound (x .core) (start .pre .0)) in
     let below = open-below (x .core) (x .number) (start .pre .0) (start .pre .1) in
-    (rw (c .before .place-of .ensures) below, b .disks-max, start .pre .2)
+    (rw (c .before .place-of .ensures) below, b .disks-max, b .ring-max, start .pre .2)
 
 returns : tie.Need-returns
 unfolding diskOf diskAtPlace

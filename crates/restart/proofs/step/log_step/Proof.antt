@@ -8,7 +8,8 @@ use borrow.Author.Needs.{needs}
 use Rattle.model.specs.World.{worldOf}
 use Rattle.model.specs.State.{tailOf}
 use Rattle.model.specs.Restart.{positionOf, readDisk, nextRecord, fateFrom}
-use Rattle.restart.proofs.Facts.{eight, tail-low, log-readable, slot-place, slot-fits, difference-ends}
+use Rattle.log.proofs.Ready.{lies-there, disk-there, tail-there, end-there}
+use Rattle.restart.proofs.Facts.{eight, tail-low, extent-asked, log-readable, decoded-there, fate-there, slot-place, slot-fits, difference-ends}
 use Rattle.restart.proofs.Stepping.{step-none, step-malformed, step-close, step-unreadable, step-change}
 use Rattle.restart.proofs.step.log_step.Statement.{statement}
 use Rattle.restart.proofs.step.log_step.Tie as tie
@@ -36,18 +37,25 @@ returns c =
     let start = c .before .before .before .before .before .before .before in
     λ anchor backups work. rw (c .refuse .ensures) (step-none _ _ _ (start .pre .disk-in) (c .before .if1 .taken))
 
+extent-of-requires : tie.Need-extent-of-requires
+extent-of-requires c κs = extent-asked (c .before .before .before .before .before .before .before .pre)
+
 decode-at-requires : tie.Need-decode-at-requires
 unfolding tailOf
-decode-at-requires c κs = (log-readable (c .before .before .before .before .before .before .before .pre), c .before .if1 .left)
+decode-at-requires c κs =
+    let is = c .extent-of .ensures in
+    (log-readable (c .before .before .before .before .before .before .before .before .pre) is, rw (end-there _ _ _ _ is) (c .before .before .if1 .left))
 
 move-on-requires : tie.Need-move-on-requires
-move-on-requires c κs = eight (c .before .before .before .before .before .before .before .before .before .before .before .pre)
+move-on-requires c κs = eight (c .before .before .before .before .before .before .before .before .before .before .before .before .pre)
 
 fate-from-requires : tie.Need-fate-from-requires
 unfolding tailOf
 fate-from-requires c κs =
-    let start = c .before .before .before .before .before .before .before .before .before .before .before in
-    log-readable (start .pre)
+    let at-extent-of = c .before .before .before .before in
+    let start = at-extent-of .before .before .before .before .before .before .before .before in
+    let is = at-extent-of .extent-of .ensures in
+    (log-readable (start .pre) is, disk-there _ _ _ _ is)
 
 returns-2 : tie.Need-returns-2
 unfolding nextRecord readDisk fateFrom positionOf tailOf
@@ -56,28 +64,28 @@ returns-2 c =
     let at-fate-from = at-fate .before .before in
     let at-here2 = at-fate-from .before .before in
     let at-decode-at = at-here2 .before .before in
-    let at-if1 = at-decode-at .before .before in
+    let at-if1 = at-decode-at .before .before .before in
     let start = at-if1 .before .before .before .before .before .before in
     λ anchor backups work.
     rw (c .refuse-at2 .ensures)
-    (step-unreadable _ _ _ (start .pre .disk-in) (at-if1 .if1 .left) (sym (at-decode-at .decode-at .ensures) ∙ at-here2 .here2 .given .1)
-    (sym (at-fate-from .fate-from .ensures) ∙ at-fate .fate .given .1))
+    (step-unreadable _ _ _ (start .pre .disk-in) (at-if1 .if1 .left) (sym (decoded-there (start .pre) (at-decode-at .before .extent-of .ensures) _ (at-decode-at .decode-at .ensures)) ∙ at-here2 .here2 .given .1)
+    (sym (fate-there (start .pre) (at-decode-at .before .extent-of .ensures) _ _ (at-fate-from .fate-from .ensures)) ∙ at-fate .fate .given .1))
 
 slot-base-requires : tie.Need-slot-base-requires
 unfolding nextRecord readDisk positionOf tailOf
 slot-base-requires c κs =
     let at-here2 = c .before .before .before .before in
     let at-decode-at = at-here2 .before .before in
-    let start = at-decode-at .before .before .before .before .before .before .before .before in
-    slot-place (start .pre) (worldOf [] [] [] _ []) (sym (at-decode-at .decode-at .ensures) ∙ at-here2 .here2 .given .1)
+    let start = at-decode-at .before .before .before .before .before .before .before .before .before in
+    slot-place (start .pre) (worldOf [] [] [] _ []) (sym (decoded-there (start .pre) (at-decode-at .before .extent-of .ensures) _ (at-decode-at .decode-at .ensures)) ∙ at-here2 .here2 .given .1)
 
 add-from : tie.Need-add-from
 unfolding nextRecord readDisk positionOf tailOf
 add-from c =
     let at-here2 = c .before .before .before .before .before in
     let at-decode-at = at-here2 .before .before in
-    let start = at-decode-at .before .before .before .before .before .before .before .before in
-    let ends = difference-ends (start .pre) (worldOf [] [] [] _ []) (sym (at-decode-at .decode-at .ensures) ∙ at-here2 .here2 .given .1) in
+    let start = at-decode-at .before .before .before .before .before .before .before .before .before in
+    let ends = difference-ends (start .pre) (worldOf [] [] [] _ []) (sym (decoded-there (start .pre) (at-decode-at .before .extent-of .ensures) _ (at-decode-at .decode-at .ensures)) ∙ at-here2 .here2 .given .1) in
     omega (arith, ends, tail-low (start .pre))
 
 replay-span-requires : tie.Need-replay-span-requires
@@ -85,36 +93,37 @@ unfolding nextRecord readDisk positionOf tailOf
 replay-span-requires c κs =
     let at-here2 = c .before .before .before .before .before .before in
     let at-decode-at = at-here2 .before .before in
-    let start = at-decode-at .before .before .before .before .before .before .before .before in
-    let e = sym (at-decode-at .decode-at .ensures) ∙ at-here2 .here2 .given .1 in (
-      log-readable (start .pre),
+    let start = at-decode-at .before .before .before .before .before .before .before .before .before in
+    let is = at-decode-at .before .extent-of .ensures in
+    let e = sym (decoded-there (start .pre) is _ (at-decode-at .decode-at .ensures)) ∙ at-here2 .here2 .given .1 in (
+      log-readable (start .pre) is,
       slot-fits (start .pre) (worldOf [] [] [] _ []) e (c .before .slot-base .ensures .0),
-      difference-ends (start .pre) (worldOf [] [] [] _ []) e,
+      rw (tail-there _ _ _ _ is) (difference-ends (start .pre) (worldOf [] [] [] _ []) e),
     )
 
 move-on-requires-2 : tie.Need-move-on-requires-2
-move-on-requires-2 c κs = eight (c .before .before .before .before .before .before .before .before .before .before .before .before .before .before .before .before .before .before .before .pre)
+move-on-requires-2 c κs = eight (c .before .before .before .before .before .before .before .before .before .before .before .before .before .before .before .before .before .before .before .before .pre)
 
 returns-3 : tie.Need-returns-3
 unfolding nextRecord readDisk positionOf tailOf
 returns-3 c =
     let at-decode-at = c .before .before .before in
-    let at-if1 = at-decode-at .before .before in
+    let at-if1 = at-decode-at .before .before .before in
     let start = at-if1 .before .before .before .before .before .before in
     λ anchor backups work.
     rw (c .refuse-at .ensures)
-    (step-malformed _ _ _ (start .pre .disk-in) (at-if1 .if1 .left) (sym (at-decode-at .decode-at .ensures) ∙ c .before .enum-told .given .1))
+    (step-malformed _ _ _ (start .pre .disk-in) (at-if1 .if1 .left) (sym (decoded-there (start .pre) (at-decode-at .before .extent-of .ensures) _ (at-decode-at .decode-at .ensures)) ∙ c .before .enum-told .given .1))
 
 returns-4 : tie.Need-returns-4
 unfolding nextRecord readDisk positionOf tailOf
 returns-4 c =
     let at-here = c .before .before in
     let at-decode-at = at-here .before .before in
-    let at-if1 = at-decode-at .before .before in
+    let at-if1 = at-decode-at .before .before .before in
     let start = at-if1 .before .before .before .before .before .before in
     λ anchor backups work.
     rw (c .move-on .ensures)
-    (step-close _ _ _ (start .pre .disk-in) (at-if1 .if1 .left) (sym (at-decode-at .decode-at .ensures) ∙ at-here .here .given .1))
+    (step-close _ _ _ (start .pre .disk-in) (at-if1 .if1 .left) (sym (decoded-there (start .pre) (at-decode-at .before .extent-of .ensures) _ (at-decode-at .decode-at .ensures)) ∙ at-here .here .given .1))
 
 returns-5 : tie.Need-returns-5
 unfolding nextRecord readDisk fateFrom positionOf tailOf
@@ -124,13 +133,14 @@ returns-5 c =
     let at-match2 = at-slot-base .before .before in
     let at-here2 = at-match2 .before .before .before in
     let at-decode-at = at-here2 .before .before in
-    let at-if1 = at-decode-at .before .before in
+    let at-if1 = at-decode-at .before .before .before in
     let start = at-if1 .before .before .before .before .before .before in
+    let is = at-decode-at .before .extent-of .ensures in
     λ anchor backups work.
     rw (c .move-on2 .ensures)
-    (step-change _ _ _ (start .pre .disk-in) (at-if1 .if1 .left) (sym (at-decode-at .decode-at .ensures) ∙ at-here2 .here2 .given .1)
-    (sym (at-match2 .before .fate-from .ensures)) (λ p x. not-told (rw x at (at-match2 .match2 .keys2)) refl) (at-slot-base .before .is-replayed .ensures)
-    (rw (at-slot-base .slot-base .ensures .0) at (at-replay-span .replay-span .ensures)))
+    (step-change _ _ _ (start .pre .disk-in) (at-if1 .if1 .left) (sym (decoded-there (start .pre) (at-decode-at .before .extent-of .ensures) _ (at-decode-at .decode-at .ensures)) ∙ at-here2 .here2 .given .1)
+    (sym (fate-there (start .pre) is _ _ (at-match2 .before .fate-from .ensures))) (λ p x. not-told (rw x at (at-match2 .match2 .keys2)) refl) (at-slot-base .before .is-replayed .ensures)
+    (rw (at-slot-base .slot-base .ensures .0, tail-there _ _ _ _ is) at (at-replay-span .replay-span .ensures _ _ (lies-there _ _ _ _ is))))
 
 pub log-step-spec : {M : Type 1} → statement M
 log-step-spec =
@@ -145,6 +155,7 @@ log-step-spec =
     (λ c. search needs)
     (λ c. search needs)
     (λ c. search needs)
+    extent-of-requires
     decode-at-requires
     (λ c. search needs)
     (λ c κs. search needs)

@@ -68,7 +68,7 @@ returns-3 c =
     task-given (commit (x .number) (x .budget .now)) (x .core) w _ _ _
     (commit-accepted (x .core) w (x .number) (c .before .before .before .before .before .before .before .before .before .before .before .before .before .before .before .before .before .before .is-serving .ensures) (c .before .before .before .before .before .before .before .before .before .before .before .before .before .before .before .first-refusal .ensures) (omega (arith, c .before .before .before .before .before .before .before .before .before .before .before .before .before .before .if1 .left)) opened)
     (commit-settled (x .core) w _ (x .number) (serves-passed (x .core) w (first-passed whenServing (x .core) w (c .before .before .before .before .before .before .before .before .before .before .before .before .before .before .before .before .before .before .is-serving .ensures) (c .before .before .before .before .before .before .before .before .before .before .before .before .before .before .before .first-refusal .ensures) (omega (arith, c .before .before .before .before .before .before .before .before .before .before .before .before .before .before .if1 .left))) .state) opened sized (home .0)
-    (c .before .before .before .before .before .before .store-close .ensures (x .core .sizes) (x .core .logs) w (lent-there (x .core) _ (home .0) w refl refl)) (rw cut (c .settle .ensures)))
+    (c .before .before .before .before .before .before .store-close .ensures (x .core .sizes) (x .core .logs) w (lent-there (x .core .sizes) (x .core .logs) _ (home .0) w refl refl)) (rw cut (c .settle .ensures)))
 
 closed-core-requires : tie.Need-closed-core-requires
 closed-core-requires c κs =
@@ -78,7 +78,7 @@ closed-core-requires c κs =
     let opened = sym (c .before .before .before .before .before .before .before .before .before .before .before .before .is-open .ensures) ∙ not-false _ (c .before .before .before .before .before .before .before .before .before .before .before .if2 .left) in
     let home = c .before .before .before .before .before .before .before .before .before .home-of-transaction .ensures .0 in
     let below = open-below (x .core) (x .number) (serves .state) opened in (
-      omega (arith, disk-there (x .core) (diskOf (x .core) (x .number)) home, below, disks-max (x .core) (serves .state)),
+      omega (arith, disk-there (x .core .sizes) (x .core .logs) (diskOf (x .core) (x .number)) home, below, disks-max (x .core) (serves .state)),
       omega (arith, within-there (x .core) (diskOf (x .core) (x .number)) home (x .logs .now) (x .work .now) serves below .end-small),
     )
 
@@ -93,7 +93,7 @@ returns-4 c =
     task-given (commit (x .number) (x .budget .now)) (x .core) w _ _ _
     (commit-accepted (x .core) w (x .number) (c .before .before .before .before .before .before .before .before .before .before .before .before .before .before .before .before .before .before .before .is-serving .ensures) (c .before .before .before .before .before .before .before .before .before .before .before .before .before .before .before .before .first-refusal .ensures) (omega (arith, c .before .before .before .before .before .before .before .before .before .before .before .before .before .before .before .if1 .left)) opened)
     (commit-settled (x .core) w _ (x .number) (serves-passed (x .core) w (first-passed whenServing (x .core) w (c .before .before .before .before .before .before .before .before .before .before .before .before .before .before .before .before .before .before .before .is-serving .ensures) (c .before .before .before .before .before .before .before .before .before .before .before .before .before .before .before .before .first-refusal .ensures) (omega (arith, c .before .before .before .before .before .before .before .before .before .before .before .before .before .before .before .if1 .left))) .state) opened sized (home .0)
-    (c .before .before .before .before .before .before .before .store-close .ensures (x .core .sizes) (x .core .logs) w (lent-there (x .core) _ (home .0) w refl refl)) (rw (whole, ← c .before .closed-core .ensures) (c .settle2 .ensures)))
+    (c .before .before .before .before .before .before .before .store-close .ensures (x .core .sizes) (x .core .logs) w (lent-there (x .core .sizes) (x .core .logs) _ (home .0) w refl refl)) (rw (whole, ← c .before .closed-core .ensures) (c .settle2 .ensures)))
 
 pub commit-spec : {M : Type 1} → statement M
 commit-spec =
