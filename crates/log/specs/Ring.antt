@@ -28,3 +28,8 @@ pub record EntriesOf (s : Sizes) (slots widths : List ℕ) : Type 0 where
   pub bounds : sizesInBounds s ≡ true
   pub same-slots : s .slots ≡ slots
   pub same-widths : s .widths ≡ widths
+
+-- and there are such sizes
+pub record Entries (slots widths : List ℕ) : Type 0 where
+  pub sizes : Sizes
+  pub are : EntriesOf sizes slots widths

@@ -3,17 +3,17 @@ use crate::read::decode_close;
 use crate::read::words_of;
 use model::Decoded;
 use model::Fate;
+use model::Fault;
 use model::Sizes;
 ghost use mathlib.Core.Path.{_≡_};
-ghost use mathlib.Core.List.{List};
-ghost use mathlib.Core.Bool.{true};
-ghost use Prim.Native.Nat.{ℕ, _+_, _*_, _%_, _≤_, _<_};
+ghost use Prim.Native.Nat.{ℕ, _+_, _%_, _≤_, _<_};
 ghost use lib.ListN.{length};
-ghost use Rattle.model.specs.Sizes.{diskAt, sizesInBounds};
+ghost use Rattle.model.specs.declared.Fault.the-variants.{NoFault};
+ghost use Rattle.model.specs.Sizes.{diskAt};
 ghost use Rattle.model.specs.Decode.{misplaced, decodeAt};
-ghost use Rattle.model.specs.Scan.{scan, fateIn};
+ghost use Rattle.model.specs.Scan.{scan, fateIn, faultIn};
 ghost use Rattle.log.specs.Reading.{decodedChange};
-ghost use Rattle.log.specs.Ring.{readRing, Ring, InRing, EntriesOf};
+ghost use Rattle.log.specs.Ring.{readRing, Ring, InRing, EntriesOf, Entries};
 
 // Where a disk's tail word lies in the logs; its ring is behind it.
 pub fn disk_at(ring: u64, disk: u64) -> u64
@@ -109,7 +109,8 @@ pub fn decode_ring(
 
 // The search ahead for a transaction's closing record, by index.
 pub fn fate_in_ring(
-    sizes: Sizes,
+    slots: &[u8],
+    widths: &[u8],
     logs: &[u64],
     place: u64,
     ring: u64,
@@ -117,18 +118,16 @@ pub fn fate_in_ring(
     from: u64,
     number: u64,
 ) -> Fate
-    requires { ⌜ (sizesInBounds sizes ≡ true) × Ring (now logs) place ring tail ⌝ }
-    ensures { λ r. ⌜ r ≡ fateIn number (scan sizes (readRing (now (logs .entry)) place ring) tail from) ⌝ }
+    requires { ⌜ Entries (now slots) (now widths) × Ring (now logs) place ring tail ⌝ }
+    ensures { λ r. ⌜ ((s : Sizes) → EntriesOf s (now (slots .entry)) (now (widths .entry)) → r ≡ fateIn number (scan s (readRing (now (logs .entry)) place ring) tail from)) ⌝ }
 {
-    let slots = sizes.slots;
-    let widths = sizes.widths;
     let mut p = from;
     let mut at = from % ring;
     let fate = loop {
         if tail <= p {
             break Fate::Unclosed;
         }
-        let here = decode_ring(&slots, &widths, logs, place, ring, tail, p, at);
+        let here = decode_ring(slots, widths, logs, place, ring, tail, p, at);
         match here {
             Decoded::Change { next, .. } => {
                 at = advance(at, next - p, ring);
@@ -149,4 +148,37 @@ pub fn fate_in_ring(
         }
     };
     fate
+}
+
+// The first malformed record of a disk's log from a position on, by index.
+pub fn fault_in_ring(
+    slots: &[u8],
+    widths: &[u8],
+    logs: &[u64],
+    disk: u64,
+    place: u64,
+    ring: u64,
+    tail: u64,
+    from: u64,
+) -> Fault
+    requires { ⌜ Entries (now slots) (now widths) × Ring (now logs) place ring tail ⌝ }
+    ensures { λ r. ⌜ ((s : Sizes) → EntriesOf s (now (slots .entry)) (now (widths .entry)) → r ≡ faultIn disk (scan s (readRing (now (logs .entry)) place ring) tail from) NoFault) ⌝ }
+{
+    let mut p = from;
+    let mut at = from % ring;
+    while p < tail {
+        let here = decode_ring(slots, widths, logs, place, ring, tail, p, at);
+        match here {
+            Decoded::Change { next, .. } => {
+                at = advance(at, next - p, ring);
+                p = next;
+            }
+            Decoded::Close { next, .. } => {
+                at = advance(at, next - p, ring);
+                p = next;
+            }
+            Decoded::Malformed => return Fault::BadRecord { disk, position: p },
+        }
+    }
+    Fault::NoFault
 }

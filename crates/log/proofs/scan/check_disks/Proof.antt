@@ -1,117 +1,118 @@
--- `log::scan::check_disks` meets its contract. Both loops keep: nothing malformed was met, and what is found from here on is what
--- is found from disk 0 on. The measures are the disks and the words left.
-use Prim.Native.Nat.{_+_, _-_, _≤_, _<_}
+-- `log::scan::check_disks` meets its contract. The loop keeps: what is found from disk d on is what is found from disk 0 on. The measure is
+-- the disks left.
+use Prim.Native.Nat.{_-_, _≤_, _<_}
 use mathlib.Core.Path.{_≡_, refl, sym, _∙_}
-use mathlib.Core.List.{[]}
 use native.Mathlib.Omega.{arith}
 use native.Mathlib.Nat.{sub-zero}
 use lib.ListN.{getD}
 use borrow.Author.Needs.{needs}
 use denote.Ref.{now}
-use Rattle.model.specs.declared.Fault.the-variants.{NoFault}
-use Rattle.model.specs.Sizes.{ringOf, diskAt, tailWord, logWords}
-use Rattle.model.specs.Decode.{readLog}
-use Rattle.model.specs.Scan.{scan, faultIn}
-use Rattle.model.specs.Causes.{tailIn, faultFrom}
-use Rattle.model.proofs.Ring.{disk-within}
-use Rattle.log.proofs.Scanning.{got-change, got-close, fault-end, fault-change, fault-close, fault-bad, faults-step, faults-done}
+use Rattle.model.specs.declared.Sizes.{Sizes}
+use Rattle.model.specs.Sizes.{ringOf}
+use Rattle.model.specs.Causes.{faultFrom}
+use Rattle.model.proofs.Bounds.{bounded}
+use Rattle.log.specs.Ring.{EntriesOf}
+use Rattle.log.proofs.Scanning.{faults-done}
+use Rattle.log.proofs.Rings.{disk-fits, disk-ring, disk-sound, disk-bad}
 use Rattle.log.proofs.scan.check_disks.Statement.{statement}
 use Rattle.log.proofs.scan.check_disks.Tie as tie
 
 abbrev Inv-loop : tie.InvT-loop
-Inv-loop sizes logs starts disks ring none d fault₀ tail p₀ fault p =
-    (fault ≡ NoFault)
-    × (faultIn d (scan sizes (readLog sizes logs d tail []) tail p) (faultFrom sizes (λ e. getD starts e 0) logs (disks - (d + 1)) (d + 1))
-    ≡ faultFrom sizes (λ e. getD starts e 0) logs disks 0)
+Inv-loop logs starts disks ring slots widths d₀ d =
+    (d ≤ disks)
+    × ((s : Sizes) → s .ring ≡ ring → EntriesOf s slots widths
+    → faultFrom s (λ e. getD starts e 0) logs (disks - d) d ≡ faultFrom s (λ e. getD starts e 0) logs disks 0)
 
 abbrev μ-loop : tie.MeasureT-loop
-μ-loop sizes logs starts disks ring none d fault₀ tail p₀ fault p = tail - p
+μ-loop logs starts disks ring slots widths d₀ d = disks - d
 
-abbrev Inv-disks : tie.InvT-disks
-Inv-disks sizes logs starts disks ring none d₀ fault₀ d fault =
-    (d ≤ disks) × (fault ≡ NoFault)
-    × (faultFrom sizes (λ e. getD starts e 0) logs (disks - d) d ≡ faultFrom sizes (λ e. getD starts e 0) logs disks 0)
+loop-holds : tie.Need-loop-holds Inv-loop μ-loop
+loop-holds c = (omega arith, λ s e f. simp sub-zero)
 
-abbrev μ-disks : tie.MeasureT-disks
-μ-disks sizes logs starts disks ring none d₀ fault₀ d fault = disks - d
+disk-at-requires : tie.Need-disk-at-requires Inv-loop μ-loop
+disk-at-requires c κs =
+    let b = bounded _ (c .before .before .before .before .before .pre .bounds) in
+    (omega (arith, b .disks-max, c .loop-test .taken), b .ring-max)
 
-disks-holds : tie.Need-disks-holds Inv-loop μ-loop Inv-disks μ-disks
-disks-holds c = (omega arith, refl, simp sub-zero)
+mul-tail : tie.Need-mul-tail Inv-loop μ-loop
+mul-tail c =
+    let start = c .before .before .before .before .before .before in
+    let s = start .args .sizes in
+    let d = c .before .before .loop .d in
+    let h : d < s .disks = c .before .loop-test .taken in
+    omega (arith, disk-fits s _ (start .pre) d h (c .disk-at .ensures s refl))
 
-tail-of-requires : tie.Need-tail-of-requires Inv-loop μ-loop Inv-disks μ-disks
-unfolding diskAt ringOf logWords
-tail-of-requires c κs =
-    let s = c .before .before .before .before .args .sizes in
-    omega (arith, disk-within s (c .before .disks .d) (c .disks-test .taken))
+shared-slice-read-tail : tie.Need-shared-slice-read-tail Inv-loop μ-loop
+shared-slice-read-tail c =
+    let start = c .before .before .before .before .before .before .before in
+    let s = start .args .sizes in
+    let d = c .before .before .before .loop .d in
+    let h : d < s .disks = c .before .before .loop-test .taken in
+    omega (arith, disk-fits s _ (start .pre) d h (c .before .disk-at .ensures s refl))
 
-mul-p : tie.Need-mul-p Inv-loop μ-loop Inv-disks μ-disks
-mul-p c = omega arith
+mul-start : tie.Need-mul-start Inv-loop μ-loop
+mul-start c =
+    let start = c .before .before .before .before .before .before .before in
+    let s = start .args .sizes in
+    let d = c .before .before .before .loop .d in
+    let h : d < s .disks = c .before .before .loop-test .taken in
+    omega (arith, bounded s (start .pre .bounds) .disks-max, h)
 
-array-read-p : tie.Need-array-read-p Inv-loop μ-loop Inv-disks μ-disks
-array-read-p c = omega arith
+array-read-start : tie.Need-array-read-start Inv-loop μ-loop
+array-read-start c =
+    let start = c .before .before .before .before .before .before .before in
+    let s = start .args .sizes in
+    let d = c .before .before .before .loop .d in
+    let h : d < s .disks = c .before .before .loop-test .taken in
+    omega (arith, bounded s (start .pre .bounds) .disks-max, h)
 
-loop-holds : tie.Need-loop-holds Inv-loop μ-loop Inv-disks μ-disks
-loop-holds c =
-    let a = c .before .before .before .before .before .args in
-    let inv = c .before .before .disks .inv in
-    let step = faults-step (a .sizes) (λ e. getD (a .t3) e 0) (now (a .logs)) (a .sizes .disks) (c .before .before .disks .d) (c .before .disks-test .taken) in
-    (inv .1, rw (c .tail-of .ensures (a .sizes) refl) (sym step ∙ inv .2))
-
-decode-at-requires : tie.Need-decode-at-requires Inv-loop μ-loop Inv-disks μ-disks
-unfolding tailIn tailWord diskAt ringOf logWords
-decode-at-requires c κs =
-    let s = c .before .before .before .before .before .before .before .args .sizes in
-    let d = c .before .before .before .before .disks .d in
-    let h : d < s .disks = c .before .before .before .disks-test .taken in
-    let tail = c .before .before .tail-of .ensures s refl in (
-      record {
-        ring-pos = c .before .before .before .before .before .before .before .pre .ring-pos;
-        disk-fits = omega (arith, disk-within s d h);
-        stop-le = omega arith;
-        stop-low = omega (arith, c .before .before .before .before .before .before .before .pre .tails-low d h);
-      },
-      c .loop-test .taken,
+fault-in-ring-requires : tie.Need-fault-in-ring-requires Inv-loop μ-loop
+fault-in-ring-requires c κs =
+    let start = c .before .before .before .before .before .before .before .before .before in
+    let s = start .args .sizes in
+    let d = c .before .before .before .before .before .loop .d in
+    let h : d < s .disks = c .before .before .before .before .loop-test .taken in (
+      record { sizes = s; are = record { bounds = start .pre .bounds; same-slots = refl; same-widths = refl } },
+      disk-ring s _ (start .pre) d h (c .before .before .before .disk-at .ensures s refl) refl,
     )
 
-loop-less : tie.Need-loop-less Inv-loop μ-loop Inv-disks μ-disks
-loop-less c = let f = got-change _ _ _ (c .before .before .before .decode-at .ensures) (c .before .here .given .1) in omega arith
-
-loop-again : tie.Need-loop-again Inv-loop μ-loop Inv-disks μ-disks
-loop-again c =
-    let read = c .before .before .before in
-    let inv = read .before .before .loop .inv in
-    (inv .0, fault-change _ _ _ (read .decode-at .ensures) (read .before .loop-test .taken) _ _ (c .before .here .given .1) ∙ inv .1)
-
-loop-less-2 : tie.Need-loop-less-2 Inv-loop μ-loop Inv-disks μ-disks
-loop-less-2 c = let f = got-close _ _ _ (c .before .before .before .decode-at .ensures) (c .before .here2 .given .1) in omega arith
-
-loop-again-2 : tie.Need-loop-again-2 Inv-loop μ-loop Inv-disks μ-disks
-loop-again-2 c =
-    let read = c .before .before .before in
-    let inv = read .before .before .loop .inv in
-    (inv .0, fault-close _ _ _ (read .decode-at .ensures) (read .before .loop-test .taken) _ _ (c .before .here2 .given .1) ∙ inv .1)
-
-add-d : tie.Need-add-d Inv-loop μ-loop Inv-disks μ-disks
-add-d c = omega arith
-
-disks-less : tie.Need-disks-less Inv-loop μ-loop Inv-disks μ-disks
-disks-less c = omega arith
-
-disks-again : tie.Need-disks-again Inv-loop μ-loop Inv-disks μ-disks
-disks-again c =
-    let inv = c .before .loop .inv in
-    (omega arith, inv .0, sym (fault-end _ _ _ _ _ _ (c .loop-test .left)) ∙ inv .1)
-
-returns : tie.Need-returns Inv-loop μ-loop Inv-disks μ-disks
+returns : tie.Need-returns Inv-loop μ-loop
+unfolding ringOf
 returns c =
-    let a = c .before .before .before .before .args in
-    let inv = c .before .disks .inv in
-    inv .1 ∙ sym (faults-done (a .sizes) (λ e. getD (a .t3) e 0) (now (a .logs)) (a .sizes .disks) _ (c .disks-test .left)) ∙ inv .2
+    let start = c .before .before .before .before .before .before .before .before .before .before .before .before in
+    let s = start .args .sizes in
+    let d = c .before .before .before .before .before .before .before .before .loop .d in
+    let h : d < s .disks = c .before .before .before .before .before .before .before .loop-test .taken in
+    let e : EntriesOf s _ _ = record { bounds = start .pre .bounds; same-slots = refl; same-widths = refl } in
+    disk-bad s (λ e. getD (start .args .t3) e 0) _ (s .disks) d h (c .before .before .before .before .before .before .disk-at .ensures s refl) refl refl
+    (c .before .before .fault-in-ring .ensures s e) (c .enum-told .given .1)
+    ∙ c .before .before .before .before .before .before .before .before .loop .inv .1 s refl e
 
-returns-2 : tie.Need-returns-2 Inv-loop μ-loop Inv-disks μ-disks
+add-d : tie.Need-add-d Inv-loop μ-loop
+add-d c = omega (arith, bounded _ (c .before .before .before .before .before .before .before .before .before .before .before .before .pre .bounds) .disks-max, c .before .before .before .before .before .before .before .loop-test .taken)
+
+loop-less : tie.Need-loop-less Inv-loop μ-loop
+loop-less c = omega (arith, c .before .before .before .before .before .before .before .loop-test .taken)
+
+loop-again : tie.Need-loop-again Inv-loop μ-loop
+unfolding ringOf
+loop-again c =
+    let start = c .before .before .before .before .before .before .before .before .before .before .before .before in
+    let d = c .before .before .before .before .before .before .before .before .loop .d in
+    let h = c .before .before .before .before .before .before .before .loop-test .taken in (
+      omega (arith, h),
+      λ s r e.
+          sym (disk-sound s (λ e. getD (start .args .t3) e 0) (now (start .args .logs)) (start .args .sizes .disks) d h (c .before .before .before .before .before .before .disk-at .ensures s r) (sym r) refl
+          (c .before .before .fault-in-ring .ensures s e) (c .enum-told2 .given .1))
+          ∙ c .before .before .before .before .before .before .before .before .loop .inv .1 s r e,
+    )
+
+returns-2 : tie.Need-returns-2 Inv-loop μ-loop
 returns-2 c =
-    fault-bad _ _ _ (c .before .before .decode-at .ensures) (c .before .before .before .loop-test .taken) _ _ (c .enum-told .given .1)
-    ∙ c .before .before .before .before .loop .inv .1
+    let start = c .before .before .before .before .before in
+    let s = start .args .sizes in
+    sym (faults-done s (λ e. getD (start .args .t3) e 0) (now (start .args .logs)) (s .disks) _ (c .loop-test .left))
+    ∙ c .before .loop .inv .1 s refl (record { bounds = start .pre .bounds; same-slots = refl; same-widths = refl })
 
 pub check-disks-spec : {M : Type 1} → statement M
 check-disks-spec =
@@ -119,26 +120,19 @@ check-disks-spec =
     (tie.spec
     Inv-loop
     μ-loop
-    Inv-disks
-    μ-disks
-    (λ c. search needs)
-    (λ c. search needs)
-    (λ c. search needs)
-    disks-holds
-    tail-of-requires
-    mul-p
-    array-read-p
     loop-holds
-    decode-at-requires
+    disk-at-requires
+    mul-tail
+    shared-slice-read-tail
+    mul-start
+    array-read-start
     (λ c. search needs)
     (λ c. search needs)
+    fault-in-ring-requires
     (λ c. search needs)
+    returns
+    (λ c. search needs)
+    add-d
     loop-less
     loop-again
-    loop-less-2
-    loop-again-2
-    add-d
-    disks-less
-    disks-again
-    returns
     returns-2)
