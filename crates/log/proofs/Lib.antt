@@ -1,6 +1,7 @@
 -- Reading: laws of the definitions in the form in which the code meets them.
 pub mod Decoding
 pub mod Scanning
+pub mod Rings
 pub mod NewestBelow
 pub mod Kept
 pub mod Ready

@@ -9,7 +9,7 @@ use Rattle.model.specs.Sizes.{ringOf, diskAt, tailWord, logWords}
 use Rattle.model.specs.Decode.{readLog}
 use Rattle.model.specs.State.{limit}
 use Rattle.model.specs.Causes.{tailIn}
-use Rattle.model.proofs.Bounds.{Bounded}
+use Rattle.model.proofs.Bounds.{Bounded, in-bounds}
 use Rattle.model.proofs.Ring.{disk-within}
 use Rattle.log.specs.declared.read.Extent.{Extent}
 use Rattle.log.specs.Reading.{LiesAt, extentOf, OfDisk, Readable, Checkable}
@@ -50,11 +50,10 @@ module _ (s : Sizes) (b : Bounded s) where
       }
 
   pub checkable : (logs : List ℕ) → length logs ≡ logWords s → ((d : ℕ) → d < s .disks → tailIn s logs d ≤ limit) → Checkable s logs
-  unfolding logWords diskAt tailWord tailIn
+  unfolding tailWord tailIn
   checkable logs right tails =
       record {
-        disks-le = b .disks-max;
-        ring-pos = omega (arith, b .ring-min);
+        bounds = in-bounds s b;
         logs-length = omega arith;
         tails-low = λ d below. omega (arith, tails d below);
       }

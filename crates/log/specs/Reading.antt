@@ -1,14 +1,14 @@
 -- What the readers of a log need, and what they give beyond model's definitions.
-use Prim.Native.Nat.{ℕ, _+_, _*_, _/_, _^_, _≤_, _<_}
 use mathlib.Core.Path.{_≡_}
+use Prim.Native.Nat.{ℕ, _+_, _/_, _^_, _≤_, _<_}
 use mathlib.Core.List.{List, [], _∷_}
-use mathlib.Core.Bool.{Bool, false, cond, _&&_}
+use mathlib.Core.Bool.{Bool, true, false, cond, _&&_}
 use lib.ListN.{length, getD}
 use lib.Dec.{ltb, eqb}
 use Rattle.model.specs.declared.Sizes.{Sizes}
 use Rattle.model.specs.declared.Decoded.{Decoded}
 use Rattle.model.specs.declared.Decoded.the-variants.{Change, Close, Malformed}
-use Rattle.model.specs.Sizes.{ringOf, diskAt}
+use Rattle.model.specs.Sizes.{ringOf, diskAt, logWords, sizesInBounds}
 use Rattle.model.specs.Record.{change, close, updateKind}
 use Rattle.model.specs.Decode.{kindField, pageField, slotField, widthField, misplaced}
 use Rattle.model.specs.Scan.{Scan, end, bad, item, Update}
@@ -48,10 +48,9 @@ pub record Readable (e : Extent) (logs buffer : List ℕ) : Type 0 where
 
 -- What the checks before No. 7 leave of the sizes, the logs' length and the tails.
 pub record Checkable (s : Sizes) (logs : List ℕ) : Type 0 where
-  pub disks-le : s .disks ≤ 8
-  pub ring-pos : 1 ≤ s .ring
-  pub logs-length : s .disks * (s .ring + 1) ≤ length logs
-  pub tails-low : (d : ℕ) → d < s .disks → getD logs (d * (s .ring + 1)) 0 ≤ 2 ^ 63
+  pub bounds : sizesInBounds s ≡ true
+  pub logs-length : logWords s ≤ length logs
+  pub tails-low : (d : ℕ) → d < s .disks → getD logs (diskAt s d) 0 ≤ 2 ^ 63
 
 -- is it an update record of the transaction
 abbrev pub isUpdateOf : ℕ → Decoded → Bool

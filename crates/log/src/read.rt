@@ -93,7 +93,7 @@ fn decode_change(sizes: Sizes, w: u64, number: u64, copy: u64, next: u64) -> Dec
 }
 
 // A closing record by its two words, if its other fields are not set.
-fn decode_close(w: u64, number: u64, next: u64) -> Decoded
+pub fn decode_close(w: u64, number: u64, next: u64) -> Decoded
     ensures { λ r. ⌜ r ≡ decodedClose w number next ⌝ }
 {
     if w / 8 != 0 {

@@ -1,16 +1,19 @@
 // Reading a log on: the search ahead for a transaction's close, and the check of all disks.
 use crate::read::Extent;
 use crate::read::decode_at;
+use crate::ring::decode_ring;
+use layout::disks::disk_at;
+use layout::disks::ring_of;
 use model::Decoded;
 use model::Fate;
 use model::Fault;
 use model::Sizes;
 ghost use mathlib.Core.Path.{_≡_};
-ghost use Prim.Native.Nat.{ℕ, _+_, _*_, _≤_};
-ghost use lib.ListN.{length, getD};
+ghost use Prim.Native.Nat.{ℕ};
+ghost use lib.ListN.{getD};
 ghost use Rattle.model.specs.Decode.{readLog};
 ghost use Rattle.model.specs.Scan.{scan, fateIn};
-ghost use Rattle.model.specs.Causes.{tailIn, faultFrom};
+ghost use Rattle.model.specs.Causes.{faultFrom};
 ghost use Rattle.log.specs.Reading.{LiesAt, OfDisk, Readable, Checkable};
 
 // The search ahead for a transaction's closing record.
@@ -51,36 +54,24 @@ pub fn fate_from(
     fate
 }
 
-// A disk's tail.
-fn tail_of(logs: &[u64], disk: u64, ring: u64) -> u64
-    requires { ⌜ disk * (ring + 1) + (ring + 1) ≤ length (now logs) ⌝ }
-    ensures { λ r. ⌜ ((s : Sizes) → s .ring ≡ ring → r ≡ tailIn s (now (logs .entry)) disk) ⌝ }
-{
-    let at = (disk * (ring + 1)) as usize;
-    logs[at]
-}
-
 // The check of every disk's log, read from its start: the first malformed record of the lowest disk that has one.
 pub fn check_disks(sizes: Sizes, logs: &[u64], starts: [u64; 8]) -> Fault
     requires { ⌜ Checkable sizes (now logs) ⌝ }
     ensures { λ r. ⌜ r ≡ faultFrom sizes (λ d. getD starts d 0) (now (logs .entry)) (sizes .disks) 0 ⌝ }
 {
     let disks = sizes.disks;
-    let ring = sizes.ring;
-    let none = &logs[0..0];
+    let slots = sizes.slots;
+    let widths = sizes.widths;
     let mut d: u64 = 0;
     let mut fault = Fault::NoFault;
     'disks: while d < disks {
-        let tail = tail_of(logs, d, ring);
-        let extent = Extent {
-            place: d * (ring + 1),
-            ring,
-            tail,
-            end: tail,
-        };
+        let place = disk_at(sizes, d);
+        let ring = ring_of(sizes, d);
+        let tail = logs[place as usize];
         let mut p = starts[d as usize];
         while p < tail {
-            let here = decode_at(sizes, logs, extent, none, p);
+            let at = p % ring;
+            let here = decode_ring(&slots, &widths, logs, place, ring, tail, p, at);
             let (Decoded::Change { next, .. } | Decoded::Close { next, .. }) = here else {
                 fault = Fault::BadRecord {
                     disk: d,

@@ -2,4 +2,5 @@
 pub mod Rows
 pub mod Tails
 pub mod Taking
+pub mod Runs
 pub mod Saving

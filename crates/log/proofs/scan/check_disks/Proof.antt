@@ -1,8 +1,8 @@
 -- `log::scan::check_disks` meets its contract. Both loops keep: nothing malformed was met, and what is found from here on is what
 -- is found from disk 0 on. The measures are the disks and the words left.
-use Prim.Native.Nat.{ℕ, _+_, _-_, _*_, _≤_, _<_}
+use Prim.Native.Nat.{ℕ, _+_, _-_, _≤_, _<_}
 use mathlib.Core.Path.{_≡_, refl, sym, _∙_}
-use mathlib.Core.List.{[]}
+use mathlib.Core.Bool.{true}
 use native.Mathlib.Omega.{arith}
 use native.Mathlib.Nat.{sub-zero}
 use lib.ListN.{getD}
@@ -10,126 +10,128 @@ use borrow.Author.Needs.{needs}
 use denote.Ref.{now}
 use Rattle.model.specs.declared.Sizes.{Sizes}
 use Rattle.model.specs.declared.Fault.the-variants.{NoFault}
-use Rattle.model.specs.Sizes.{ringOf, diskAt, tailWord, logWords}
-use Rattle.model.specs.Decode.{readLog}
+use Rattle.model.specs.Sizes.{ringOf, sizesInBounds}
 use Rattle.model.specs.Scan.{scan, faultIn}
-use Rattle.model.specs.Causes.{tailIn, faultFrom}
-use Rattle.model.proofs.Ring.{disk-within}
-use Rattle.log.specs.Reading.{LiesAt}
-use Rattle.log.proofs.Scanning.{got-change, got-close, fault-end, fault-change, fault-close, fault-bad, faults-step, faults-done}
+use Rattle.model.specs.Causes.{faultFrom}
+use Rattle.model.proofs.Bounds.{bounded}
+use Rattle.log.specs.Ring.{readRing, EntriesOf}
+use Rattle.log.proofs.Rings.{disk-fits, disk-ring, disk-begins}
+use Rattle.log.proofs.Scanning.{got-change, got-close, fault-end, fault-change, fault-close, fault-bad, faults-done}
 use Rattle.log.proofs.scan.check_disks.Statement.{statement}
 use Rattle.log.proofs.scan.check_disks.Tie as tie
 
-lies : (s : Sizes) (d : ℕ) → LiesAt s d (d * (s .ring + 1)) (s .ring)
-unfolding diskAt ringOf
-lies s d = record { same-place = refl; same-ring = refl }
-
 abbrev Inv-loop : tie.InvT-loop
-Inv-loop sizes logs starts disks ring none d fault₀ tail extent p₀ fault p =
+Inv-loop sizes logs starts disks slots widths d fault₀ place ring tail p₀ fault p =
     (fault ≡ NoFault)
-    × (faultIn d (scan sizes (readLog sizes logs d tail []) tail p) (faultFrom sizes (λ e. getD starts e 0) logs (disks - (d + 1)) (d + 1))
+    × (faultIn d (scan sizes (readRing logs place ring) tail p) (faultFrom sizes (λ e. getD starts e 0) logs (disks - (d + 1)) (d + 1))
     ≡ faultFrom sizes (λ e. getD starts e 0) logs disks 0)
 
 abbrev μ-loop : tie.MeasureT-loop
-μ-loop sizes logs starts disks ring none d fault₀ tail extent p₀ fault p = tail - p
+μ-loop sizes logs starts disks slots widths d fault₀ place ring tail p₀ fault p = tail - p
 
 abbrev Inv-disks : tie.InvT-disks
-Inv-disks sizes logs starts disks ring none d₀ fault₀ d fault =
+Inv-disks sizes logs starts disks slots widths d₀ fault₀ d fault =
     (d ≤ disks) × (fault ≡ NoFault)
     × (faultFrom sizes (λ e. getD starts e 0) logs (disks - d) d ≡ faultFrom sizes (λ e. getD starts e 0) logs disks 0)
 
 abbrev μ-disks : tie.MeasureT-disks
-μ-disks sizes logs starts disks ring none d₀ fault₀ d fault = disks - d
+μ-disks sizes logs starts disks slots widths d₀ fault₀ d fault = disks - d
+
+-- the sizes' own arrays
+own : (s : Sizes) → sizesInBounds s ≡ true → EntriesOf s (s .slots) (s .widths)
+own s ok = record { bounds = ok; same-slots = refl; same-widths = refl }
 
 disks-holds : tie.Need-disks-holds Inv-loop μ-loop Inv-disks μ-disks
 disks-holds c = (omega arith, refl, simp sub-zero)
 
-tail-of-requires : tie.Need-tail-of-requires Inv-loop μ-loop Inv-disks μ-disks
-unfolding diskAt ringOf logWords
-tail-of-requires c κs =
-    let s = c .before .before .before .before .args .sizes in
-    omega (arith, disk-within s (c .before .disks .d) (c .disks-test .taken))
+disk-at-requires : tie.Need-disk-at-requires Inv-loop μ-loop Inv-disks μ-disks
+disk-at-requires c κs =
+    let b = bounded _ (c .before .before .before .before .before .pre .bounds) in
+    (omega (arith, b .disks-max, c .disks-test .taken), b .ring-max)
 
-add-t19 : tie.Need-add-t19 Inv-loop μ-loop Inv-disks μ-disks
-unfolding diskAt ringOf logWords
-add-t19 c =
-    let s = c .before .before .before .before .before .args .sizes in
-    omega (arith, disk-within s (c .before .before .disks .d) (c .before .disks-test .taken))
+mul-tail : tie.Need-mul-tail Inv-loop μ-loop Inv-disks μ-disks
+mul-tail c = omega (arith, c .before .disk-at .ensures .1)
 
-mul-t20 : tie.Need-mul-t20 Inv-loop μ-loop Inv-disks μ-disks
-unfolding diskAt ringOf logWords
-mul-t20 c =
-    let s = c .before .before .before .before .before .args .sizes in
-    omega (arith, disk-within s (c .before .before .disks .d) (c .before .disks-test .taken))
+shared-slice-read-tail : tie.Need-shared-slice-read-tail Inv-loop μ-loop Inv-disks μ-disks
+shared-slice-read-tail c =
+    let s = c .before .before .before .before .before .before .before .before .args .sizes in
+    omega (arith, disk-fits s _ (c .before .before .before .before .before .before .before .before .pre) (c .before .before .before .before .disks .d) (c .before .before .before .disks-test .taken) (c .before .before .disk-at .ensures .0))
 
 mul-p : tie.Need-mul-p Inv-loop μ-loop Inv-disks μ-disks
-mul-p c = omega arith
+mul-p c = omega (arith, bounded _ (c .before .before .before .before .before .before .before .before .pre .bounds) .disks-max, c .before .before .before .disks-test .taken)
 
 array-read-p : tie.Need-array-read-p Inv-loop μ-loop Inv-disks μ-disks
-array-read-p c = omega arith
+array-read-p c = omega (arith, bounded _ (c .before .before .before .before .before .before .before .before .pre .bounds) .disks-max, c .before .before .before .disks-test .taken)
 
 loop-holds : tie.Need-loop-holds Inv-loop μ-loop Inv-disks μ-disks
 loop-holds c =
-    let a = c .before .before .before .before .before .args in
-    let inv = c .before .before .disks .inv in
-    let step = faults-step (a .sizes) (λ e. getD (a .t3) e 0) (now (a .logs)) (a .sizes .disks) (c .before .before .disks .d) (c .before .disks-test .taken) in
-    (inv .1, rw (c .tail-of .ensures (a .sizes) refl) (sym step ∙ inv .2))
-
-decode-at-requires : tie.Need-decode-at-requires Inv-loop μ-loop Inv-disks μ-disks
-unfolding tailIn tailWord diskAt ringOf logWords
-decode-at-requires c κs =
-    let s = c .before .before .before .before .before .before .before .args .sizes in
-    let d = c .before .before .before .before .disks .d in
-    let h : d < s .disks = c .before .before .before .disks-test .taken in
-    let tail = c .before .before .tail-of .ensures s refl in (
-      record {
-        ring-pos = c .before .before .before .before .before .before .before .pre .ring-pos;
-        ring-fits = omega (arith, disk-within s d h);
-        end-le = omega arith;
-        end-low = omega (arith, c .before .before .before .before .before .before .before .pre .tails-low d h);
-      },
-      c .loop-test .taken,
+    let a = c .before .before .before .before .before .before .before .before .args in
+    let inv = c .before .before .before .before .disks .inv in (
+      inv .1,
+      disk-begins (a .sizes) (λ e. getD (a .t3) e 0) (now (a .logs)) (a .sizes .disks) (c .before .before .before .before .disks .d) (c .before .before .before .disks-test .taken) (c .before .before .disk-at .ensures .0)
+          (c .before .ring-of .ensures) refl
+          ∙ inv .2,
     )
 
+rem-at : tie.Need-rem-at Inv-loop μ-loop Inv-disks μ-disks
+unfolding ringOf
+rem-at c = omega (arith, bounded _ (c .before .before .before .before .before .before .before .before .before .before .pre .bounds) .ring-min, c .before .before .before .ring-of .ensures)
+
+slice-aggregate-decode-ring : tie.Need-slice-aggregate-decode-ring Inv-loop μ-loop Inv-disks μ-disks
+slice-aggregate-decode-ring c = search needs
+
+slice-aggregate-decode-ring-2 : tie.Need-slice-aggregate-decode-ring-2 Inv-loop μ-loop Inv-disks μ-disks
+slice-aggregate-decode-ring-2 c = search needs
+
+decode-ring-requires : tie.Need-decode-ring-requires Inv-loop μ-loop Inv-disks μ-disks
+unfolding ringOf
+decode-ring-requires c κs =
+    let s = c .before .before .before .before .before .before .before .before .before .before .before .before .args .sizes in
+    let b = bounded s (c .before .before .before .before .before .before .before .before .before .before .before .before .pre .bounds) in
+    let ring = disk-ring s _ (c .before .before .before .before .before .before .before .before .before .before .before .before .pre) (c .before .before .before .before .before .before .before .before .disks .d) (c .before .before .before .before .before .before .before .disks-test .taken) (c .before .before .before .before .before .before .disk-at .ensures .0) refl in
+    (b .slots-length, b .widths-length, rw (c .before .before .before .before .before .ring-of .ensures) ring, record { before-tail = c .before .before .loop-test .taken; at-is = refl })
+
 loop-less : tie.Need-loop-less Inv-loop μ-loop Inv-disks μ-disks
-loop-less c = let f = got-change _ _ _ (c .before .before .before .decode-at .ensures _ (lies _ _)) (c .before .here .given .1) in omega arith
+loop-less c =
+    let f = got-change _ _ _ (c .before .before .before .decode-ring .ensures _ (own _ (c .before .before .before .before .before .before .before .before .before .before .before .before .before .before .before .before .pre .bounds))) (c .before .here .given .1) in
+    omega (arith, f .next-eq, f .next-le)
 
 loop-again : tie.Need-loop-again Inv-loop μ-loop Inv-disks μ-disks
 loop-again c =
-    let read = c .before .before .before in
-    let inv = read .before .before .loop .inv in
-    (inv .0, fault-change _ _ _ (read .decode-at .ensures _ (lies _ _)) (read .before .loop-test .taken) _ _ (c .before .here .given .1) ∙ inv .1)
+    let inv = c .before .before .before .before .before .before .before .loop .inv in
+    (inv .0, fault-change _ _ _ (c .before .before .before .decode-ring .ensures _ (own _ (c .before .before .before .before .before .before .before .before .before .before .before .before .before .before .before .before .pre .bounds))) (c .before .before .before .before .before .before .loop-test .taken) _ _ (c .before .here .given .1) ∙ inv .1)
 
 loop-less-2 : tie.Need-loop-less-2 Inv-loop μ-loop Inv-disks μ-disks
-loop-less-2 c = let f = got-close _ _ _ (c .before .before .before .decode-at .ensures _ (lies _ _)) (c .before .here2 .given .1) in omega arith
+loop-less-2 c =
+    let f = got-close _ _ _ (c .before .before .before .decode-ring .ensures _ (own _ (c .before .before .before .before .before .before .before .before .before .before .before .before .before .before .before .before .pre .bounds))) (c .before .here2 .given .1) in
+    omega (arith, f .next-eq, f .next-le)
 
 loop-again-2 : tie.Need-loop-again-2 Inv-loop μ-loop Inv-disks μ-disks
 loop-again-2 c =
-    let read = c .before .before .before in
-    let inv = read .before .before .loop .inv in
-    (inv .0, fault-close _ _ _ (read .decode-at .ensures _ (lies _ _)) (read .before .loop-test .taken) _ _ (c .before .here2 .given .1) ∙ inv .1)
+    let inv = c .before .before .before .before .before .before .before .loop .inv in
+    (inv .0, fault-close _ _ _ (c .before .before .before .decode-ring .ensures _ (own _ (c .before .before .before .before .before .before .before .before .before .before .before .before .before .before .before .before .pre .bounds))) (c .before .before .before .before .before .before .loop-test .taken) _ _ (c .before .here2 .given .1) ∙ inv .1)
 
 add-d : tie.Need-add-d Inv-loop μ-loop Inv-disks μ-disks
-add-d c = omega arith
+add-d c = omega (arith, bounded _ (c .before .before .before .before .before .before .before .before .before .before .pre .bounds) .disks-max, c .before .before .before .before .before .disks-test .taken)
 
 disks-less : tie.Need-disks-less Inv-loop μ-loop Inv-disks μ-disks
-disks-less c = omega arith
+disks-less c = omega (arith, c .before .before .before .before .before .disks-test .taken)
 
 disks-again : tie.Need-disks-again Inv-loop μ-loop Inv-disks μ-disks
 disks-again c =
     let inv = c .before .loop .inv in
-    (omega arith, inv .0, sym (fault-end _ _ _ _ _ _ (c .loop-test .left)) ∙ inv .1)
+    (omega (arith, c .before .before .before .before .before .disks-test .taken), inv .0, sym (fault-end _ _ _ _ _ _ (c .loop-test .left)) ∙ inv .1)
 
 returns : tie.Need-returns Inv-loop μ-loop Inv-disks μ-disks
 returns c =
-    let a = c .before .before .before .before .args in
+    let a = c .before .before .before .before .before .args in
     let inv = c .before .disks .inv in
     inv .1 ∙ sym (faults-done (a .sizes) (λ e. getD (a .t3) e 0) (now (a .logs)) (a .sizes .disks) _ (c .disks-test .left)) ∙ inv .2
 
 returns-2 : tie.Need-returns-2 Inv-loop μ-loop Inv-disks μ-disks
 returns-2 c =
-    fault-bad _ _ _ (c .before .before .decode-at .ensures _ (lies _ _)) (c .before .before .before .loop-test .taken) _ _ (c .enum-told .given .1)
-    ∙ c .before .before .before .before .loop .inv .1
+    fault-bad _ _ _ (c .before .before .decode-ring .ensures _ (own _ (c .before .before .before .before .before .before .before .before .before .before .before .before .before .before .before .pre .bounds))) (c .before .before .before .before .before .loop-test .taken) _ _ (c .enum-told .given .1)
+    ∙ c .before .before .before .before .before .before .loop .inv .1
 
 pub check-disks-spec : {M : Type 1} → statement M
 check-disks-spec =
@@ -139,17 +141,18 @@ check-disks-spec =
     μ-loop
     Inv-disks
     μ-disks
-    (λ c. search needs)
-    (λ c. search needs)
-    (λ c. search needs)
     disks-holds
-    tail-of-requires
-    add-t19
-    mul-t20
+    disk-at-requires
+    (λ c κs. search needs)
+    mul-tail
+    shared-slice-read-tail
     mul-p
     array-read-p
     loop-holds
-    decode-at-requires
+    rem-at
+    slice-aggregate-decode-ring
+    slice-aggregate-decode-ring-2
+    decode-ring-requires
     (λ c. search needs)
     (λ c. search needs)
     (λ c. search needs)

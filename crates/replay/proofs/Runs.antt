@@ -1,0 +1,75 @@
+-- A difference XORed in as two, one behind the other; where the pages begin, one after the other.
+use mathlib.Core.Path.{_≡_, refl, sym, ap, _∙_}
+use mathlib.Core.List.{List, [], _∷_, _++_}
+use Prim.Native.Nat.{ℕ, suc, _+_, _-_, _%_, _≤_, _<_}
+use native.Mathlib.Omega.{arith}
+use native.Mathlib.Nat.{add-zero, add-suc, suc-add}
+use native.Mathlib.Decide.{ℕ-discrete}
+use lib.ListN.{length, getD, set, take, drop, length-append}
+use lib.Seq.{sets, take-add, drop-drop, getD-set-same, getD-set-other}
+use Rattle.model.specs.Below.{sumBelow}
+use Rattle.model.specs.Word.{_⊕_, xors, part}
+use Rattle.model.specs.Decode.{span}
+use Rattle.model.specs.Image.{xorAt}
+use Rattle.model.proofs.Xor.{length-xors-same}
+use Rattle.model.proofs.Parts.{length-part, part-sets-behind}
+use Rattle.log.specs.Ring.{readRing}
+use Rattle.log.proofs.Rings.{span-run, span-round}
+
+sets-append : (l : List ℕ) (at : ℕ) (a b : List ℕ) → sets l at (a ++ b) ≡ sets (sets l at a) (at + length a) b
+sets-append l at [] b = rw add-zero
+sets-append l at (x ∷ a) b = rw (add-suc, ← suc-add) (sets-append (set l at x) (suc at) a b)
+
+xors-append : (x y a b : List ℕ) → length x ≡ length a → xors (x ++ y) (a ++ b) ≡ xors x a ++ xors y b
+unfolding xors
+xors-append [] y [] b e = refl
+xors-append [] y (v ∷ a) b e = absurd (omega arith)
+xors-append (u ∷ x) y [] b e = absurd (omega arith)
+xors-append (u ∷ x) y (v ∷ a) b e = ap (λ (r : List ℕ). (u ⊕ v) ∷ r) (xors-append x y a b (omega arith))
+
+part-add : (at m n : ℕ) (l : List ℕ) → part at (m + n) l ≡ part at m l ++ part (at + m) n l
+unfolding part
+part-add at m n l = take-add m n (drop at l) ∙ ap (λ (r : List ℕ). take m (drop at l) ++ take n r) (drop-drop m at l)
+
+pub xor-append : (l : List ℕ) (at : ℕ) (a b : List ℕ) → at + (length a + length b) ≤ length l
+    → xorAt (at + length a) b (xorAt at a l) ≡ xorAt at (a ++ b) l
+unfolding xorAt
+xor-append l at a b fits =
+    let first : List ℕ = xors (part at (length a) l) a in
+    let same : length (part at (length a) l) ≡ length a = length-part at (length a) l (omega arith) in
+    let long : length first ≡ length a = length-xors-same (part at (length a) l) a same ∙ same in
+    let apart : part (at + length a) (length b) (sets l at first) ≡ part (at + length a) (length b) l =
+    part-sets-behind (at + length a) (length b) l at first (omega arith) in
+    rw (apart, length-append, part-add at (length a) (length b) l, xors-append (part at (length a) l) (part (at + length a) (length b) l) a b same)
+    (ap (λ (n : ℕ). sets (sets l at first) (at + n) (xors (part (at + length a) (length b) l) b)) (sym long)
+    ∙ sym (sets-append l at first (xors (part (at + length a) (length b) l) b)))
+
+-- n words of a ring from an index on
+module _ (logs : List ℕ) (place ring : ℕ) (fits : place + (ring + 1) ≤ length logs) (pages : List ℕ) (to at n : ℕ) where
+  pub xor-run : {after : List ℕ} → at + n ≤ ring → after ≡ xorAt to (part (place + 1 + at) n logs) pages
+      → (p : ℕ) → at ≡ p % ring → after ≡ xorAt to (span (readRing logs place ring) p n) pages
+  xor-run h did p is = did ∙ ap (λ (d : List ℕ). xorAt to d pages) (sym (span-run logs place ring fits p at n is h))
+
+  pub xor-round : {middle after : List ℕ} → at < ring → ring < at + n → n ≤ ring → to + n ≤ length pages
+      → middle ≡ xorAt to (part (place + 1 + at) (ring - at) logs) pages
+      → after ≡ xorAt (to + (ring - at)) (part (place + 1) (n - (ring - at)) logs) middle
+      → (p : ℕ) → at ≡ p % ring → after ≡ xorAt to (span (readRing logs place ring) p n) pages
+  xor-round {middle} low past few room did then p is =
+      let a : List ℕ = part (place + 1 + at) (ring - at) logs in
+      let b : List ℕ = part (place + 1) (n - (ring - at)) logs in
+      let one : length a ≡ ring - at = length-part (place + 1 + at) (ring - at) logs (omega arith) in
+      let two : length b ≡ n - (ring - at) = length-part (place + 1) (n - (ring - at)) logs (omega arith) in
+      then
+      ∙ ap (xorAt (to + (ring - at)) b) did
+      ∙ ap (λ (k : ℕ). xorAt (to + k) b (xorAt to a pages)) (sym one)
+      ∙ xor-append pages to a b (omega (arith, one, two))
+      ∙ ap (λ (d : List ℕ). xorAt to d pages) (sym (span-round logs place ring fits p at n is low (omega arith) few))
+
+-- sums set one after the other
+pub sums-more : (f : ℕ → ℕ) (l : List ℕ) (i sum : ℕ) → i < length l → sum ≡ sumBelow f i
+    → ((j : ℕ) → j < i → getD l j 0 ≡ sumBelow f j) → (j : ℕ) → j < i + 1 → getD (set l i sum) j 0 ≡ sumBelow f j
+sums-more f l i sum fits e done j h = go (ℕ-discrete j i)
+  where
+    go : Dec (j ≡ i) → getD (set l i sum) j 0 ≡ sumBelow f j
+    go (yes same) = rw (same, getD-set-same l i sum 0 fits) e
+    go (no ne) = getD-set-other l i j sum 0 ne ∙ done j (omega (arith, ne))
