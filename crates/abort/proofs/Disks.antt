@@ -6,16 +6,15 @@ use native.Mathlib.Omega.{arith}
 use lib.ListN.{length, take, drop}
 use Rattle.model.specs.declared.Sizes.{Sizes}
 use Rattle.model.specs.declared.Logs.{Logs}
-use Rattle.model.specs.Sizes.{diskAt, ringOf, total}
+use Rattle.model.specs.Sizes.{total}
 use Rattle.model.specs.Word.{part}
 use Rattle.model.specs.Decode.{readLog}
-use Rattle.model.specs.World.{World, worldOf}
+use Rattle.model.specs.World.{World}
 use Rattle.model.specs.Memory.{bufferAt, bufferOf, copyAt, workWords}
 use Rattle.model.specs.State.{limit, tailOf, fillOf, endOf}
 use Rattle.model.specs.Append.{append}
 use Rattle.model.proofs.Bounds.{Bounded, bounded, total-max}
 use Rattle.model.proofs.Lengths.{length-buffer}
-use Rattle.model.proofs.Ring.{disk-within}
 use Rattle.log.specs.declared.write.Home.{Home}
 use Rattle.log.specs.declared.write.Logged.{Logged}
 use Rattle.log.specs.Reading.{Readable}
