@@ -6,21 +6,22 @@ use native.Mathlib.Omega.{arith}
 use lib.ListN.{length, take, drop}
 use Rattle.model.specs.declared.Sizes.{Sizes}
 use Rattle.model.specs.declared.Logs.{Logs}
-use Rattle.model.specs.Sizes.{diskAt, ringOf, total}
+use Rattle.model.specs.Sizes.{total}
 use Rattle.model.specs.Word.{part}
 use Rattle.model.specs.Decode.{readLog}
-use Rattle.model.specs.World.{World, worldOf}
+use Rattle.model.specs.World.{World}
 use Rattle.model.specs.Memory.{bufferAt, bufferOf, copyAt, workWords}
 use Rattle.model.specs.State.{limit, tailOf, fillOf, endOf}
 use Rattle.model.specs.Append.{append}
 use Rattle.model.proofs.Bounds.{Bounded, bounded, total-max}
 use Rattle.model.proofs.Lengths.{length-buffer}
-use Rattle.model.proofs.Ring.{disk-within}
+use Rattle.log.specs.declared.write.Home.{Home}
 use Rattle.log.specs.declared.write.Logged.{Logged}
 use Rattle.log.specs.Reading.{Readable}
-use Rattle.log.specs.Write.{Within, Encodable, Lent, Appends}
+use Rattle.log.specs.Write.{Within, Encodable, Appends}
 use Rattle.log.proofs.Ready.{readable}
-use Rattle.frame.specs.Home.{withDisk}
+use Rattle.frame.specs.Home.{homeOf, withDisk}
+use Rattle.frame.proofs.Homes.{home-fits}
 use Rattle.abort.specs.declared.window.Window.{Window}
 use Rattle.abort.specs.declared.record.Progress.{Progress}
 use Rattle.abort.specs.Undo.{windowOf, Serving, InSlot, reader, Did}
@@ -72,18 +73,6 @@ module _ {s : Sizes} {l : Logs} {disk : ℕ} {logs work : List ℕ} (at : Servin
           low = omega (arith, small .words, small .below, fill-small);
         })
 
-    pub lent-within : Within disk (s .ring) (r .start) (r .tail) (r .fill) logs work
-    unfolding windowOf diskAt ringOf bufferAt endOf
-    lent-within =
-        rw e
-        (record {
-          some-ring = omega (arith, bounds .ring-min);
-          disk-within = omega (arith, at .log-words, disk-within s disk (at .disk-below));
-          buffer-within = omega (arith, small .buffer);
-          fill-small = fill-small;
-          end-small = at .end-small;
-        })
-
     -- the log that is read through them
     buffered : take (r .stop - r .start) (drop (r .start) work) ≡ bufferOf s work disk (fillOf l disk)
     unfolding windowOf bufferOf part
@@ -114,12 +103,12 @@ module _ {s : Sizes} {l : Logs} {disk : ℕ} {logs work : List ℕ} (at : Servin
     pub lent-readable : Readable s logs disk (r .tail) (take (r .stop - r .start) (drop (r .start) work)) (r .end)
     lent-readable = lent-readable-to (r .end) (omega arith)
 
-    pub lent : (anchor pages backups : List ℕ)
-        → Lent s l (worldOf anchor pages backups logs work) disk (s .ring) (r .start) (r .tail) (r .fill) logs work
-    unfolding windowOf
-    lent anchor pages backups =
-        rw e
-        (record { same-ring = refl; same-buffer = refl; same-tail = refl; same-fill = refl; same-logs = refl; same-work = refl })
+  -- the disk as an append takes it
+  pub home-asked : (disk < s .disks) × (s .disks ≤ 8) × (s .ring ≤ 65536) × (length work ≡ workWords s)
+  home-asked = (at .disk-below, bounds .disks-max, bounds .ring-max, at .work-words)
+
+  pub home-lies : {h : Home} → h ≡ homeOf s l disk → Within h logs work
+  home-lies e = rw e (home-fits s l logs work disk bounds (at .log-words) (at .work-words) (at .disk-below) fill-small (at .end-small))
 
   -- a slot has at most 32 words
   pub slim : {page slot width : ℕ} → InSlot s page slot width → width ≤ 32

@@ -1,5 +1,5 @@
 // A record appended for a disk of a state, and the logs' part of the state after it.
-use crate::window::window_of;
+use frame::home::home_of;
 use frame::home::with_disk;
 use layout::memory::page_copy;
 use log::write::Head;
@@ -55,7 +55,7 @@ pub fn log_compensation(
         (append sizes state (now (work .entry)) disk (encode (change compensationKind page slot number (copyOf sizes (now (work .entry)) page) (now (difference .entry)))))
         (worldOf anchor pages backups (now (logs .entry)) (now (work .entry))) (worldOf anchor pages backups (now (logs .exit)) (now (work .exit))) r) ⌝ }
 {
-    let log = window_of(sizes, state, disk);
+    let home = home_of(sizes, state, work.len(), disk);
     let head = Head {
         kind: 1,
         page,
@@ -63,18 +63,7 @@ pub fn log_compensation(
         number,
         copy: page_copy(sizes, work, page),
     };
-    let added = append_change(
-        logs,
-        work,
-        disk,
-        sizes.ring,
-        log.start,
-        log.tail,
-        log.fill,
-        head,
-        difference,
-        budget,
-    );
+    let added = append_change(logs, work, home, head, difference, budget);
     advanced(state, disk, added)
 }
 
@@ -93,18 +82,7 @@ pub fn log_close(
         (append sizes state (now (work .entry)) disk (encode (close abortKind number)))
         (worldOf anchor pages backups (now (logs .entry)) (now (work .entry))) (worldOf anchor pages backups (now (logs .exit)) (now (work .exit))) r) ⌝ }
 {
-    let log = window_of(sizes, state, disk);
-    let added = append_close(
-        logs,
-        work,
-        disk,
-        sizes.ring,
-        log.start,
-        log.tail,
-        log.fill,
-        3,
-        number,
-        budget,
-    );
+    let home = home_of(sizes, state, work.len(), disk);
+    let added = append_close(logs, work, home, 3, number, budget);
     advanced(state, disk, added)
 }

@@ -20,8 +20,9 @@ pub fn flush_all(core: Core, logs: &mut [u64], work: &[u64], budget: &mut u64) -
 {
     let sizes = core.sizes;
     let state = core.logs;
+    let disks = sizes.disks;
     let mut d: u64 = 0;
-    while d < sizes.disks {
+    while d < disks {
         let home = home_of(sizes, state, work.len(), d);
         if !flush_disk(logs, work, home, budget) {
             return false;
