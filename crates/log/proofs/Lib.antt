@@ -1,8 +1,7 @@
 -- Reading: laws of the definitions in the form in which the code meets them.
 pub mod Decoding
 pub mod Scanning
-pub mod NewestBelow
-pub mod Kept
+pub mod Gathering
 pub mod Ready
 -- Writing: runs of words set in a list, and runs of words stored in a ring.
 pub mod Words

@@ -8,7 +8,8 @@ ghost use mathlib.Core.Path.{_≡_};
 ghost use Prim.Native.Nat.{_+_, _*_, _≤_};
 ghost use lib.ListN.{length, getD};
 ghost use Rattle.model.specs.Decode.{readLog};
-ghost use Rattle.model.specs.Scan.{scan, fateIn};
+ghost use Rattle.model.specs.declared.Fault.the-variants.{NoFault};
+ghost use Rattle.model.specs.Scan.{scan, fateIn, faultIn};
 ghost use Rattle.model.specs.Causes.{tailIn, faultFrom};
 ghost use Rattle.log.specs.Reading.{Readable, Checkable};
 
@@ -48,6 +49,30 @@ pub fn fate_from(
         }
     };
     fate
+}
+
+// The first malformed record of a disk's log, from a position on.
+pub fn first_malformed(
+    sizes: Sizes,
+    logs: &[u64],
+    disk: u64,
+    tail: u64,
+    buffer: &[u64],
+    end: u64,
+    from: u64,
+) -> Fault
+    requires { ⌜ Readable sizes (now logs) disk tail (now buffer) end ⌝ }
+    ensures { λ r. ⌜ r ≡ faultIn disk (scan sizes (readLog sizes (now (logs .entry)) disk tail (now (buffer .entry))) end from) NoFault ⌝ }
+{
+    let mut p = from;
+    while p < end {
+        let here = decode_at(sizes, logs, disk, tail, buffer, end, p);
+        let (Decoded::Change { next, .. } | Decoded::Close { next, .. }) = here else {
+            return Fault::BadRecord { disk, position: p };
+        };
+        p = next;
+    }
+    Fault::NoFault
 }
 
 // A disk's tail.
