@@ -1,16 +1,55 @@
-// The difference of an update, taken out of the log.
+// An update, taken out of the log: the slot that it changed, and its difference.
 use crate::window::window_of;
 use log::read::read_word;
 use model::Logs;
 use model::Sizes;
 ghost use mathlib.Core.Path.{_≡_};
-ghost use Prim.Native.Nat.{_+_, _≤_};
+ghost use Prim.Native.Nat.{_+_, _≤_, _<_};
 ghost use lib.ListN.{length, take};
 ghost use lib.Seq.{sets};
 ghost use Rattle.model.specs.Decode.{readLog, span};
 ghost use Rattle.model.specs.State.{endOf};
 ghost use Rattle.log.specs.Reading.{Readable};
-ghost use Rattle.abort.specs.Undo.{Serving, reader};
+ghost use Rattle.abort.specs.Undo.{Serving, reader, siteAt};
+
+// Where an update's record stands, the slot that it changed, and the slot's width.
+pub struct Site {
+    pub position: u64,
+    pub page: u64,
+    pub slot: u64,
+    pub width: u64,
+}
+
+// The site of the update at a position, by its first word.
+pub fn site_at(
+    sizes: Sizes,
+    state: Logs,
+    disk: u64,
+    position: u64,
+    logs: &[u64],
+    work: &[u64],
+) -> Site
+    requires { ⌜ Serving sizes state disk (now logs) (now work) × (position < endOf state disk) ⌝ }
+    ensures { λ r. ⌜ r ≡ siteAt (reader sizes state disk (now (logs .entry)) (now (work .entry))) position ⌝ }
+{
+    let log = window_of(sizes, state, disk);
+    let start = log.start as usize;
+    let stop = log.stop as usize;
+    let w = read_word(
+        logs,
+        disk,
+        sizes.ring,
+        log.tail,
+        &work[start..stop],
+        position,
+    );
+    Site {
+        position,
+        page: w / 8 % 64,
+        slot: w / 512 % 128,
+        width: w / 65536,
+    }
+}
 
 // Copies the n words of a log from a position on to the front of `out`.
 fn copy_words_of_log(

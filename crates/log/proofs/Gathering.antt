@@ -59,22 +59,24 @@ gather-none front inv e = inv ∙ ap (λ (x : List ℕ). front ++ x) e
 module _ (t : ℕ) (log : ℕ → Scan) (from p count : ℕ) (at : List ℕ) (long : length at ≡ 128)
     (inv : positionsIn t (log from) ≡ take count at ++ positionsIn t (log p)) where
   -- as many as there is room for
-  pub gathered-full : count ≡ 128 → Gathered t log from (record { count = count; next = p; at = at })
-  gathered-full full =
+  pub gathered-full : from ≤ p → count ≡ 128 → Gathered t log from (record { count = count; next = p; at = at })
+  gathered-full on full =
       let n : length (take count at) ≡ 128 = length-take-le count at (omega arith) ∙ full in
       record {
         few = omega arith;
+        behind = on;
         first = rw inv (sym (take-at (take count at) (positionsIn t (log p)) 128 n));
         others = rw inv (sym (drop-at (take count at) (positionsIn t (log p)) 128 n));
       }
 
   -- all that there are
-  pub gathered-all : count ≤ 128 → positionsIn t (log p) ≡ [] → Gathered t log from (record { count = count; next = p; at = at })
-  gathered-all few none =
+  pub gathered-all : from ≤ p → count ≤ 128 → positionsIn t (log p) ≡ [] → Gathered t log from (record { count = count; next = p; at = at })
+  gathered-all on few none =
       let whole : positionsIn t (log from) ≡ take count at = inv ∙ rw none (append-nil (take count at)) in
       let n : length (positionsIn t (log from)) ≤ 128 = rw whole (omega (arith, length-take-le count at (omega arith))) in
       record {
         few = few;
+        behind = on;
         first = sym (take-all 128 (positionsIn t (log from)) n ∙ whole);
         others = none ∙ sym (drop-of-length-le (positionsIn t (log from)) n);
       }

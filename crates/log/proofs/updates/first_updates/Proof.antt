@@ -16,7 +16,7 @@ use Rattle.log.proofs.updates.first_updates.Tie as tie
 
 abbrev Inv-loop : tie.InvT-loop
 Inv-loop sizes logs disk tail buffer end from number at₀ count₀ p₀ at count p =
-    (count ≤ 128) × (length at ≡ 128)
+    (from ≤ p) × (count ≤ 128) × (length at ≡ 128)
     × (positionsIn number (scan sizes (readLog sizes logs disk tail buffer) end from)
     ≡ take count at ++ positionsIn number (scan sizes (readLog sizes logs disk tail buffer) end p))
 
@@ -24,7 +24,7 @@ abbrev μ-loop : tie.MeasureT-loop
 μ-loop sizes logs disk tail buffer end from number at₀ count₀ p₀ at count p = end - p
 
 loop-holds : tie.Need-loop-holds Inv-loop μ-loop
-loop-holds c = (omega arith, refl, refl)
+loop-holds c = (omega arith, omega arith, refl, refl)
 
 mul-at : tie.Need-mul-at Inv-loop μ-loop
 mul-at c = omega arith
@@ -48,7 +48,8 @@ loop-again c =
     let e =
     positions-update _ _ _ _ (read .decode-at .ensures) (read .before .loop-test .taken) (c .before .before .before .before .here .given .1) (c .before .before .is-update-of .ensures)
     (c .before .if1 .taken) in
-    (omega arith, length-set (turn .at) (turn .count) (turn .p) ∙ turn .inv .1, gather-one (turn .at) (turn .count) _ (omega (arith, turn .inv .1)) (turn .inv .2) e)
+    let f = got-change _ _ _ (read .decode-at .ensures) (c .before .before .before .before .here .given .1) in
+    (omega arith, omega arith, length-set (turn .at) (turn .count) (turn .p) ∙ turn .inv .2, gather-one (turn .at) (turn .count) _ (omega (arith, turn .inv .2)) (turn .inv .3) e)
 
 loop-less-2 : tie.Need-loop-less-2 Inv-loop μ-loop
 loop-less-2 c =
@@ -63,7 +64,8 @@ loop-again-2 c =
     let e =
     positions-other _ _ _ _ (read .decode-at .ensures) (read .before .loop-test .taken) (c .before .before .before .here .given .1) (c .before .is-update-of .ensures)
     (c .if1 .left) in
-    (turn .inv .0, turn .inv .1, gather-none (take (turn .count) (turn .at)) (turn .inv .2) e)
+    let f = got-change _ _ _ (read .decode-at .ensures) (c .before .before .before .here .given .1) in
+    (omega arith, turn .inv .1, turn .inv .2, gather-none (take (turn .count) (turn .at)) (turn .inv .3) e)
 
 loop-less-3 : tie.Need-loop-less-3 Inv-loop μ-loop
 loop-less-3 c =
@@ -77,22 +79,23 @@ loop-again-3 c =
     let turn = read .before .before .loop in
     let number = read .before .before .before .before .before .args .number in
     let e = positions-close _ _ _ number (read .decode-at .ensures) (read .before .loop-test .taken) (c .before .here2 .given .1) in
-    (turn .inv .0, turn .inv .1, gather-none (take (turn .count) (turn .at)) (turn .inv .2) e)
+    let f = got-close _ _ _ (read .decode-at .ensures) (c .before .here2 .given .1) in
+    (omega arith, turn .inv .1, turn .inv .2, gather-none (take (turn .count) (turn .at)) (turn .inv .3) e)
 
 returns : tie.Need-returns Inv-loop μ-loop
 returns c =
     let turn = c .before .loop in
-    gathered-all _ _ _ _ _ _ (turn .inv .1) (turn .inv .2) (turn .inv .0) (positions-end _ _ _ _ _ (c .loop-test .left))
+    gathered-all _ _ _ _ _ _ (turn .inv .2) (turn .inv .3) (turn .inv .0) (turn .inv .1) (positions-end _ _ _ _ _ (c .loop-test .left))
 
 returns-2 : tie.Need-returns-2 Inv-loop μ-loop
 returns-2 c =
     let turn = c .before .before .before .before .before .before .before .before .loop in
-    gathered-full _ _ _ _ _ _ (turn .inv .1) (turn .inv .2) (c .if2 .taken)
+    gathered-full _ _ _ _ _ _ (turn .inv .2) (turn .inv .3) (turn .inv .0) (c .if2 .taken)
 
 returns-3 : tie.Need-returns-3 Inv-loop μ-loop
 returns-3 c =
     let turn = c .before .before .before .before .loop in
-    gathered-all _ _ _ _ _ _ (turn .inv .1) (turn .inv .2) (turn .inv .0)
+    gathered-all _ _ _ _ _ _ (turn .inv .2) (turn .inv .3) (turn .inv .0) (turn .inv .1)
     (positions-bad _ _ _ _ (c .before .before .decode-at .ensures) (c .before .before .before .loop-test .taken) (c .enum-told .given .1))
 
 pub first-updates-spec : {M : Type 1} → statement M
