@@ -2,5 +2,6 @@
 pub mod anchor;
 pub mod backup;
 pub mod bounds;
+pub mod disks;
 pub mod memory;
 pub mod places;

@@ -8,9 +8,11 @@ use lib.Dec.{eqb}
 use Rattle.model.specs.declared.Sizes.{Sizes}
 use Rattle.model.specs.declared.Decoded.{Decoded}
 use Rattle.model.specs.declared.Decoded.the-variants.{Change, Close, Malformed}
+use Rattle.model.specs.Sizes.{ringOf, diskAt}
 use Rattle.model.specs.Record.{change, close, updateKind}
 use Rattle.model.specs.Decode.{kindField, pageField, slotField, widthField, misplaced}
 use Rattle.model.specs.Scan.{Scan, end, bad, item}
+use Rattle.log.specs.declared.read.Extent.{Extent}
 use Rattle.log.specs.declared.updates.Group.{Group}
 
 -- a change by its first three words, a closing record by its two: what decodeWords makes of a known kind
@@ -22,12 +24,26 @@ decodedChange s w number copy next =
 abbrev pub decodedClose : ℕ → ℕ → ℕ → Decoded
 decodedClose w number next = cond (eqb (w / 8) 0) (Close (kindField w) number next) Malformed
 
--- A log that can be read up to `stop`: its disk lies within the logs, and every position has a word in the ring or the buffer.
-pub record Readable (s : Sizes) (logs : List ℕ) (disk tail : ℕ) (buffer : List ℕ) (stop : ℕ) : Type 0 where
-  pub ring-pos : 1 ≤ s .ring
-  pub disk-fits : disk * (s .ring + 1) + (s .ring + 1) ≤ length logs
-  pub stop-le : stop ≤ tail + length buffer
-  pub stop-low : stop ≤ 2 ^ 63
+-- A disk's tail word and its ring size are these.
+pub record LiesAt (s : Sizes) (disk place ring : ℕ) : Type 0 where
+  pub same-place : diskAt s disk ≡ place
+  pub same-ring : ringOf s disk ≡ ring
+
+-- a disk's log with this tail, read up to `stop`
+unfoldable pub extentOf : Sizes → (disk tail stop : ℕ) → Extent
+extentOf s disk tail stop = record { place = diskAt s disk; ring = ringOf s disk; tail = tail; end = stop }
+
+-- An extent is that of a disk.
+pub record OfDisk (s : Sizes) (e : Extent) : Type 0 where
+  pub disk : ℕ
+  pub lies : LiesAt s disk (e .place) (e .ring)
+
+-- A log that can be read up to its end: tail word and ring lie within the logs, and every position has a word in the ring or the buffer.
+pub record Readable (e : Extent) (logs buffer : List ℕ) : Type 0 where
+  pub ring-pos : 1 ≤ e .ring
+  pub ring-fits : e .place + 1 + e .ring ≤ length logs
+  pub end-le : e .end ≤ e .tail + length buffer
+  pub end-low : e .end ≤ 2 ^ 63
 
 -- What the checks before No. 7 leave of the sizes, the logs' length and the tails.
 pub record Checkable (s : Sizes) (logs : List ℕ) : Type 0 where

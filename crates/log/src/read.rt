@@ -1,20 +1,44 @@
 // Reading a log: a word, and a record.
+use layout::disks::disk_at;
+use layout::disks::ring_of;
 use model::Decoded;
 use model::Sizes;
 ghost use mathlib.Core.Path.{_≡_};
-ghost use Prim.Native.Nat.{_+_, _*_, _≤_, _<_, _^_};
+ghost use Prim.Native.Nat.{ℕ, _+_, _≤_, _<_, _^_};
 ghost use lib.ListN.{length};
 ghost use Rattle.model.specs.Record.{wordsOf};
 ghost use Rattle.model.specs.Decode.{readLog, misplaced, decodeAt};
-ghost use Rattle.log.specs.Reading.{decodedChange, decodedClose, Readable};
+ghost use Rattle.log.specs.Reading.{decodedChange, decodedClose, LiesAt, extentOf, Readable};
 
-// The word at position p of a disk's log: below the tail the ring's, from the tail on the buffer's.
-pub fn read_word(logs: &[u64], disk: u64, ring: u64, tail: u64, buffer: &[u64], p: u64) -> u64
-    requires { ⌜ (1 ≤ ring) × (disk * (ring + 1) + (ring + 1) ≤ length (now logs)) × (p < tail + length (now buffer)) ⌝ }
-    ensures { λ r. ⌜ ((s : Sizes) → s .ring ≡ ring → r ≡ readLog s (now (logs .entry)) disk tail (now (buffer .entry)) p) ⌝ }
+// What a reader needs of a disk's log: the index of its tail word in the logs of all disks, its ring size, its tail, and where it ends.
+pub struct Extent {
+    pub place: u64,
+    pub ring: u64,
+    pub tail: u64,
+    pub end: u64,
+}
+
+// The extent of a disk's log with this tail, read up to `end`.
+pub fn extent_of(sizes: Sizes, disk: u64, tail: u64, end: u64) -> Extent
+    requires { ⌜ (disk ≤ 8) × (sizes .ring ≤ 65536) ⌝ }
+    ensures { λ r. ⌜ r ≡ extentOf sizes disk tail end ⌝ }
+{
+    Extent {
+        place: disk_at(sizes, disk),
+        ring: ring_of(sizes, disk),
+        tail,
+        end,
+    }
+}
+
+// The word at position p of a disk's log: below the tail the ring's, from the tail on the buffer's. It takes numbers, since a struct
+// would be copied for each word.
+pub fn read_word(logs: &[u64], place: u64, ring: u64, tail: u64, buffer: &[u64], p: u64) -> u64
+    requires { ⌜ (1 ≤ ring) × (place + 1 + ring ≤ length (now logs)) × (p < tail + length (now buffer)) ⌝ }
+    ensures { λ r. ⌜ ((s : Sizes) (disk : ℕ) → LiesAt s disk place ring → r ≡ readLog s (now (logs .entry)) disk tail (now (buffer .entry)) p) ⌝ }
 {
     if p < tail {
-        let at = (disk * (ring + 1) + 1 + p % ring) as usize;
+        let at = (place + 1 + p % ring) as usize;
         return logs[at];
     }
     let at = (p - tail) as usize;
@@ -82,21 +106,17 @@ fn decode_close(w: u64, number: u64, next: u64) -> Decoded
     }
 }
 
-// What stands at position p of a log that ends at end.
-pub fn decode_at(
-    sizes: Sizes,
-    logs: &[u64],
-    disk: u64,
-    tail: u64,
-    buffer: &[u64],
-    end: u64,
-    p: u64,
-) -> Decoded
-    requires { ⌜ Readable sizes (now logs) disk tail (now buffer) end × (p < end) ⌝ }
-    ensures { λ r. ⌜ r ≡ decodeAt sizes (readLog sizes (now (logs .entry)) disk tail (now (buffer .entry))) end p ⌝ }
+// What stands at position p of a log.
+pub fn decode_at(sizes: Sizes, logs: &[u64], extent: Extent, buffer: &[u64], p: u64) -> Decoded
+    requires { ⌜ Readable extent (now logs) (now buffer) × (p < extent .end) ⌝ }
+    ensures { λ r. ⌜ ((disk : ℕ) → LiesAt sizes disk (extent .place) (extent .ring)
+        → r ≡ decodeAt sizes (readLog sizes (now (logs .entry)) disk (extent .tail) (now (buffer .entry))) (extent .end) p) ⌝ }
 {
-    let ring = sizes.ring;
-    let w = read_word(logs, disk, ring, tail, buffer, p);
+    let place = extent.place;
+    let ring = extent.ring;
+    let tail = extent.tail;
+    let end = extent.end;
+    let w = read_word(logs, place, ring, tail, buffer, p);
     let kind = w % 8;
     if 3 < kind {
         return Decoded::Malformed;
@@ -105,12 +125,12 @@ pub fn decode_at(
     if end < next {
         return Decoded::Malformed;
     }
-    let number = read_word(logs, disk, ring, tail, buffer, p + 1);
+    let number = read_word(logs, place, ring, tail, buffer, p + 1);
     if number == 0 {
         return Decoded::Malformed;
     }
     if kind < 2 {
-        let copy = read_word(logs, disk, ring, tail, buffer, p + 2);
+        let copy = read_word(logs, place, ring, tail, buffer, p + 2);
         return decode_change(sizes, w, number, copy, next);
     }
     decode_close(w, number, next)

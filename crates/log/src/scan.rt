@@ -1,38 +1,39 @@
 // Reading a log on: the search ahead for a transaction's close, and the check of all disks.
+use crate::read::Extent;
 use crate::read::decode_at;
 use model::Decoded;
 use model::Fate;
 use model::Fault;
 use model::Sizes;
 ghost use mathlib.Core.Path.{_≡_};
-ghost use Prim.Native.Nat.{_+_, _*_, _≤_};
+ghost use Prim.Native.Nat.{ℕ, _+_, _*_, _≤_};
 ghost use lib.ListN.{length, getD};
 ghost use Rattle.model.specs.Decode.{readLog};
 ghost use Rattle.model.specs.declared.Fault.the-variants.{NoFault};
 ghost use Rattle.model.specs.Scan.{scan, fateIn, faultIn};
 ghost use Rattle.model.specs.Causes.{tailIn, faultFrom};
-ghost use Rattle.log.specs.Reading.{Readable, Checkable};
+ghost use Rattle.log.specs.Reading.{LiesAt, OfDisk, Readable, Checkable};
 
 // The search ahead for a transaction's closing record.
 pub fn fate_from(
     sizes: Sizes,
     logs: &[u64],
-    disk: u64,
-    tail: u64,
+    extent: Extent,
     buffer: &[u64],
-    end: u64,
     from: u64,
     number: u64,
 ) -> Fate
-    requires { ⌜ Readable sizes (now logs) disk tail (now buffer) end ⌝ }
-    ensures { λ r. ⌜ r ≡ fateIn number (scan sizes (readLog sizes (now (logs .entry)) disk tail (now (buffer .entry))) end from) ⌝ }
+    requires { ⌜ Readable extent (now logs) (now buffer) × OfDisk sizes extent ⌝ }
+    ensures { λ r. ⌜ ((disk : ℕ) → LiesAt sizes disk (extent .place) (extent .ring)
+        → r ≡ fateIn number (scan sizes (readLog sizes (now (logs .entry)) disk (extent .tail) (now (buffer .entry))) (extent .end) from)) ⌝ }
 {
+    let end = extent.end;
     let mut p = from;
     let fate = loop {
         if end <= p {
             break Fate::Unclosed;
         }
-        let here = decode_at(sizes, logs, disk, tail, buffer, end, p);
+        let here = decode_at(sizes, logs, extent, buffer, p);
         match here {
             Decoded::Change { next, .. } => p = next,
             Decoded::Close {
@@ -56,17 +57,17 @@ pub fn first_malformed(
     sizes: Sizes,
     logs: &[u64],
     disk: u64,
-    tail: u64,
+    extent: Extent,
     buffer: &[u64],
-    end: u64,
     from: u64,
 ) -> Fault
-    requires { ⌜ Readable sizes (now logs) disk tail (now buffer) end ⌝ }
-    ensures { λ r. ⌜ r ≡ faultIn disk (scan sizes (readLog sizes (now (logs .entry)) disk tail (now (buffer .entry))) end from) NoFault ⌝ }
+    requires { ⌜ Readable extent (now logs) (now buffer) × LiesAt sizes disk (extent .place) (extent .ring) ⌝ }
+    ensures { λ r. ⌜ r ≡ faultIn disk (scan sizes (readLog sizes (now (logs .entry)) disk (extent .tail) (now (buffer .entry))) (extent .end) from) NoFault ⌝ }
 {
+    let end = extent.end;
     let mut p = from;
     while p < end {
-        let here = decode_at(sizes, logs, disk, tail, buffer, end, p);
+        let here = decode_at(sizes, logs, extent, buffer, p);
         let (Decoded::Change { next, .. } | Decoded::Close { next, .. }) = here else {
             return Fault::BadRecord { disk, position: p };
         };
@@ -96,9 +97,15 @@ pub fn check_disks(sizes: Sizes, logs: &[u64], starts: [u64; 8]) -> Fault
     let mut fault = Fault::NoFault;
     'disks: while d < disks {
         let tail = tail_of(logs, d, ring);
+        let extent = Extent {
+            place: d * (ring + 1),
+            ring,
+            tail,
+            end: tail,
+        };
         let mut p = starts[d as usize];
         while p < tail {
-            let here = decode_at(sizes, logs, d, tail, none, tail, p);
+            let here = decode_at(sizes, logs, extent, none, p);
             let (Decoded::Change { next, .. } | Decoded::Close { next, .. }) = here else {
                 fault = Fault::BadRecord {
                     disk: d,

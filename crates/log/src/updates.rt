@@ -1,11 +1,13 @@
 // The updates that an abort takes back: the positions of 128 at a time, and the words of all.
+use crate::read::Extent;
 use crate::read::decode_at;
 use model::Decoded;
 use model::Sizes;
 ghost use mathlib.Core.Path.{_≡_};
+ghost use Prim.Native.Nat.{ℕ};
 ghost use Rattle.model.specs.Decode.{readLog};
 ghost use Rattle.model.specs.Scan.{scan, updatesIn, updateWords};
-ghost use Rattle.log.specs.Reading.{Readable, isUpdateOf, Gathered};
+ghost use Rattle.log.specs.Reading.{LiesAt, OfDisk, Readable, isUpdateOf, Gathered};
 
 // Positions of a transaction's updates, oldest first, and where the reading of them stopped.
 pub struct Group {
@@ -38,21 +40,21 @@ fn is_update_of(here: Decoded, number: u64) -> bool
 pub fn first_updates(
     sizes: Sizes,
     logs: &[u64],
-    disk: u64,
-    tail: u64,
+    extent: Extent,
     buffer: &[u64],
-    end: u64,
     from: u64,
     number: u64,
 ) -> Group
-    requires { ⌜ Readable sizes (now logs) disk tail (now buffer) end ⌝ }
-    ensures { λ r. ⌜ Gathered number (scan sizes (readLog sizes (now (logs .entry)) disk tail (now (buffer .entry))) end) from r ⌝ }
+    requires { ⌜ Readable extent (now logs) (now buffer) × OfDisk sizes extent ⌝ }
+    ensures { λ r. ⌜ ((disk : ℕ) → LiesAt sizes disk (extent .place) (extent .ring)
+        → Gathered number (scan sizes (readLog sizes (now (logs .entry)) disk (extent .tail) (now (buffer .entry))) (extent .end)) from r) ⌝ }
 {
+    let end = extent.end;
     let mut at = [0u64; 128];
     let mut count: u64 = 0;
     let mut p = from;
     while p < end {
-        let here = decode_at(sizes, logs, disk, tail, buffer, end, p);
+        let here = decode_at(sizes, logs, extent, buffer, p);
         match here {
             Decoded::Change { next, .. } => {
                 if is_update_of(here, number) {
@@ -75,20 +77,20 @@ pub fn first_updates(
 pub fn abort_words(
     sizes: Sizes,
     logs: &[u64],
-    disk: u64,
-    tail: u64,
+    extent: Extent,
     buffer: &[u64],
-    end: u64,
     from: u64,
     number: u64,
 ) -> u64
-    requires { ⌜ Readable sizes (now logs) disk tail (now buffer) end ⌝ }
-    ensures { λ r. ⌜ r ≡ updateWords (updatesIn number (scan sizes (readLog sizes (now (logs .entry)) disk tail (now (buffer .entry))) end from)) ⌝ }
+    requires { ⌜ Readable extent (now logs) (now buffer) × OfDisk sizes extent ⌝ }
+    ensures { λ r. ⌜ ((disk : ℕ) → LiesAt sizes disk (extent .place) (extent .ring)
+        → r ≡ updateWords (updatesIn number (scan sizes (readLog sizes (now (logs .entry)) disk (extent .tail) (now (buffer .entry))) (extent .end) from))) ⌝ }
 {
+    let end = extent.end;
     let mut words: u64 = 0;
     let mut p = from;
     while p < end {
-        let here = decode_at(sizes, logs, disk, tail, buffer, end, p);
+        let here = decode_at(sizes, logs, extent, buffer, p);
         match here {
             Decoded::Change { next, .. } => {
                 if is_update_of(here, number) {

@@ -13,7 +13,8 @@ returns : tie.Need-returns
 unfolding decodeAt
 returns c =
     let s = c .before .before .before .before .args .sizes in
-    rw (← c .before .read-word .ensures s refl) (decode-kind s _ _ _ _ _ _ refl (c .if1 .taken))
+    λ disk lies.
+    rw (← c .before .read-word .ensures s disk lies) (decode-kind s _ _ _ _ _ _ refl (c .if1 .taken))
 
 add-next : tie.Need-add-next
 add-next c = omega (arith, words-le (c .before .before .read-word .result % 8) (c .before .before .read-word .result / 65536))
@@ -24,7 +25,8 @@ returns-2 c =
     let known = c .before .before in
     let first = known .before in
     let s = first .before .before .before .args .sizes in
-    rw (← first .read-word .ensures s refl)
+    λ disk lies.
+    rw (← first .read-word .ensures s disk lies)
     (decode-past s _ _ _ _ _ _ (c .before .words-of .ensures) (known .if1 .left) (c .if2 .taken))
 
 read-word-requires-2 : tie.Need-read-word-requires-2
@@ -38,7 +40,8 @@ returns-3 c =
     let known = whole .before .before in
     let first = known .before in
     let s = first .before .before .before .args .sizes in
-    rw (← first .read-word .ensures s refl, ← second .read-word2 .ensures s refl)
+    λ disk lies.
+    rw (← first .read-word .ensures s disk lies, ← second .read-word2 .ensures s disk lies)
     (decode-zero s _ _ _ _ _ _ (whole .before .words-of .ensures) (known .if1 .left) (whole .if2 .left) (c .if3 .taken))
 
 read-word-requires-3 : tie.Need-read-word-requires-3
@@ -56,7 +59,8 @@ returns-4 c =
     let known = whole .before .before in
     let first = known .before in
     let s = first .before .before .before .args .sizes in
-    rw (← first .read-word .ensures s refl, ← second .read-word2 .ensures s refl, ← third .read-word3 .ensures s refl)
+    λ disk lies.
+    rw (← first .read-word .ensures s disk lies, ← second .read-word2 .ensures s disk lies, ← third .read-word3 .ensures s disk lies)
     (c .decode-change .ensures
     ∙ decode-is-change s _ _ _ _ _ _ (whole .before .words-of .ensures) (known .if1 .left) (whole .if2 .left)
     (numbered .if3 .left) (third .before .if4 .taken))
@@ -70,7 +74,8 @@ returns-5 c =
     let known = whole .before .before in
     let first = known .before in
     let s = first .before .before .before .args .sizes in
-    rw (← first .read-word .ensures s refl, ← second .read-word2 .ensures s refl)
+    λ disk lies.
+    rw (← first .read-word .ensures s disk lies, ← second .read-word2 .ensures s disk lies)
     (c .decode-close .ensures
     ∙ decode-is-close s _ _ _ _ _ _ (whole .before .words-of .ensures) (known .if1 .left) (whole .if2 .left)
     (numbered .if3 .left) (c .before .if4 .left))

@@ -3,13 +3,13 @@ use native.Mathlib.Nat.{mod-lt}
 use native.Mathlib.Omega.{arith}
 use borrow.Author.Needs.{needs}
 use borrow.Author.Tests.{lt-ltb, le-ltb}
-use Rattle.model.specs.Sizes.{ringOf, diskAt, ringWord}
+use Rattle.model.specs.Sizes.{ringWord}
 use Rattle.model.specs.Decode.{readLog}
 use Rattle.log.proofs.read.read_word.Statement.{statement}
 use Rattle.log.proofs.read.read_word.Tie as tie
 
-add-at-3 : tie.Need-add-at-3
-add-at-3 c = omega (arith, mod-lt (c .before .args .p) (c .before .pre .0))
+add-at-2 : tie.Need-add-at-2
+add-at-2 c = omega (arith, mod-lt (c .before .args .p) (c .before .pre .0))
 
 mul-result : tie.Need-mul-result
 mul-result c = omega (arith, mod-lt (c .before .args .p) (c .before .pre .0))
@@ -18,12 +18,12 @@ shared-slice-read-result : tie.Need-shared-slice-read-result
 shared-slice-read-result c = omega (arith, mod-lt (c .before .before .args .p) (c .before .before .pre .0))
 
 returns : tie.Need-returns
-unfolding readLog ringWord diskAt ringOf
-returns c = λ s e. rw e (simp (lt-ltb _ _ (c .before .if1 .taken)))
+unfolding readLog ringWord
+returns c = λ s disk lies. rw (lies .same-place, lies .same-ring) (simp (lt-ltb _ _ (c .before .if1 .taken)))
 
 returns-2 : tie.Need-returns-2
 unfolding readLog
-returns-2 c = λ s e. simp (le-ltb _ _ (c .before .if1 .left))
+returns-2 c = λ s disk lies. simp (le-ltb _ _ (c .before .if1 .left))
 
 pub read-word-spec : {M : Type 1} → statement M
 read-word-spec =
@@ -31,9 +31,7 @@ read-word-spec =
     (tie.spec
     (λ c. search needs)
     (λ c. search needs)
-    (λ c. search needs)
-    (λ c. search needs)
-    add-at-3
+    add-at-2
     mul-result
     shared-slice-read-result
     returns
