@@ -1,5 +1,6 @@
 // The log of a disk, ring then buffer: its first malformed record, and a transaction's updates.
 use crate::window::window_of;
+use log::read::extent_of;
 use log::scan::first_malformed;
 use log::updates::Group;
 use log::updates::abort_words;
@@ -42,12 +43,14 @@ pub fn malformed_from(
     let stop = log.stop as usize;
     let buffer = &work[start..stop];
     let tail = log.tail;
-    let in_ring = first_malformed(sizes, logs, disk, tail, buffer, tail, from);
+    let ring = extent_of(sizes, disk, tail, tail);
+    let in_ring = first_malformed(sizes, logs, disk, ring, buffer, from);
     if let Fault::BadRecord { disk: d, position } = in_ring {
         return Fault::BadRecord { disk: d, position };
     }
+    let whole = extent_of(sizes, disk, tail, log.end);
     let on = larger(tail, from);
-    first_malformed(sizes, logs, disk, tail, buffer, log.end, on)
+    first_malformed(sizes, logs, disk, whole, buffer, on)
 }
 
 // The positions of a transaction's first 128 updates, from a position on, in the log up to an end.
@@ -67,16 +70,8 @@ pub fn group_from(
     let log = window_of(sizes, state, disk);
     let start = log.start as usize;
     let stop = log.stop as usize;
-    first_updates(
-        sizes,
-        logs,
-        disk,
-        log.tail,
-        &work[start..stop],
-        end,
-        from,
-        number,
-    )
+    let extent = extent_of(sizes, disk, log.tail, end);
+    first_updates(sizes, logs, extent, &work[start..stop], from, number)
 }
 
 // The words of the update records from a position on.
@@ -95,14 +90,6 @@ pub fn words_from(
     let log = window_of(sizes, state, disk);
     let start = log.start as usize;
     let stop = log.stop as usize;
-    abort_words(
-        sizes,
-        logs,
-        disk,
-        log.tail,
-        &work[start..stop],
-        log.end,
-        from,
-        number,
-    )
+    let extent = extent_of(sizes, disk, log.tail, log.end);
+    abort_words(sizes, logs, extent, &work[start..stop], from, number)
 }

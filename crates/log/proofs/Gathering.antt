@@ -62,10 +62,12 @@ module _ (t : ℕ) (log : ℕ → Scan) (from p count : ℕ) (at : List ℕ) (lo
   pub gathered-full : from ≤ p → count ≡ 128 → Gathered t log from (record { count = count; next = p; at = at })
   gathered-full on full =
       let n : length (take count at) ≡ 128 = length-take-le count at (omega arith) ∙ full in
+      let first : take 128 (positionsIn t (log from)) ≡ take count at = rw inv (take-at (take count at) (positionsIn t (log p)) 128 n) in
       record {
         few = omega arith;
+        many = rw first (omega (arith, n));
         behind = on;
-        first = rw inv (sym (take-at (take count at) (positionsIn t (log p)) 128 n));
+        first = sym first;
         others = rw inv (sym (drop-at (take count at) (positionsIn t (log p)) 128 n));
       }
 
@@ -73,10 +75,13 @@ module _ (t : ℕ) (log : ℕ → Scan) (from p count : ℕ) (at : List ℕ) (lo
   pub gathered-all : from ≤ p → count ≤ 128 → positionsIn t (log p) ≡ [] → Gathered t log from (record { count = count; next = p; at = at })
   gathered-all on few none =
       let whole : positionsIn t (log from) ≡ take count at = inv ∙ rw none (append-nil (take count at)) in
-      let n : length (positionsIn t (log from)) ≤ 128 = rw whole (omega (arith, length-take-le count at (omega arith))) in
+      let long : length (take count at) ≡ count = length-take-le count at (omega arith) in
+      let n : length (positionsIn t (log from)) ≤ 128 = rw whole (omega (arith, long)) in
+      let first : take 128 (positionsIn t (log from)) ≡ take count at = take-all 128 (positionsIn t (log from)) n ∙ whole in
       record {
         few = few;
+        many = rw first (sym long);
         behind = on;
-        first = sym (take-all 128 (positionsIn t (log from)) n ∙ whole);
+        first = sym first;
         others = none ∙ sym (drop-of-length-le (positionsIn t (log from)) n);
       }

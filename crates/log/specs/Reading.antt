@@ -69,6 +69,7 @@ positionsIn number (item p (change kind page slot n copy diff) rest) =
 -- In a log read from a position on: the positions of a transaction's first 128 updates, and a position from which the others are read.
 pub record Gathered (number : ℕ) (log : ℕ → Scan) (from : ℕ) (r : Group) : Type 0 where
   pub few : r .count ≤ 128
+  pub many : r .count ≡ length (take 128 (positionsIn number (log from)))
   pub behind : from ≤ r .next
   pub first : take (r .count) (r .at) ≡ take 128 (positionsIn number (log from))
   pub others : positionsIn number (log (r .next)) ≡ drop 128 (positionsIn number (log from))

@@ -1,5 +1,5 @@
 // A disk's log on slices and numbers, without state: its ring in the logs of all disks, then its buffer.
-pub mod updates;
 pub mod read;
 pub mod scan;
+pub mod updates;
 pub mod write;

@@ -48,10 +48,14 @@ loop-again c =
     let read = c .before .before .before .before .before .before in
     let turn = read .before .before .loop in
     let there = read .before .before .before .before .before .pre .1 in
-    let f = got-change _ _ _ (read .decode-at .ensures (there .disk) (there .lies)) (c .before .before .before .before .here .given .1) in
-    (omega arith, omega arith, length-set (turn .at) (turn .count) (turn .p) ∙ turn .inv .2, λ disk lies. gather-one (turn .at) (turn .count) _ (omega (arith, turn .inv .2)) (turn .inv .3 disk lies)
-    (positions-update _ _ _ _ (read .decode-at .ensures disk lies) (read .before .loop-test .taken) (c .before .before .before .before .here .given .1) (c .before .before .is-update-of .ensures)
-    (c .before .if1 .taken)))
+    let f = got-change _ _ _ (read .decode-at .ensures (there .disk) (there .lies)) (c .before .before .before .before .here .given .1) in (
+      omega arith,
+      omega arith,
+      length-set (turn .at) (turn .count) (turn .p) ∙ turn .inv .2,
+      λ disk lies. gather-one (turn .at) (turn .count) _ (omega (arith, turn .inv .2)) (turn .inv .3 disk lies)
+          (positions-update _ _ _ _ (read .decode-at .ensures disk lies) (read .before .loop-test .taken) (c .before .before .before .before .here .given .1) (c .before .before .is-update-of .ensures)
+          (c .before .if1 .taken)),
+    )
 
 loop-less-2 : tie.Need-loop-less-2 Inv-loop μ-loop
 loop-less-2 c =
@@ -65,10 +69,14 @@ loop-again-2 c =
     let read = c .before .before .before .before .before in
     let turn = read .before .before .loop in
     let there = read .before .before .before .before .before .pre .1 in
-    let f = got-change _ _ _ (read .decode-at .ensures (there .disk) (there .lies)) (c .before .before .before .here .given .1) in
-    (omega arith, turn .inv .1, turn .inv .2, λ disk lies. gather-none (take (turn .count) (turn .at)) (turn .inv .3 disk lies)
-    (positions-other _ _ _ _ (read .decode-at .ensures disk lies) (read .before .loop-test .taken) (c .before .before .before .here .given .1) (c .before .is-update-of .ensures)
-    (c .if1 .left)))
+    let f = got-change _ _ _ (read .decode-at .ensures (there .disk) (there .lies)) (c .before .before .before .here .given .1) in (
+      omega arith,
+      turn .inv .1,
+      turn .inv .2,
+      λ disk lies. gather-none (take (turn .count) (turn .at)) (turn .inv .3 disk lies)
+          (positions-other _ _ _ _ (read .decode-at .ensures disk lies) (read .before .loop-test .taken) (c .before .before .before .here .given .1) (c .before .is-update-of .ensures)
+          (c .if1 .left)),
+    )
 
 loop-less-3 : tie.Need-loop-less-3 Inv-loop μ-loop
 loop-less-3 c =
@@ -83,9 +91,13 @@ loop-again-3 c =
     let turn = read .before .before .loop in
     let number = read .before .before .before .before .before .args .number in
     let there = read .before .before .before .before .before .pre .1 in
-    let f = got-close _ _ _ (read .decode-at .ensures (there .disk) (there .lies)) (c .before .here2 .given .1) in
-    (omega arith, turn .inv .1, turn .inv .2, λ disk lies. gather-none (take (turn .count) (turn .at)) (turn .inv .3 disk lies)
-    (positions-close _ _ _ number (read .decode-at .ensures disk lies) (read .before .loop-test .taken) (c .before .here2 .given .1)))
+    let f = got-close _ _ _ (read .decode-at .ensures (there .disk) (there .lies)) (c .before .here2 .given .1) in (
+      omega arith,
+      turn .inv .1,
+      turn .inv .2,
+      λ disk lies. gather-none (take (turn .count) (turn .at)) (turn .inv .3 disk lies)
+          (positions-close _ _ _ number (read .decode-at .ensures disk lies) (read .before .loop-test .taken) (c .before .here2 .given .1)),
+    )
 
 returns : tie.Need-returns Inv-loop μ-loop
 returns c =
