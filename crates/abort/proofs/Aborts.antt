@@ -27,7 +27,7 @@ use Rattle.frame.specs.Home.{Serves}
 use Rattle.abort.specs.declared.scope.Scope.{Scope}
 use Rattle.abort.specs.Undo.{Serving, reader, logFrom, partsFrom, Undoable}
 use Rattle.abort.specs.Scope.{scopeOf}
-use Rattle.abort.proofs.Search.{sound-end}
+use Rattle.abort.proofs.Malformed.{sound-end}
 
 -- its disk, and what `scope_of` requires
 module _ (c : Core) (number : ℕ) {logs work : List ℕ} (serves : Serves c logs work) (opened : isOpen (c .table) number ≡ true) where
@@ -154,7 +154,6 @@ module _ (c : Core) (number : ℕ) (opened : isOpen (c .table) number ≡ true) 
         record {
           serving = scope-serves c number serves opened is;
           page-words = right;
-          readable = fault-end (at .disk) sc NoFault (rw (as-one whole) at whole);
           ring = rw (← scope-updates, scope-disk) (omega (arith, room .0, behind-start (serves .state), kept-le (c .logs) (diskOf c number)));
           in-limit = rw (← scope-updates, scope-disk) (room .1);
         }

@@ -17,9 +17,10 @@ use Rattle.model.proofs.Bounds.{Bounded, bounded, total-max}
 use Rattle.model.proofs.Lengths.{length-buffer}
 use Rattle.log.specs.declared.write.Home.{Home}
 use Rattle.log.specs.declared.write.Logged.{Logged}
-use Rattle.log.specs.Reading.{Readable}
+use Rattle.log.specs.declared.read.Extent.{Extent}
+use Rattle.log.specs.Reading.{LiesAt, extentOf, OfDisk, Readable}
 use Rattle.log.specs.Write.{Within, Encodable, Appends}
-use Rattle.log.proofs.Ready.{readable}
+use Rattle.log.proofs.Ready.{lies-there, disk-there, tail-there, end-there, readable}
 use Rattle.frame.specs.Home.{homeOf, withDisk}
 use Rattle.frame.proofs.Homes.{home-fits}
 use Rattle.abort.specs.declared.window.Window.{Window}
@@ -62,6 +63,9 @@ module _ {s : Sizes} {l : Logs} {disk : ℕ} {logs work : List ℕ} (at : Servin
   pub asked : (s .pages ≤ 64) × (disk < 8) × (endOf l disk ≤ limit)
   asked = (bounds .pages-max, small .below, at .end-small)
 
+  pub extended : (disk ≤ 8) × (s .ring ≤ 65536)
+  extended = (omega (arith, small .below), bounds .ring-max)
+
   module _ {r : Window} (e : r ≡ windowOf s l disk) where
     pub lies : Lies r work
     unfolding windowOf bufferAt
@@ -84,24 +88,38 @@ module _ {s : Sizes} {l : Logs} {disk : ℕ} {logs work : List ℕ} (at : Servin
     unfolding windowOf
     lent-end = rw e refl
 
-    pub lent-reader : readLog s logs disk (r .tail) (take (r .stop - r .start) (drop (r .start) work)) ≡ reader s l disk logs work
+    pub lent-here : readLog s logs disk (r .tail) (take (r .stop - r .start) (drop (r .start) work)) ≡ reader s l disk logs work
     unfolding windowOf
-    lent-reader = rw (buffered, e) refl
+    lent-here = rw (buffered, e) refl
 
     pub lent-ordered : r .tail ≤ r .end
     unfolding windowOf endOf
     lent-ordered = rw e (omega arith)
 
-    pub lent-readable-to : (to : ℕ) → to ≤ r .end → Readable s logs disk (r .tail) (take (r .stop - r .start) (drop (r .start) work)) to
-    unfolding windowOf endOf bufferAt
-    lent-readable-to to h =
-        let low : to ≤ tailOf l disk + fillOf l disk = rw e at h in
-        rw (buffered, e)
-        (readable s bounds logs disk (tailOf l disk) (bufferOf s work disk (fillOf l disk)) to (at .log-words) (at .disk-below)
-        (omega (arith, length-buffer s work disk (fillOf l disk) (omega (arith, small .buffer, fill-small)))) (omega (arith, at .end-small)))
+    -- the extent that the readers take, up to an end
+    module _ (to : ℕ) {x : Extent} (is : x ≡ extentOf s disk (r .tail) to) where
+      pub lent-lies : LiesAt s disk (x .place) (x .ring)
+      lent-lies = lies-there s disk (r .tail) to is
 
-    pub lent-readable : Readable s logs disk (r .tail) (take (r .stop - r .start) (drop (r .start) work)) (r .end)
-    lent-readable = lent-readable-to (r .end) (omega arith)
+      pub lent-disk : OfDisk s x
+      lent-disk = disk-there s disk (r .tail) to is
+
+      pub lent-tail : x .tail ≡ r .tail
+      lent-tail = tail-there s disk (r .tail) to is
+
+      pub lent-to : x .end ≡ to
+      lent-to = end-there s disk (r .tail) to is
+
+      pub lent-readable : to ≤ r .end → Readable x logs (take (r .stop - r .start) (drop (r .start) work))
+      unfolding windowOf endOf bufferAt
+      lent-readable h =
+          let low : to ≤ tailOf l disk + fillOf l disk = rw e at h in
+          rw (is, buffered, e)
+          (readable s bounds logs disk (tailOf l disk) (bufferOf s work disk (fillOf l disk)) to (at .log-words) (at .disk-below)
+          (omega (arith, length-buffer s work disk (fillOf l disk) (omega (arith, small .buffer, fill-small)))) (omega (arith, at .end-small)))
+
+      pub lent-reader : readLog s logs disk (x .tail) (take (r .stop - r .start) (drop (r .start) work)) ≡ reader s l disk logs work
+      lent-reader = rw lent-tail lent-here
 
   -- the disk as an append takes it
   pub home-asked : (disk < s .disks) × (s .disks ≤ 8) × (s .ring ≤ 65536) × (length work ≡ workWords s)

@@ -5,11 +5,12 @@ pub mod Spans
 -- One update taken back.
 pub mod Compensated
 -- All of them.
-pub mod Search
-pub mod Found
+pub mod Standing
 pub mod Unchanged
 pub mod Undone
 pub mod Pending
+pub mod OneLeft
+pub mod Noting
 -- The call.
 pub mod Aborts
 pub mod Rolled

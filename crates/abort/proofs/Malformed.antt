@@ -1,52 +1,69 @@
 -- The first malformed record of a log: up to the tail, then in the buffer.
 use mathlib.Core.Path.{_≡_, refl, sym, _∙_}
+use mathlib.Core.Logic.{_⊎_, inl, inr}
 use mathlib.Core.List.{List}
 use Prim.Native.Nat.{ℕ, _-_, max}
+use native.Mathlib.Omega.{arith}
 use lib.ListN.{take, drop}
 use Rattle.model.specs.declared.Sizes.{Sizes}
 use Rattle.model.specs.declared.Logs.{Logs}
 use Rattle.model.specs.declared.Fault.{Fault}
 use Rattle.model.specs.declared.Fault.the-variants.{NoFault, BadRecord}
 use Rattle.model.specs.Decode.{readLog}
-use Rattle.model.specs.Scan.{Scan, scan, faultIn}
+use Rattle.model.specs.Scan.{Scan, end, bad, scan, faultIn}
 use Rattle.model.specs.State.{tailOf, endOf}
-use Rattle.model.proofs.Reading.{scan-rises}
+use Rattle.model.proofs.Faults.{fault-bad, fault-end, fault-own}
+use Rattle.model.proofs.Reading.{ending, either-ending}
 use Rattle.model.proofs.RingThenBuffer.{parts-fault}
-use Rattle.log.specs.declared.newest.Newest.{Newest}
-use Rattle.log.specs.declared.newest.Newest.the-variants.{Absent, Broken}
-use Rattle.log.specs.Reading.{newestIn}
-use Rattle.log.proofs.NewestBelow.{newest-fault, newest-no-fault}
+use Rattle.log.specs.declared.read.Extent.{Extent}
+use Rattle.log.specs.Reading.{extentOf}
 use Rattle.abort.specs.declared.window.Window.{Window}
 use Rattle.abort.specs.Undo.{windowOf, Serving, reader, partsFrom}
-use Rattle.abort.proofs.Disks.{lent-reader}
+use Rattle.abort.proofs.Disks.{lent-reader, lent-to}
+
+-- a log in which no fault is found is read to its end
+pub sound-end : (disk : ℕ) (sc : Scan) → faultIn disk sc NoFault ≡ NoFault → ending sc ≡ end
+sound-end disk sc e = go (either-ending sc)
+  where
+    go : (ending sc ≡ end) ⊎ ((p : ℕ) × (ending sc ≡ bad p)) → ending sc ≡ end
+    go (inl x) = x
+    go (inr x) =
+        let f = sym (fault-bad disk sc NoFault (x .0) (x .1)) ∙ e in
+        let z : _≡_ {A = ℕ} 0 1 = cc in
+        absurd (omega arith)
 
 module _ {s : Sizes} {l : Logs} {disk : ℕ} {logs work : List ℕ} (at : Serving s l disk logs work) {r : Window} (e : r ≡ windowOf s l disk)
-    (number from : ℕ) where
-  -- the log up to a stop
-  abbrev upTo : ℕ → ℕ → Scan
-  upTo stop p = scan s (readLog s logs disk (r .tail) (take (r .stop - r .start) (drop (r .start) work))) stop p
+    (from : ℕ) where
+  -- the log in an extent
+  abbrev within : Extent → ℕ → Scan
+  within x p = scan s (readLog s logs disk (x .tail) (take (r .stop - r .start) (drop (r .start) work))) (x .end) p
 
   abbrev answer : Fault
   answer = faultIn disk (partsFrom s l disk logs work from) NoFault
 
-  parted : answer ≡ faultIn disk (upTo (r .tail) from) (faultIn disk (upTo (r .end) (max (r .tail) from)) NoFault)
-  unfolding partsFrom windowOf
-  parted = rw (lent-reader at e) (rw e (parts-fault s (reader s l disk logs work) (tailOf l disk) (endOf l disk) from disk NoFault))
+  module _ {ring : Extent} (to-tail : ring ≡ extentOf s disk (r .tail) (r .tail)) {f : Fault} (first : f ≡ faultIn disk (within ring from) NoFault) where
+    abbrev front : Scan
+    front = scan s (reader s l disk logs work) (tailOf l disk) from
 
-  -- what a search up to the tail meets
-  module _ {n : Newest} (ring : n ≡ newestIn number (r .tail) Absent (upTo (r .tail) from)) where
-    pub malformed-ring : (q : ℕ) → n ≡ Broken q → BadRecord disk q ≡ answer
-    malformed-ring q b =
-        sym (parted ∙ newest-fault number (r .tail) from (upTo (r .tail) from) (scan-rises s _ (r .tail) from) disk _ q (sym ring ∙ b))
+    abbrev back : Scan
+    back = scan s (reader s l disk logs work) (endOf l disk) (max (tailOf l disk) from)
 
-    -- and where it meets none, what a search from there on does
-    module _ (whole : (q : ℕ) → n ≡ Broken q → ⊥) {on : ℕ} (further : on ≡ max (r .tail) from) {m : Newest}
-        (buffer : m ≡ newestIn number (r .end) Absent (upTo (r .end) on)) where
-      rest : answer ≡ faultIn disk (upTo (r .end) on) NoFault
-      rest = parted ∙ newest-no-fault s _ (r .tail) number from disk _ (λ q b. whole q (ring ∙ b)) ∙ rw further refl
+    parted : answer ≡ faultIn disk front (faultIn disk back NoFault)
+    unfolding partsFrom
+    parted = parts-fault s (reader s l disk logs work) (tailOf l disk) (endOf l disk) from disk NoFault
 
-      pub malformed-buffer : (q : ℕ) → m ≡ Broken q → BadRecord disk q ≡ answer
-      malformed-buffer q b = sym (rest ∙ newest-fault number (r .end) on (upTo (r .end) on) (scan-rises s _ (r .end) on) disk _ q (sym buffer ∙ b))
+    met : f ≡ faultIn disk front NoFault
+    unfolding windowOf
+    met = first ∙ rw (lent-reader at e (r .tail) to-tail, lent-to at e (r .tail) to-tail) (rw e refl)
 
-      pub malformed-none : ((q : ℕ) → m ≡ Broken q → ⊥) → NoFault ≡ answer
-      malformed-none none = sym (rest ∙ newest-no-fault s _ (r .end) number on disk _ (λ q b. none q (buffer ∙ b)))
+    -- a search up to the tail meets one
+    pub malformed-ring : {d q : ℕ} → f ≡ BadRecord d q → BadRecord d q ≡ answer
+    malformed-ring b = sym (parted ∙ fault-own disk front (faultIn disk back NoFault) (sym met ∙ b))
+
+    -- and where it meets none, it is what a search from there on meets
+    pub malformed-rest : f ≡ NoFault → {whole : Extent} → whole ≡ extentOf s disk (r .tail) (r .end) → {on : ℕ} → on ≡ max (r .tail) from
+        → {g : Fault} → g ≡ faultIn disk (within whole on) NoFault → g ≡ answer
+    unfolding windowOf
+    malformed-rest none {whole} to-end {on} further {g} rest =
+        rest ∙ rw (lent-reader at e (r .end) to-end, lent-to at e (r .end) to-end, further)
+        (rw e (sym (parted ∙ fault-end disk front (faultIn disk back NoFault) (sound-end disk front (sym met ∙ none)))))

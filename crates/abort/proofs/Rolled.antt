@@ -10,7 +10,8 @@ use Rattle.model.specs.declared.Logs.{Logs}
 use Rattle.model.specs.declared.Core.{Core}
 use Rattle.model.specs.declared.Fault.the-variants.{NoFault}
 use Rattle.model.specs.Record.{close, encode, abortKind}
-use Rattle.model.specs.Scan.{Update, updatesIn, updateWords}
+use Rattle.model.specs.Scan.{scan, Update, updatesIn, updateWords}
+use Rattle.log.specs.Reading.{positionsIn}
 use Rattle.model.specs.World.{World, perform}
 use Rattle.model.specs.State.{endOf, isOpen, withLog}
 use Rattle.model.specs.Append.{Appended, append}
@@ -22,10 +23,10 @@ use Rattle.model.proofs.Sound.Abort.{undo-grown}
 use Rattle.device.proofs.Ran.{ran-whole, ran-then, ran-cut}
 use Rattle.abort.specs.declared.record.Progress.{Progress}
 use Rattle.abort.specs.declared.scope.Scope.{Scope}
-use Rattle.abort.specs.Undo.{Serving, Did, reader, logFrom, Undoable}
+use Rattle.abort.specs.Undo.{Serving, Did, reader, logFrom, updateRead, Undoable}
 use Rattle.abort.specs.Scope.{scopeOf, rolledBack}
 use Rattle.abort.proofs.Disks.{small, slim}
-use Rattle.abort.proofs.Found.{updates-found}
+use Rattle.abort.proofs.Standing.{last-first-every, length-read, listed}
 use Rattle.abort.proofs.Undone.{did-lengths}
 use Rattle.abort.proofs.Aborts.{scope-updates, scope-disk}
 
@@ -36,7 +37,12 @@ module _ (s : Sizes) (l : Logs) (w : World) (number disk from : ℕ) (ok : Undoa
 
   short : Every (λ u. length (u .diff) ≤ 32) us
   unfolding logFrom
-  short u m = slim (ok .serving) (updates-found s (reader s l disk (w .logs) (w .work)) (endOf l disk) number from u m .slotted)
+  short =
+      let read : ℕ → ℕ = reader s l disk (w .logs) (w .work) in
+      let found = listed s read (endOf l disk) number from in
+      rw (found .updates)
+      (last-first-every (updateRead read) (λ (u : Update). length (u .diff) ≤ 32) (positionsIn number (scan s read (endOf l disk) from))
+      (λ p m. omega (arith, length-read read p, slim (ok .serving) (found .stand p m .1 .slotted))))
 
   pub undone-serves : {budget rest : ℕ} {v : World} {r : Progress} → Did budget rest (undoAll s l w number disk us) w v r → r .finished ≡ true
       → Serving s (r .logs) disk (v .logs) (v .work)

@@ -1,6 +1,6 @@
 -- A record appended for an abort changes no word of the log that is still to be read.
 use mathlib.Core.Path.{_≡_, refl, sym, _∙_}
-use mathlib.Core.List.{List, [], _++_}
+use mathlib.Core.List.{List, [], _∷_, _++_, List·Memᴰ·head, List·Memᴰ·tail}
 use mathlib.Core.Bool.{Bool, true, false}
 use Prim.Native.Nat.{ℕ, _+_, _≤_, _<_}
 use native.Mathlib.Omega.{arith}
@@ -13,18 +13,20 @@ use Rattle.model.specs.declared.Logs.{Logs}
 use Rattle.model.specs.Word.{xors, part}
 use Rattle.model.specs.Sizes.{slotBase, ringOf, diskAt}
 use Rattle.model.specs.Record.{change, encode, compensationKind}
-use Rattle.model.specs.Scan.{Update}
+use Rattle.model.specs.Scan.{Update, updateWords}
 use Rattle.model.specs.World.{World, write, pages, each, perform}
 use Rattle.model.specs.Memory.{bufferAt, bufferOf, copyOf}
 use Rattle.model.specs.State.{tailOf, fillOf, endOf, withFill, afterFlush}
 use Rattle.model.specs.Append.{Appended, appendIf, append, storeAll, flush, buffered}
-use Rattle.model.specs.Abort.{xorIn, compensate}
-use Rattle.model.proofs.Run.{perform-append, perform-pages, perform-work}
+use Rattle.model.specs.Abort.{xorIn, compensate, undoAll}
+use Rattle.model.proofs.Run.{perform-append, perform-pages, perform-work, perform-lengths}
 use Rattle.model.proofs.Parts.{part-sets-end}
 use Rattle.model.proofs.Lengths.{length-buffer}
 use Rattle.model.proofs.Reader.{read-ring, read-append}
 use Rattle.model.proofs.Flush.{flush-reads}
-use Rattle.model.proofs.Growth.{SizedLogs, fill-set, tail-flushed}
+use Rattle.model.proofs.Growth.{SizedLogs, Small, Longer, fill-set, tail-flushed}
+use Rattle.model.proofs.Members.{Every, every-nil, every-cons}
+use Rattle.model.proofs.Sound.Abort.{undo-grown}
 use Rattle.log.proofs.Words.{change-length}
 use Rattle.abort.specs.Undo.{reader}
 
@@ -84,7 +86,7 @@ module _ (s : Sizes) (l : Logs) (w : World) (disk : ℕ) (sized : SizedLogs l) (
       go false e = flush-then-reads
 
 -- so does the compensation of an update
-pub compensate-reads : (s : Sizes) (l : Logs) (w : World) (number disk : ℕ) (u : Update) → SizedLogs l → disk < 8 → fillOf l disk ≤ 64
+compensate-reads : (s : Sizes) (l : Logs) (w : World) (number disk : ℕ) (u : Update) → SizedLogs l → disk < 8 → fillOf l disk ≤ 64
     → diskAt s disk + ringOf s disk + 1 ≤ length (w .logs) → bufferAt s disk + 64 ≤ length (w .work) → length (u .diff) ≤ 32
     → (q : ℕ) → q < endOf l disk → endOf l disk ≤ q + ringOf s disk
     → reader s (compensate s l w number disk u .logs) disk (perform (compensate s l w number disk u .actions) w .logs)
@@ -99,3 +101,24 @@ compensate-reads s l w number disk u sized below small disk-fits buffer-fits sho
     let back : List ℕ = xors (part at (length (u .diff)) (w .pages)) (u .diff) in
     rw (perform-append (added .actions) (each (write pages) at back) w, perform-pages at back (perform (added .actions) w))
     (append-reads s l w disk sized below small disk-fits buffer-fits words (omega (arith, long)) q before room)
+
+-- and of a list of them
+pub undo-reads : (s : Sizes) (l : Logs) (w : World) (number disk : ℕ) (us : List Update) → SizedLogs l → Small s l → disk < s .disks → disk < 8
+    → diskAt s disk + ringOf s disk + 1 ≤ length (w .logs) → bufferAt s disk + 64 ≤ length (w .work) → Every (λ u. length (u .diff) ≤ 32) us
+    → (q : ℕ) → q < endOf l disk → endOf l disk + updateWords us ≤ q + ringOf s disk
+    → reader s (undoAll s l w number disk us .logs) disk (perform (undoAll s l w number disk us .actions) w .logs)
+    (perform (undoAll s l w number disk us .actions) w .work) q
+    ≡ reader s l disk (w .logs) (w .work) q
+unfolding undoAll updateWords perform
+undo-reads s l w number disk [] sized small used below disk-fits buffer-fits short q before room = refl
+undo-reads s l w number disk (u ∷ us) sized small used below disk-fits buffer-fits short q before room =
+    let one : Appended = compensate s l w number disk u in
+    let v : World = perform (one .actions) w in
+    let narrow = short u (List·Memᴰ·head refl) in
+    let grown : Longer s disk (updateWords (u ∷ [])) l (one .logs) =
+    undo-grown s l w number disk (u ∷ []) sized small below (every-cons (λ (v : Update). length (v .diff) ≤ 32) u [] narrow (every-nil _)) in
+    let same = perform-lengths (one .actions) w in
+    rw (perform-append (one .actions) (undoAll s (one .logs) v number disk us .actions) w)
+    (undo-reads s (one .logs) v number disk us (grown .sized) (grown .small) used below (omega (arith, same .logs)) (omega (arith, same .work))
+    (λ x m. short x (List·Memᴰ·tail m)) q (omega (arith, grown .end-longer)) (omega (arith, grown .end-longer))
+    ∙ compensate-reads s l w number disk u sized below (small disk used) disk-fits buffer-fits narrow q before (omega arith))

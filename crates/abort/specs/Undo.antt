@@ -6,16 +6,15 @@ use Prim.Native.Nat.{ℕ, _+_, _≤_, _<_}
 use lib.ListN.{length}
 use Rattle.model.specs.declared.Sizes.{Sizes}
 use Rattle.model.specs.declared.Logs.{Logs}
-use Rattle.model.specs.declared.Fault.the-variants.{NoFault}
 use Rattle.model.specs.Sizes.{slotsIn, widthIn, ringOf, total, logWords, sizesInBounds}
-use Rattle.model.specs.Decode.{readLog, span}
-use Rattle.model.specs.Scan.{Scan, scan, ringThenBuffer, faultIn, Update, updatesIn, updateWords}
+use Rattle.model.specs.Decode.{readLog, span, pageField, slotField, widthField}
+use Rattle.model.specs.Scan.{Scan, scan, ringThenBuffer, Update, updatesIn, updateWords}
 use Rattle.model.specs.World.{World}
 use Rattle.model.specs.Memory.{bufferAt, workWords, bufferOf}
 use Rattle.model.specs.State.{limit, tailOf, fillOf, endOf}
 use Rattle.model.specs.Append.{Appended}
 use Rattle.device.specs.Ran.{Ran}
-use Rattle.log.specs.declared.newest.Site.{Site}
+use Rattle.abort.specs.declared.difference.Site.{Site}
 use Rattle.abort.specs.declared.window.Window.{Window}
 use Rattle.abort.specs.declared.record.Progress.{Progress}
 
@@ -62,6 +61,15 @@ logFrom s l disk logs work from = scan s (reader s l disk logs work) (endOf l di
 unfoldable pub partsFrom : Sizes → Logs → ℕ → List ℕ → List ℕ → ℕ → Scan
 partsFrom s l disk logs work from = ringThenBuffer s (reader s l disk logs work) (tailOf l disk) (endOf l disk) from
 
+-- where the update at a position stands, by the first word of its record
+unfoldable pub siteAt : (ℕ → ℕ) → ℕ → Site
+siteAt read p = record { position = p; page = pageField (read p); slot = slotField (read p); width = widthField (read p) }
+
+-- the update whose record stands at a position
+unfoldable pub updateRead : (ℕ → ℕ) → ℕ → Update
+updateRead read p =
+    record { position = p; page = pageField (read p); slot = slotField (read p); diff = span read (p + 3) (widthField (read p)) }
+
 -- the update whose record stands at a site
 unfoldable pub updateAt : Sizes → Logs → ℕ → List ℕ → List ℕ → Site → Update
 updateAt s l disk logs work site =
@@ -79,10 +87,9 @@ pub record Compensable (s : Sizes) (l : Logs) (disk : ℕ) (site : Site) (pages 
   pub slotted : InSlot s (site .page) (site .slot) (site .width)
   pub inside : site .position + 3 + site .width ≤ endOf l disk
 
--- The log from a position on has no malformed record, and there is room for what takes back the updates found there.
+-- There is room for what takes back the updates found in the log from a position on.
 pub record Undoable (s : Sizes) (l : Logs) (disk number from : ℕ) (pages logs work : List ℕ) : Type 0 where
   pub serving : Serving s l disk logs work
   pub page-words : length pages ≡ total s
-  pub readable : faultIn disk (logFrom s l disk logs work from) NoFault ≡ NoFault
   pub ring : endOf l disk + updateWords (updatesIn number (logFrom s l disk logs work from)) ≤ from + ringOf s disk
   pub in-limit : endOf l disk + updateWords (updatesIn number (logFrom s l disk logs work from)) ≤ limit

@@ -21,7 +21,7 @@ pub fn fault_of(core: Core, number: u64, logs: &[u64], work: &[u64]) -> Fault
     let at = scope_of(core, number);
     let sizes = core.sizes;
     let state = core.logs;
-    let malformed = malformed_from(sizes, state, at.disk, number, at.from, logs, work);
+    let malformed = malformed_from(sizes, state, at.disk, at.from, logs, work);
     if let Fault::BadRecord { disk, position } = malformed {
         return Fault::BadRecord { disk, position };
     }

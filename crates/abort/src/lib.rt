@@ -2,6 +2,7 @@
 pub mod abort;
 mod difference;
 mod fault;
+mod notes;
 mod reading;
 mod record;
 mod scope;

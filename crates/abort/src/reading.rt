@@ -1,19 +1,20 @@
 // The log of a disk, ring then buffer: its first malformed record, and a transaction's updates.
 use crate::window::window_of;
-use log::newest::Newest;
-use log::newest::abort_words;
-use log::newest::newest_update;
+use log::read::extent_of;
+use log::scan::first_malformed;
+use log::updates::Group;
+use log::updates::abort_words;
+use log::updates::first_updates;
 use model::Fault;
 use model::Logs;
 use model::Sizes;
 ghost use mathlib.Core.Path.{_≡_};
 ghost use Prim.Native.Nat.{_≤_, max};
 ghost use Rattle.model.specs.declared.Fault.the-variants.{NoFault};
-ghost use Rattle.model.specs.Scan.{faultIn, updatesIn, updateWords};
+ghost use Rattle.model.specs.Scan.{scan, faultIn, updatesIn, updateWords};
 ghost use Rattle.model.specs.State.{endOf};
-ghost use Rattle.log.specs.declared.newest.Newest.the-variants.{Absent};
-ghost use Rattle.log.specs.Reading.{newestIn};
-ghost use Rattle.abort.specs.Undo.{Serving, logFrom, partsFrom};
+ghost use Rattle.log.specs.Reading.{Gathered};
+ghost use Rattle.abort.specs.Undo.{Serving, reader, logFrom, partsFrom};
 
 // The larger of two positions.
 fn larger(a: u64, b: u64) -> u64
@@ -25,12 +26,11 @@ fn larger(a: u64, b: u64) -> u64
     a
 }
 
-// The first malformed record from a position on: up to the tail, then in the buffer. The search for an update is what meets it.
+// The first malformed record from a position on: up to the tail, then in the buffer.
 pub fn malformed_from(
     sizes: Sizes,
     state: Logs,
     disk: u64,
-    number: u64,
     from: u64,
     logs: &[u64],
     work: &[u64],
@@ -43,48 +43,35 @@ pub fn malformed_from(
     let stop = log.stop as usize;
     let buffer = &work[start..stop];
     let tail = log.tail;
-    let end = log.end;
-    let in_ring = newest_update(sizes, logs, disk, tail, buffer, tail, from, number, tail);
-    if let Newest::Broken { position } = in_ring {
-        return Fault::BadRecord { disk, position };
+    let ring = extent_of(sizes, disk, tail, tail);
+    let in_ring = first_malformed(sizes, logs, disk, ring, buffer, from);
+    if let Fault::BadRecord { disk: d, position } = in_ring {
+        return Fault::BadRecord { disk: d, position };
     }
+    let whole = extent_of(sizes, disk, tail, log.end);
     let on = larger(tail, from);
-    let in_buffer = newest_update(sizes, logs, disk, tail, buffer, end, on, number, end);
-    if let Newest::Broken { position } = in_buffer {
-        return Fault::BadRecord { disk, position };
-    }
-    Fault::NoFault
+    first_malformed(sizes, logs, disk, whole, buffer, on)
 }
 
-// The newest update before a bound, from a position on.
-pub fn newest_before(
+// The positions of a transaction's first 128 updates, from a position on, in the log up to an end.
+pub fn group_from(
     sizes: Sizes,
     state: Logs,
     disk: u64,
     number: u64,
     from: u64,
-    bound: u64,
+    end: u64,
     logs: &[u64],
     work: &[u64],
-) -> Newest
-    requires { ⌜ Serving sizes state disk (now logs) (now work) ⌝ }
-    requires { ⌜ bound ≤ endOf state disk ⌝ }
-    ensures { λ r. ⌜ r ≡ newestIn number bound Absent (logFrom sizes state disk (now (logs .entry)) (now (work .entry)) from) ⌝ }
+) -> Group
+    requires { ⌜ Serving sizes state disk (now logs) (now work) × (end ≤ endOf state disk) ⌝ }
+    ensures { λ r. ⌜ Gathered number (scan sizes (reader sizes state disk (now (logs .entry)) (now (work .entry))) end) from r ⌝ }
 {
     let log = window_of(sizes, state, disk);
     let start = log.start as usize;
     let stop = log.stop as usize;
-    newest_update(
-        sizes,
-        logs,
-        disk,
-        log.tail,
-        &work[start..stop],
-        log.end,
-        from,
-        number,
-        bound,
-    )
+    let extent = extent_of(sizes, disk, log.tail, end);
+    first_updates(sizes, logs, extent, &work[start..stop], from, number)
 }
 
 // The words of the update records from a position on.
@@ -103,14 +90,6 @@ pub fn words_from(
     let log = window_of(sizes, state, disk);
     let start = log.start as usize;
     let stop = log.stop as usize;
-    abort_words(
-        sizes,
-        logs,
-        disk,
-        log.tail,
-        &work[start..stop],
-        log.end,
-        from,
-        number,
-    )
+    let extent = extent_of(sizes, disk, log.tail, log.end);
+    abort_words(sizes, logs, extent, &work[start..stop], from, number)
 }

@@ -1,20 +1,24 @@
 // The updates of a transaction taken back, newest first.
+use crate::difference::Site;
 use crate::difference::difference_at;
-use crate::reading::newest_before;
+use crate::difference::site_at;
+use crate::notes::notes_from;
+use crate::reading::group_from;
 use crate::record::Progress;
 use crate::record::log_compensation;
 use layout::places::slot_base;
-use log::newest::Newest;
-use log::newest::Site;
+use log::updates::Group;
 use model::Logs;
 use model::Sizes;
 use words::xor_in;
 ghost use mathlib.Core.List.{List};
-ghost use Prim.Native.Nat.{ℕ, _+_};
+ghost use Prim.Native.Nat.{ℕ, _+_, _≤_};
+ghost use lib.ListN.{take};
 ghost use Rattle.model.specs.Scan.{updatesIn};
 ghost use Rattle.model.specs.World.{worldOf};
 ghost use Rattle.model.specs.Abort.{compensate, undoAll};
-ghost use Rattle.abort.specs.Undo.{Did, logFrom, updateAt, Compensable, Undoable};
+ghost use Rattle.abort.specs.Undo.{Did, reader, logFrom, updateAt, updateRead, Compensable, Undoable};
+ghost use Rattle.abort.specs.Groups.{lastFirst, Takeable};
 
 // Takes back the update at a site: its compensation is appended, and the slot changed back.
 fn undo_one(
@@ -57,7 +61,45 @@ fn undo_one(
     one
 }
 
-// Takes back all updates of a transaction in the log of its disk from a position on, as far as the budget goes.
+// Takes back the updates of a group, the last first, as far as the budget goes.
+fn undo_group(
+    sizes: Sizes,
+    state: Logs,
+    disk: u64,
+    number: u64,
+    group: Group,
+    pages: &mut [u64],
+    logs: &mut [u64],
+    work: &mut [u64],
+    budget: &mut u64,
+) -> Progress
+    requires { ⌜ (group .count ≤ 128) × Takeable sizes state disk (take (group .count) (group .at)) (now pages) (now logs) (now work) ⌝ }
+    ensures { λ r. ⌜ ((anchor backups : List ℕ) → Did (now (budget .entry)) (now (budget .exit))
+        (undoAll sizes state (worldOf anchor (now (pages .entry)) backups (now (logs .entry)) (now (work .entry))) number disk
+        (lastFirst (updateRead (reader sizes state disk (now (logs .entry)) (now (work .entry)))) (take (group .count) (group .at))))
+        (worldOf anchor (now (pages .entry)) backups (now (logs .entry)) (now (work .entry)))
+        (worldOf anchor (now (pages .exit)) backups (now (logs .exit)) (now (work .exit))) r) ⌝ }
+{
+    let at = group.at;
+    let mut after = state;
+    let mut n = group.count;
+    while 0 < n {
+        n -= 1;
+        let site = site_at(sizes, after, disk, at[n as usize], logs, work);
+        let one = undo_one(sizes, after, disk, number, site, pages, logs, work, budget);
+        if !one.finished {
+            return one;
+        }
+        after = one.logs;
+    }
+    Progress {
+        finished: true,
+        logs: after,
+    }
+}
+
+// Takes back all updates of a transaction in the log of its disk from a position on, as far as the budget goes: the groups of 128, last
+// to first, each read once from where it begins.
 pub fn undo_all(
     sizes: Sizes,
     state: Logs,
@@ -77,21 +119,22 @@ pub fn undo_all(
         (worldOf anchor (now (pages .exit)) backups (now (logs .exit)) (now (work .exit))) r) ⌝ }
 {
     let d = disk as usize;
+    let end = state.tails[d] + state.fills[d];
+    let notes = notes_from(sizes, state, disk, number, from, end, logs, work);
+    let at = notes.at;
     let mut after = state;
-    let mut bound = state.tails[d] + state.fills[d];
-    loop {
-        let newest = newest_before(sizes, after, disk, number, from, bound, logs, work);
-        let Newest::At { site } = newest else {
-            return Progress {
-                finished: true,
-                logs: after,
-            };
-        };
-        let one = undo_one(sizes, after, disk, number, site, pages, logs, work, budget);
-        if !one.finished {
-            return one;
+    let mut k = notes.count;
+    while 0 < k {
+        k -= 1;
+        let group = group_from(sizes, after, disk, number, at[k as usize], end, logs, work);
+        let part = undo_group(sizes, after, disk, number, group, pages, logs, work, budget);
+        if !part.finished {
+            return part;
         }
-        after = one.logs;
-        bound = site.position;
+        after = part.logs;
+    }
+    Progress {
+        finished: true,
+        logs: after,
     }
 }

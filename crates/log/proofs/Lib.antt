@@ -2,8 +2,7 @@
 pub mod Decoding
 pub mod Scanning
 pub mod Rings
-pub mod NewestBelow
-pub mod Kept
+pub mod Gathering
 pub mod Ready
 -- Writing: runs of words set in a list, and runs of words stored in a ring.
 pub mod Words

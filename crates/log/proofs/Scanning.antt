@@ -4,9 +4,8 @@ use mathlib.Core.Path.{_≡_, refl, sym, ap, _∙_}
 use mathlib.Core.List.{List, [], _∷_}
 use mathlib.Core.Bool.{Bool, true, false, cond, _&&_}
 use native.Mathlib.Omega.{arith}
-use native.Mathlib.Decide.{decLt}
 use lib.Dec.{eqb}
-use borrow.Author.Tests.{lt-ltb, le-ltb, eq-eqb, ne-eqb}
+use borrow.Author.Tests.{eq-eqb, ne-eqb}
 use Rattle.model.specs.declared.Sizes.{Sizes}
 use Rattle.model.specs.declared.Decoded.{Decoded}
 use Rattle.model.specs.declared.Decoded.the-variants.{Change, Close, Malformed}
@@ -15,27 +14,13 @@ use Rattle.model.specs.declared.Fault.{Fault}
 use Rattle.model.specs.declared.Fault.the-variants.{NoFault, BadRecord}
 use Rattle.model.specs.Record.{updateKind}
 use Rattle.model.specs.Decode.{readLog, span, decodeAt}
-use Rattle.model.specs.Scan.{Scan, scanned, scan, fateIn, faultIn, Update, updatesIn, updateWords}
+use Rattle.model.specs.Scan.{Scan, scan, fateIn, faultIn, Update, updatesIn, updateWords}
 use Rattle.model.specs.Causes.{tailIn, retainedFrom, faultFrom}
 use Rattle.model.proofs.Decode.{ChangeAt, CloseAt, found-change, found-close}
 use Rattle.model.proofs.Restart.Gain.{length-span}
 use Rattle.model.proofs.Updates.{update-words-append}
-use Rattle.model.proofs.Scan.{scan-end, scan-step, scan-change, scan-close, scan-bad}
-use Rattle.log.specs.declared.newest.Newest.{Newest}
-use Rattle.log.specs.declared.newest.Newest.the-variants.{Broken}
-use Rattle.log.specs.Reading.{isUpdateOf, foundAt, newerOf, newestIn}
-
--- an update of the transaction takes the place of what was found before, no other record does
-module _ (t p : ℕ) (sofar : Newest) {r : Decoded} {kind page slot number copy width next : ℕ} {b : Bool}
-    (e : r ≡ Change kind page slot number copy width next) (is : b ≡ isUpdateOf t (Change kind page slot number copy width next)) where
-  newer-change : cond b (foundAt p page slot width) sofar ≡ newerOf t p r sofar
-  newer-change = rw (is, e)
-
-  pub newer-update : b ≡ true → foundAt p page slot width ≡ newerOf t p r sofar
-  newer-update u = ap (λ (x : Bool). cond x (foundAt p page slot width) sofar) (sym u) ∙ newer-change
-
-  pub newer-other : b ≡ false → sofar ≡ newerOf t p r sofar
-  newer-other u = ap (λ (x : Bool). cond x (foundAt p page slot width) sofar) (sym u) ∙ newer-change
+use Rattle.model.proofs.Scan.{scan-end, scan-change, scan-close, scan-bad}
+use Rattle.log.specs.Reading.{isUpdateOf}
 
 module _ (s : Sizes) (read : ℕ → ℕ) (stop : ℕ) where
   -- what is known of a record r that was decoded at p
@@ -91,43 +76,6 @@ module _ (s : Sizes) (read : ℕ → ℕ) (stop : ℕ) where
     pub fault-bad : r ≡ Malformed → BadRecord disk p ≡ faultIn disk (scan s read stop p) rest
     unfolding faultIn
     fault-bad e = sym (ap (λ (x : Scan). faultIn disk x rest) (scan-bad s read stop h (sym is ∙ e)))
-
-  -- the newest update below a bound
-  newest-cut : (t bound p : ℕ) (sofar : Newest) (d : Decoded) (f : ℕ → Scan) → bound ≤ p
-      → newestIn t bound sofar (scanned read p d f) ≡ sofar
-  unfolding newestIn
-  newest-cut t bound p sofar (Change kind page slot number copy width next) f l = simp (le-ltb p bound l)
-  newest-cut t bound p sofar (Close kind number next) f l = simp (le-ltb p bound l)
-  newest-cut t bound p sofar Malformed f l = simp (le-ltb p bound l)
-
-  pub newest-end : (t bound p : ℕ) (sofar : Newest) → bound ≤ p → newestIn t bound sofar (scan s read stop p) ≡ sofar
-  unfolding newestIn
-  newest-end t bound p sofar l = go (decLt p stop)
-    where
-      go : Dec (p < stop) → newestIn t bound sofar (scan s read stop p) ≡ sofar
-      go (yes h) =
-          ap (newestIn t bound sofar) (scan-step s read stop p h) ∙ newest-cut t bound p sofar (decodeAt s read stop p) (scan s read stop) l
-      go (no h) = ap (newestIn t bound sofar) (scan-end s read stop p (omega arith))
-
-  module _ {p : ℕ} {r : Decoded} (is : r ≡ decodeAt s read stop p) (h : p < stop) (t bound : ℕ) (l : p < bound) (sofar : Newest) where
-    pub newest-change : {kind page slot number copy width next : ℕ} {found : Newest}
-        → r ≡ Change kind page slot number copy width next
-        → found ≡ newerOf t p (Change kind page slot number copy width next) sofar
-        → newestIn t bound found (scan s read stop next) ≡ newestIn t bound sofar (scan s read stop p)
-    unfolding newestIn
-    newest-change {width} e f =
-        rw f
-        (sym (ap (newestIn t bound sofar) (scan-change s read stop h (sym is ∙ e))
-        ∙ simp (lt-ltb p bound l, length-span read (p + 3) width)))
-
-    pub newest-close : {kind number next : ℕ} → r ≡ Close kind number next
-        → newestIn t bound sofar (scan s read stop next) ≡ newestIn t bound sofar (scan s read stop p)
-    unfolding newestIn
-    newest-close e = sym (ap (newestIn t bound sofar) (scan-close s read stop h (sym is ∙ e)) ∙ simp (lt-ltb p bound l))
-
-    pub newest-bad : r ≡ Malformed → Broken p ≡ newestIn t bound sofar (scan s read stop p)
-    unfolding newestIn
-    newest-bad e = sym (ap (newestIn t bound sofar) (scan-bad s read stop h (sym is ∙ e)) ∙ simp (lt-ltb p bound l))
 
   -- the words of a transaction's updates: n of them counted before p
   pub words-end : {n sum : ℕ} (t p : ℕ) → stop ≤ p → n + updateWords (updatesIn t (scan s read stop p)) ≡ sum → n ≡ sum

@@ -3,18 +3,17 @@ use mathlib.Core.Path.{_≡_}
 use Prim.Native.Nat.{ℕ, _+_, _/_, _^_, _≤_, _<_}
 use mathlib.Core.List.{List, [], _∷_}
 use mathlib.Core.Bool.{Bool, true, false, cond, _&&_}
-use lib.ListN.{length, getD}
-use lib.Dec.{ltb, eqb}
+use lib.ListN.{length, getD, take, drop}
+use lib.Dec.{eqb}
 use Rattle.model.specs.declared.Sizes.{Sizes}
 use Rattle.model.specs.declared.Decoded.{Decoded}
 use Rattle.model.specs.declared.Decoded.the-variants.{Change, Close, Malformed}
 use Rattle.model.specs.Sizes.{ringOf, diskAt, logWords, sizesInBounds}
 use Rattle.model.specs.Record.{change, close, updateKind}
 use Rattle.model.specs.Decode.{kindField, pageField, slotField, widthField, misplaced}
-use Rattle.model.specs.Scan.{Scan, end, bad, item, Update}
+use Rattle.model.specs.Scan.{Scan, end, bad, item}
 use Rattle.log.specs.declared.read.Extent.{Extent}
-use Rattle.log.specs.declared.newest.Newest.{Newest}
-use Rattle.log.specs.declared.newest.Newest.the-variants.{At, Absent, Broken}
+use Rattle.log.specs.declared.updates.Group.{Group}
 
 -- a change by its first three words, a closing record by its two: what decodeWords makes of a known kind
 abbrev pub decodedChange : Sizes → ℕ → ℕ → ℕ → ℕ → Decoded
@@ -58,34 +57,18 @@ isUpdateOf number (Change kind page slot n copy width next) = eqb kind updateKin
 isUpdateOf number (Close kind n next) = false
 isUpdateOf number Malformed = false
 
--- the search came to an update
-abbrev pub foundAt : (position page slot width : ℕ) → Newest
-foundAt position page slot width = At (record { position = position; page = page; slot = slot; width = width })
+-- the positions of a transaction's updates, oldest first
+unfoldable pub positionsIn : ℕ → Scan → List ℕ
+positionsIn number end = []
+positionsIn number (bad p) = []
+positionsIn number (item p (close kind n) rest) = positionsIn number rest
+positionsIn number (item p (change kind page slot n copy diff) rest) =
+    cond (eqb kind updateKind && eqb n number) (p ∷ positionsIn number rest) (positionsIn number rest)
 
--- the update decoded at p if it is one of the transaction, and else what was found before it
-abbrev pub newerOf : ℕ → ℕ → Decoded → Newest → Newest
-newerOf number p (Change kind page slot n copy width next) sofar =
-    cond (eqb kind updateKind && eqb n number) (foundAt p page slot width) sofar
-newerOf number p (Close kind n next) sofar = sofar
-newerOf number p Malformed sofar = sofar
-
--- the newest update of a transaction before a bound, and `sofar` where there is none
-unfoldable pub newestIn : ℕ → ℕ → Newest → Scan → Newest
-newestIn number bound sofar end = sofar
-newestIn number bound sofar (bad p) = cond (ltb p bound) (Broken p) sofar
-newestIn number bound sofar (item p (close kind n) rest) = cond (ltb p bound) (newestIn number bound sofar rest) sofar
-newestIn number bound sofar (item p (change kind page slot n copy diff) rest) =
-    cond (ltb p bound)
-    (newestIn number bound (cond (eqb kind updateKind && eqb n number) (foundAt p page slot (length diff)) sofar) rest)
-    sofar
-
--- of a transaction's updates, newest first: the head of those below a bound, and `other` where there is none
-unfoldable pub newestBelow : ℕ → Newest → List Update → Newest
-newestBelow bound other [] = other
-newestBelow bound other (u ∷ us) =
-    cond (ltb (u .position) bound) (foundAt (u .position) (u .page) (u .slot) (length (u .diff))) (newestBelow bound other us)
-
--- the newest of a transaction's updates, newest first
-unfoldable pub newestOf : List Update → Newest
-newestOf [] = Absent
-newestOf (u ∷ us) = foundAt (u .position) (u .page) (u .slot) (length (u .diff))
+-- In a log read from a position on: the positions of a transaction's first 128 updates, and a position from which the others are read.
+pub record Gathered (number : ℕ) (log : ℕ → Scan) (from : ℕ) (r : Group) : Type 0 where
+  pub few : r .count ≤ 128
+  pub many : r .count ≡ length (take 128 (positionsIn number (log from)))
+  pub behind : from ≤ r .next
+  pub first : take (r .count) (r .at) ≡ take 128 (positionsIn number (log from))
+  pub others : positionsIn number (log (r .next)) ≡ drop 128 (positionsIn number (log from))

@@ -1,6 +1,6 @@
 // A disk's log on slices and numbers, without state: its ring in the logs of all disks, then its buffer.
-pub mod newest;
 pub mod read;
 pub mod ring;
 pub mod scan;
+pub mod updates;
 pub mod write;

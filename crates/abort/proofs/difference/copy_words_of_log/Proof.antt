@@ -1,24 +1,29 @@
 -- `abort::difference::copy_words_of_log` meets its contract: after i turns the first i words are copied. Assumes nothing.
-use mathlib.Core.Path.{_≡_, refl}
-use Prim.Native.Nat.{_-_, _≤_}
+use mathlib.Core.Path.{_≡_, refl, _∙_}
+use Prim.Native.Nat.{ℕ, _-_, _≤_}
 use native.Mathlib.Omega.{arith}
-use lib.Seq.{sets, length-sets}
+use lib.ListN.{length, length-set}
+use lib.Seq.{sets}
+use Rattle.model.specs.declared.Sizes.{Sizes}
 use Rattle.model.specs.Decode.{readLog, span}
+use Rattle.log.specs.Reading.{LiesAt}
 use Rattle.abort.proofs.Spans.{set-span}
 use borrow.Author.Needs.{needs}
 use Rattle.abort.proofs.difference.copy_words_of_log.Statement.{statement}
 use Rattle.abort.proofs.difference.copy_words_of_log.Tie as tie
 
 abbrev Inv-loop : tie.InvT-loop
-Inv-loop out₀ sizes logs disk tail buffer end position n i₀ out i =
-    (i ≤ n) × (out ≡ sets out₀ 0 (span (readLog sizes logs disk tail buffer) position i))
+Inv-loop out₀ logs buffer position n place ring tail i₀ out i =
+    (i ≤ n) × (length out ≡ length out₀)
+    × ((s : Sizes) (disk : ℕ) → LiesAt s disk place ring
+    → out ≡ sets out₀ 0 (span (readLog s logs disk tail buffer) position i))
 
 abbrev μ-loop : tie.MeasureT-loop
-μ-loop out₀ sizes logs disk tail buffer end position n i₀ out i = n - i
+μ-loop out₀ logs buffer position n place ring tail i₀ out i = n - i
 
 loop-holds : tie.Need-loop-holds Inv-loop μ-loop
 unfolding span
-loop-holds c = (omega arith, refl)
+loop-holds c = (omega arith, refl, λ s disk lies. refl)
 
 add-read-word : tie.Need-add-read-word Inv-loop μ-loop
 add-read-word c = omega arith
@@ -27,7 +32,7 @@ mul-out : tie.Need-mul-out Inv-loop μ-loop
 mul-out c = omega arith
 
 slice-write-out : tie.Need-slice-write-out Inv-loop μ-loop
-slice-write-out c = rw (c .before .before .loop .inv .1, length-sets) (omega arith)
+slice-write-out c = omega (arith, c .before .before .loop .inv .1)
 
 add-i : tie.Need-add-i Inv-loop μ-loop
 add-i c = omega arith
@@ -37,20 +42,23 @@ loop-less c = omega arith
 
 loop-again : tie.Need-loop-again Inv-loop μ-loop
 loop-again c =
-    let args = c .before .before .before .before .before .before .args in
-    let a = args in
-    let l = c .before .before .loop in
-    let read = readLog (a .sizes) (a .logs .now) (a .disk) (a .tail) (a .buffer .now) in
-    (omega arith, rw (l .inv .1, c .read-word .ensures (a .sizes) refl) (set-span (a .out .now) read (a .position) (l .i)))
+    let a = c .before .before .before .before .before .before .args in
+    let l = c .before .before .loop in (
+      omega arith,
+      length-set (l .out) (l .i) _ ∙ l .inv .1,
+      λ s disk lies.
+          let read : ℕ → ℕ = readLog s (a .logs .now) disk (a .extent .tail) (a .buffer .now) in
+          rw (l .inv .2 s disk lies, c .read-word .ensures s disk lies) (set-span (a .out .now) read (a .position) (l .i)),
+    )
 
 same-length : tie.Need-same-length Inv-loop μ-loop
-same-length c = rw (c .before .loop .inv .1) (simp length-sets)
+same-length c = c .before .loop .inv .1
 
 returns : tie.Need-returns Inv-loop μ-loop
 returns c =
     let args = c .before .before .before .before .before .args in
     let e : c .before .loop .i ≡ args .n = omega arith in
-    rw (← e) (c .before .loop .inv .1)
+    λ s disk lies. rw (← e) (c .before .loop .inv .2 s disk lies)
 
 pub copy-words-of-log-spec : {M : Type 1} → statement M
 copy-words-of-log-spec =

@@ -1,157 +1,131 @@
--- `abort::undo::undo_all` meets its contract. The loop's invariant: what takes back the updates that are left takes back all, and the
--- log that is still to be read is as it was. Assumes nothing.
-use mathlib.Core.Path.{_≡_, refl, sym, _∙_}
-use mathlib.Core.Logic.{_⊎_, inl, inr}
+-- `abort::undo::undo_all` meets its contract. The loop's invariant: what takes back the first 128 * k updates takes back all. Assumes
+-- nothing.
+use mathlib.Core.Path.{_≡_, sym, _∙_}
 use mathlib.Core.List.{[]}
-use Prim.Native.Nat.{ℕ}
+use Prim.Native.Nat.{_*_, _≤_}
 use native.Mathlib.Omega.{arith}
+use lib.ListN.{take}
+use lib.Seq.{take-all}
 use borrow.Author.Tests.{not-true, not-false}
+use Rattle.model.specs.Scan.{scan}
 use Rattle.model.specs.State.{tailOf, fillOf, endOf}
+use Rattle.log.specs.Reading.{positionsIn}
+use Rattle.abort.specs.Undo.{reader}
 use Rattle.abort.proofs.Disks.{small}
 use Rattle.abort.proofs.Undone.{did-lengths}
-use Rattle.abort.proofs.Pending.{Pending, pending-start, pending-newest, pending-last, pending-one, pending-below, pending-cut, pending-step}
+use Rattle.abort.proofs.Pending.{Pending, pending-start, pending-last}
+use Rattle.abort.proofs.Noting.{all-updates, all-takeable, all-few, group-takeable, group-cut, group-step}
 use borrow.Author.Needs.{needs}
 use Rattle.abort.proofs.undo.undo_all.Statement.{statement}
 use Rattle.abort.proofs.undo.undo_all.Tie as tie
 
--- the search names no update
-not-told : {m : ℕ} → (m ≡ 1) ⊎ (m ≡ 2) → m ≡ 0 → ⊥
-not-told (inl e) z = omega arith
-not-told (inr e) z = omega arith
-
 abbrev Inv-loop : tie.InvT-loop
-Inv-loop sizes disk number from pages₀ logs₀ work₀ budget₀ d after₀ bound₀ pages logs work budget after bound =
-    Pending sizes disk number from after₀ pages₀ logs₀ work₀ budget₀ after pages logs work budget bound
+Inv-loop sizes disk number from pages₀ logs₀ work₀ budget₀ d end at after₀ k₀ pages logs work budget after k =
+    (k ≤ k₀)
+    × Pending sizes disk number after₀ pages₀ logs₀ work₀ budget₀
+    (positionsIn number (scan sizes (reader sizes after₀ disk logs₀ work₀) (endOf after₀ disk) from)) after pages logs work budget
+    (take (128 * k) (positionsIn number (scan sizes (reader sizes after₀ disk logs₀ work₀) (endOf after₀ disk) from)))
 
 abbrev μ-loop : tie.MeasureT-loop
-μ-loop sizes disk number from pages₀ logs₀ work₀ budget₀ d after₀ bound₀ pages logs work budget after bound = bound
+μ-loop sizes disk number from pages₀ logs₀ work₀ budget₀ d end at after₀ k₀ pages logs work budget after k = k
 
-mul-bound : tie.Need-mul-bound Inv-loop μ-loop
-mul-bound c =
-    let pre = c .before .before .before .pre in
-    let b = small (pre .serving) in omega (arith, b .below)
+mul-end : tie.Need-mul-end Inv-loop μ-loop
+mul-end c = let b = small (c .before .before .before .pre .serving) in omega (arith, b .below)
 
-element-copy-out-bound : tie.Need-element-copy-out-bound Inv-loop μ-loop
-element-copy-out-bound c =
-    let pre = c .before .before .before .pre in
-    small (pre .serving) .below
+mul-end-2 : tie.Need-mul-end-2 Inv-loop μ-loop
+mul-end-2 c = let b = small (c .before .before .before .before .pre .serving) in omega (arith, b .below)
 
-mul-bound-2 : tie.Need-mul-bound-2 Inv-loop μ-loop
-mul-bound-2 c =
-    let pre = c .before .before .before .before .pre in
-    let b = small (pre .serving) in omega (arith, b .below)
-
-element-copy-out-bound-2 : tie.Need-element-copy-out-bound-2 Inv-loop μ-loop
-element-copy-out-bound-2 c =
-    let pre = c .before .before .before .before .pre in
-    small (pre .serving) .below
-
-add-bound : tie.Need-add-bound Inv-loop μ-loop
+add-end : tie.Need-add-end Inv-loop μ-loop
 unfolding endOf tailOf fillOf
-add-bound c =
-    let pre = c .before .before .before .before .before .pre in
-    omega (arith, pre .serving .end-small)
+add-end c = omega (arith, c .before .before .before .before .before .pre .serving .end-small)
+
+notes-from-requires : tie.Need-notes-from-requires Inv-loop μ-loop
+unfolding endOf tailOf fillOf
+notes-from-requires c κs =
+    let pre = c .before .before .before .before .before .before .before .pre in
+    ((pre .serving, omega arith), all-few _ _ _ _ _ _ _ _ pre)
 
 loop-holds : tie.Need-loop-holds Inv-loop μ-loop
 unfolding endOf tailOf fillOf
 loop-holds c =
-    let pre = c .before .before .before .before .before .pre in
-    pending-start _ _ _ _ _ _ _ _ _ (pre) (record { starts = search needs; tails = search needs; fills = search needs }) refl
+    let pre = c .before .before .before .before .before .before .before .before .before .pre in
+    let noted = c .before .notes-from .ensures in (
+      omega arith,
+      rw (take-all _ _ (noted .all))
+          (pending-start _ _ _ _ _ _ _ _ _ (all-takeable _ _ _ _ _ _ _ _ pre) (record { starts = search needs; tails = search needs; fills = search needs })),
+    )
 
-newest-before-requires : tie.Need-newest-before-requires Inv-loop μ-loop
-newest-before-requires c κs = let p = c .before .before .loop .inv in (p .serving, omega (arith, p .bound-low, p .longer))
+mul-group-from : tie.Need-mul-group-from Inv-loop μ-loop
+mul-group-from c = let few = c .before .before .before .notes-from .ensures .few in omega (arith, c .before .loop .inv .0)
 
-enum-known-newest : tie.Need-enum-known-newest Inv-loop μ-loop
-enum-known-newest c = c .match .keys1
+array-read-group-from : tie.Need-array-read-group-from Inv-loop μ-loop
+array-read-group-from c = let few = c .before .before .before .notes-from .ensures .few in omega (arith, c .before .loop .inv .0)
+
+group-from-requires : tie.Need-group-from-requires Inv-loop μ-loop
+unfolding endOf tailOf fillOf
+group-from-requires c κs = let p = c .before .before .before .loop .inv .1 in (p .serving, p .longer)
+
+undo-group-requires : tie.Need-undo-group-requires Inv-loop μ-loop
+unfolding endOf tailOf fillOf
+undo-group-requires c κs =
+    let pre = c .before .before .before .before .before .before .before .before .before .before .before .before .before .before .before .before .before .before .pre in
+    let inv = c .before .before .before .before .before .before .before .before .loop .inv in
+    let got = c .before .before .before .before .group-from .ensures in (
+      got .few,
+      group-takeable _ _ _ _ _ _ _ _ pre _ (c .before .before .before .before .before .before .before .loop-test .taken) (inv .1) (c .before .before .before .before .before .before .before .before .before .before .notes-from .ensures) (inv .0) got,
+    )
 
 same-length : tie.Need-same-length Inv-loop μ-loop
 same-length c =
-    let pre = c .before .before .before .before .before .before .before .before .before .before .pre in
-    let turn = c .before .before .before .before .loop in
-    turn .inv .page-words ∙ sym (pre .page-words)
+    did-lengths (c .before .before .before .before .before .before .before .before .undo-group .ensures [] []) .pages ∙ c .before .before .before .before .before .before .before .before .before .before .before .before .before .before .before .before .before .loop .inv .1 .page-words ∙ sym (c .before .before .before .before .before .before .before .before .before .before .before .before .before .before .before .before .before .before .before .before .before .before .before .before .before .before .before .pre .page-words)
 
 same-length-2 : tie.Need-same-length-2 Inv-loop μ-loop
 same-length-2 c =
-    let pre = c .before .before .before .before .before .before .before .before .before .before .pre in
-    let turn = c .before .before .before .before .loop in
-    turn .inv .serving .log-words ∙ sym (pre .serving .log-words)
+    did-lengths (c .before .before .before .before .before .before .before .before .undo-group .ensures [] []) .logs ∙ c .before .before .before .before .before .before .before .before .before .before .before .before .before .before .before .before .before .loop .inv .1 .serving .log-words ∙ sym (c .before .before .before .before .before .before .before .before .before .before .before .before .before .before .before .before .before .before .before .before .before .before .before .before .before .before .before .pre .serving .log-words)
 
 same-length-3 : tie.Need-same-length-3 Inv-loop μ-loop
 same-length-3 c =
-    let pre = c .before .before .before .before .before .before .before .before .before .before .pre in
-    let turn = c .before .before .before .before .loop in
-    turn .inv .serving .work-words ∙ sym (pre .serving .work-words)
+    did-lengths (c .before .before .before .before .before .before .before .before .undo-group .ensures [] []) .work ∙ c .before .before .before .before .before .before .before .before .before .before .before .before .before .before .before .before .before .loop .inv .1 .serving .work-words ∙ sym (c .before .before .before .before .before .before .before .before .before .before .before .before .before .before .before .before .before .before .before .before .before .before .before .before .before .before .before .pre .serving .work-words)
 
 returns : tie.Need-returns Inv-loop μ-loop
+unfolding endOf tailOf fillOf
 returns c =
-    let pre = c .before .before .before .before .before .before .before .before .before .before .pre in
-    let turn = c .before .before .before .before .loop in
-    let p = turn .inv in
-    let e = c .before .newest-before .ensures ∙ pending-newest _ _ _ _ _ _ _ _ _ (pre) p in
-    pending-last _ _ _ _ _ _ _ _ _ (pre) p (λ site x. not-told (rw (e ∙ sym x) at (c .match .keys2)) refl)
+    let pre = c .before .before .before .before .before .before .before .before .before .before .before .before .before .before .before .before .before .before .before .before .before .before .before .before .before .before .before .pre in
+    let inv = c .before .before .before .before .before .before .before .before .before .before .before .before .before .before .before .before .before .loop .inv in
+    λ anchor backups.
+    group-cut _ _ _ _ _ _ _ _ pre _ (c .before .before .before .before .before .before .before .before .before .before .before .before .before .before .before .before .loop-test .taken) (inv .1) (c .before .before .before .before .before .before .before .before .before .before .before .before .before .before .before .before .before .before .before .notes-from .ensures) (inv .0) (c .before .before .before .before .before .before .before .before .before .before .before .before .before .group-from .ensures) anchor backups
+    (c .before .before .before .before .before .before .before .before .undo-group .ensures anchor backups) (not-true _ (c .if1 .taken))
 
-undo-one-requires : tie.Need-undo-one-requires Inv-loop μ-loop
-undo-one-requires c κs =
-    let pre = c .before .before .before .before .before .before .before .before .before .before .before .before .before .before .before .before .pre in
-    let turn = c .before .before .before .before .before .before .before .before .before .before .loop in
-    let newest-before = c .before .before .before .before .before .before .before .newest-before in
-    let newest = c .before .before .before .before .before .newest in
-    let p = turn .inv in
-    let e = sym (newest .given .1) ∙ newest-before .ensures ∙ pending-newest _ _ _ _ _ _ _ _ _ (pre) p in
-    pending-one _ _ _ _ _ _ _ _ _ (pre) p e
+loop-less : tie.Need-loop-less Inv-loop μ-loop
+loop-less c = let some = c .before .before .before .before .before .before .before .before .before .before .before .before .before .before .before .before .before .loop-test .taken in omega arith
+
+loop-again : tie.Need-loop-again Inv-loop μ-loop
+unfolding endOf tailOf fillOf
+loop-again c =
+    let pre = c .before .before .before .before .before .before .before .before .before .before .before .before .before .before .before .before .before .before .before .before .before .before .before .before .before .before .before .before .pre in
+    let inv = c .before .before .before .before .before .before .before .before .before .before .before .before .before .before .before .before .before .before .loop .inv in (
+      omega (arith, inv .0),
+      group-step _ _ _ _ _ _ _ _ pre _ (c .before .before .before .before .before .before .before .before .before .before .before .before .before .before .before .before .before .loop-test .taken) (inv .1) (c .before .before .before .before .before .before .before .before .before .before .before .before .before .before .before .before .before .before .before .before .notes-from .ensures) (inv .0) (c .before .before .before .before .before .before .before .before .before .before .before .before .before .before .group-from .ensures)
+          (not-false _ (c .before .if1 .left)) (c .before .before .before .before .before .before .before .before .before .undo-group .ensures),
+    )
 
 same-length-4 : tie.Need-same-length-4 Inv-loop μ-loop
-same-length-4 c =
-    let pre = c .before .before .before .before .before .before .before .before .before .before .before .before .before .before .before .before .before .before .before .before .before .before .before .before .before .pre in
-    let turn = c .before .before .before .before .before .before .before .before .before .before .before .before .before .before .before .before .before .before .before .loop in
-    let undo-one = c .before .before .before .before .before .before .before .before .undo-one in
-    did-lengths (undo-one .ensures [] []) .pages ∙ turn .inv .page-words ∙ sym (pre .page-words)
+same-length-4 c = c .before .loop .inv .1 .page-words ∙ sym (c .before .before .before .before .before .before .before .before .before .before .before .pre .page-words)
 
 same-length-5 : tie.Need-same-length-5 Inv-loop μ-loop
-same-length-5 c =
-    let pre = c .before .before .before .before .before .before .before .before .before .before .before .before .before .before .before .before .before .before .before .before .before .before .before .before .before .pre in
-    let turn = c .before .before .before .before .before .before .before .before .before .before .before .before .before .before .before .before .before .before .before .loop in
-    let undo-one = c .before .before .before .before .before .before .before .before .undo-one in
-    did-lengths (undo-one .ensures [] []) .logs ∙ turn .inv .serving .log-words ∙ sym (pre .serving .log-words)
+same-length-5 c = c .before .loop .inv .1 .serving .log-words ∙ sym (c .before .before .before .before .before .before .before .before .before .before .before .pre .serving .log-words)
 
 same-length-6 : tie.Need-same-length-6 Inv-loop μ-loop
-same-length-6 c =
-    let pre = c .before .before .before .before .before .before .before .before .before .before .before .before .before .before .before .before .before .before .before .before .before .before .before .before .before .pre in
-    let turn = c .before .before .before .before .before .before .before .before .before .before .before .before .before .before .before .before .before .before .before .loop in
-    let undo-one = c .before .before .before .before .before .before .before .before .undo-one in
-    did-lengths (undo-one .ensures [] []) .work ∙ turn .inv .serving .work-words ∙ sym (pre .serving .work-words)
+same-length-6 c = c .before .loop .inv .1 .serving .work-words ∙ sym (c .before .before .before .before .before .before .before .before .before .before .before .pre .serving .work-words)
 
 returns-2 : tie.Need-returns-2 Inv-loop μ-loop
 returns-2 c =
-    let pre = c .before .before .before .before .before .before .before .before .before .before .before .before .before .before .before .before .before .before .before .before .before .before .before .before .before .pre in
-    let turn = c .before .before .before .before .before .before .before .before .before .before .before .before .before .before .before .before .before .before .before .loop in
-    let newest-before = c .before .before .before .before .before .before .before .before .before .before .before .before .before .before .before .before .newest-before in
-    let newest = c .before .before .before .before .before .before .before .before .before .before .before .before .before .before .newest in
-    let undo-one = c .before .before .before .before .before .before .before .before .undo-one in
-    let p = turn .inv in
-    let e = sym (newest .given .1) ∙ newest-before .ensures ∙ pending-newest _ _ _ _ _ _ _ _ _ (pre) p in
-    λ anchor backups. pending-cut _ _ _ _ _ _ _ _ _ (pre) p e anchor backups (undo-one .ensures anchor backups) (not-true _ (c .if1 .taken))
-
-loop-less : tie.Need-loop-less Inv-loop μ-loop
-loop-less c =
-    let pre = c .before .before .before .before .before .before .before .before .before .before .before .before .before .before .before .before .before .before .before .before .before .before .before .before .before .before .pre in
-    let turn = c .before .before .before .before .before .before .before .before .before .before .before .before .before .before .before .before .before .before .before .before .loop in
-    let newest-before = c .before .before .before .before .before .before .before .before .before .before .before .before .before .before .before .before .before .newest-before in
-    let newest = c .before .before .before .before .before .before .before .before .before .before .before .before .before .before .before .newest in
-    let p = turn .inv in
-    let e = sym (newest .given .1) ∙ newest-before .ensures ∙ pending-newest _ _ _ _ _ _ _ _ _ (pre) p in
-    pending-below _ _ _ _ _ _ _ _ _ (pre) p e
-
-loop-again : tie.Need-loop-again Inv-loop μ-loop
-loop-again c =
-    let pre = c .before .before .before .before .before .before .before .before .before .before .before .before .before .before .before .before .before .before .before .before .before .before .before .before .before .before .pre in
-    let turn = c .before .before .before .before .before .before .before .before .before .before .before .before .before .before .before .before .before .before .before .before .loop in
-    let newest-before = c .before .before .before .before .before .before .before .before .before .before .before .before .before .before .before .before .before .newest-before in
-    let newest = c .before .before .before .before .before .before .before .before .before .before .before .before .before .before .before .newest in
-    let undo-one = c .before .before .before .before .before .before .before .before .before .undo-one in
-    let p = turn .inv in
-    let e = sym (newest .given .1) ∙ newest-before .ensures ∙ pending-newest _ _ _ _ _ _ _ _ _ (pre) p in
-    pending-step _ _ _ _ _ _ _ _ _ (pre) p e (not-false _ (c .before .if1 .left)) (undo-one .ensures)
+    let pre = c .before .before .before .before .before .before .before .before .before .before .before .pre in
+    let turn = c .before .loop in
+    let none : turn .k ≡ 0 = omega arith in
+    λ anchor backups.
+    rw (all-updates _ _ _ _ _ _ _ _ pre)
+    (pending-last _ _ _ _ _ _ _ _ _ (all-takeable _ _ _ _ _ _ _ _ pre) (rw none at (turn .inv .1)) anchor backups)
 
 pub undo-all-spec : {M : Type 1} → statement M
 undo-all-spec =
@@ -159,22 +133,25 @@ undo-all-spec =
     (tie.spec
     Inv-loop
     μ-loop
-    mul-bound
-    element-copy-out-bound
-    mul-bound-2
-    element-copy-out-bound-2
-    add-bound
+    mul-end
+    (λ c. small (c .before .before .before .pre .serving) .below)
+    mul-end-2
+    (λ c. small (c .before .before .before .before .pre .serving) .below)
+    add-end
+    notes-from-requires
     loop-holds
-    newest-before-requires
-    enum-known-newest
+    (λ c. search needs)
+    mul-group-from
+    array-read-group-from
+    group-from-requires
+    undo-group-requires
     same-length
     same-length-2
     same-length-3
     returns
-    undo-one-requires
+    loop-less
+    loop-again
     same-length-4
     same-length-5
     same-length-6
-    returns-2
-    loop-less
-    loop-again)
+    returns-2)

@@ -1,8 +1,8 @@
--- `log::newest::is_update_of` meets its contract, by the cases of a decoded record.
+-- `log::updates::is_update_of` meets its contract, by the cases of a decoded record.
 use borrow.Author.Needs.{needs}
 use borrow.Author.Tests.{eq-eqb, ne-eqb}
-use Rattle.log.proofs.newest.is_update_of.Statement.{statement}
-use Rattle.log.proofs.newest.is_update_of.Tie as tie
+use Rattle.log.proofs.updates.is_update_of.Statement.{statement}
+use Rattle.log.proofs.updates.is_update_of.Tie as tie
 
 returns : tie.Need-returns
 returns c = rw ((c .before .before .here .given .1), ne-eqb _ _ (c .if1 .taken))

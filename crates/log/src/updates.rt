@@ -1,27 +1,19 @@
-// The updates that an abort takes back: the newest before a bound, and the words of all.
+// The updates that an abort takes back: the positions of 128 at a time, and the words of all.
 use crate::read::Extent;
 use crate::read::decode_at;
 use model::Decoded;
 use model::Sizes;
 ghost use mathlib.Core.Path.{_≡_};
-ghost use Prim.Native.Nat.{ℕ, _≤_};
+ghost use Prim.Native.Nat.{ℕ};
 ghost use Rattle.model.specs.Decode.{readLog};
 ghost use Rattle.model.specs.Scan.{scan, updatesIn, updateWords};
-ghost use Rattle.log.specs.Reading.{LiesAt, OfDisk, Readable, isUpdateOf, newerOf, newestIn};
+ghost use Rattle.log.specs.Reading.{LiesAt, OfDisk, Readable, isUpdateOf, Gathered};
 
-// Where an update's record stands, the slot that it changed, and the slot's width.
-pub struct Site {
-    pub position: u64,
-    pub page: u64,
-    pub slot: u64,
-    pub width: u64,
-}
-
-// What the search for a transaction's newest update finds.
-pub enum Newest {
-    At { site: Site },
-    Absent,
-    Broken { position: u64 },
+// Positions of a transaction's updates, oldest first, and where the reading of them stopped.
+pub struct Group {
+    pub count: u64,
+    pub next: u64,
+    pub at: [u64; 128],
 }
 
 // Is it an update record of the transaction?
@@ -44,61 +36,41 @@ fn is_update_of(here: Decoded, number: u64) -> bool
     }
 }
 
-// The update decoded at a position if it is one of the transaction, and else what was found before it.
-fn newer(here: Decoded, number: u64, position: u64, sofar: Newest) -> Newest
-    ensures { λ r. ⌜ r ≡ newerOf number position here sofar ⌝ }
-{
-    match here {
-        Decoded::Change {
-            page,
-            slot,
-            width,
-            ..
-        } => {
-            if is_update_of(here, number) {
-                let site = Site {
-                    position,
-                    page,
-                    slot,
-                    width,
-                };
-                return Newest::At { site };
-            }
-            sofar
-        }
-        Decoded::Close { .. } => sofar,
-        Decoded::Malformed => sofar,
-    }
-}
-
-// The newest update of a transaction before a bound, among the records from a position on.
-pub fn newest_update(
+// The positions of a transaction's first 128 updates, among the records from a position on.
+pub fn first_updates(
     sizes: Sizes,
     logs: &[u64],
     extent: Extent,
     buffer: &[u64],
     from: u64,
     number: u64,
-    bound: u64,
-) -> Newest
-    requires { ⌜ Readable extent (now logs) (now buffer) × OfDisk sizes extent × (bound ≤ extent .end) ⌝ }
+) -> Group
+    requires { ⌜ Readable extent (now logs) (now buffer) × OfDisk sizes extent ⌝ }
     ensures { λ r. ⌜ ((disk : ℕ) → LiesAt sizes disk (extent .place) (extent .ring)
-        → r ≡ newestIn number bound Newest.Absent (scan sizes (readLog sizes (now (logs .entry)) disk (extent .tail) (now (buffer .entry))) (extent .end) from)) ⌝ }
+        → Gathered number (scan sizes (readLog sizes (now (logs .entry)) disk (extent .tail) (now (buffer .entry))) (extent .end)) from r) ⌝ }
 {
-    let mut newest = Newest::Absent;
+    let end = extent.end;
+    let mut at = [0u64; 128];
+    let mut count: u64 = 0;
     let mut p = from;
-    while p < bound {
+    while p < end {
         let here = decode_at(sizes, logs, extent, buffer, p);
         match here {
             Decoded::Change { next, .. } => {
-                newest = newer(here, number, p, newest);
+                if is_update_of(here, number) {
+                    if count == 128 {
+                        break;
+                    }
+                    at[count as usize] = p;
+                    count += 1;
+                }
                 p = next;
             }
             Decoded::Close { next, .. } => p = next,
-            Decoded::Malformed => return Newest::Broken { position: p },
+            Decoded::Malformed => break,
         }
     }
-    newest
+    Group { count, next: p, at }
 }
 
 // The words of a transaction's update records, up to the end or to the first malformed record.

@@ -1,4 +1,4 @@
--- `log::newest::abort_words` meets its contract. The loop's invariant: the words counted and those from p on are those from the start
+-- `log::updates::abort_words` meets its contract. The loop's invariant: the words counted and those from p on are those from the start
 -- on, and no more words are counted than positions passed.
 use Prim.Native.Nat.{ℕ, _+_, _-_, _≤_}
 use mathlib.Core.Path.{_≡_}
@@ -8,8 +8,8 @@ use Rattle.model.specs.Decode.{readLog}
 use Rattle.model.specs.Scan.{scan, updatesIn, updateWords}
 use Rattle.log.specs.Reading.{LiesAt}
 use Rattle.log.proofs.Scanning.{got-change, got-close, words-end, words-update, words-other, words-close, words-bad}
-use Rattle.log.proofs.newest.abort_words.Statement.{statement}
-use Rattle.log.proofs.newest.abort_words.Tie as tie
+use Rattle.log.proofs.updates.abort_words.Statement.{statement}
+use Rattle.log.proofs.updates.abort_words.Tie as tie
 
 abbrev Inv-loop : tie.InvT-loop
 Inv-loop sizes logs extent buffer from number end words₀ p₀ words p =

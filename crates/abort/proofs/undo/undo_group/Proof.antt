@@ -1,0 +1,119 @@
+-- `abort::undo::undo_group` meets its contract. The loop's invariant: what takes back the updates that are left takes back all. Assumes
+-- nothing.
+use mathlib.Core.Path.{_≡_, sym, _∙_}
+use mathlib.Core.List.{[]}
+use Prim.Native.Nat.{_≤_}
+use native.Mathlib.Omega.{arith}
+use lib.ListN.{length, take}
+use borrow.Author.Tests.{not-true, not-false}
+use Rattle.abort.proofs.Undone.{did-lengths}
+use Rattle.abort.proofs.Pending.{Pending, pending-start, pending-last}
+use Rattle.abort.proofs.OneLeft.{one-there, one-compensable, one-cut, one-step}
+use borrow.Author.Needs.{needs}
+use Rattle.abort.proofs.undo.undo_group.Statement.{statement}
+use Rattle.abort.proofs.undo.undo_group.Tie as tie
+
+abbrev Inv-loop : tie.InvT-loop
+Inv-loop sizes disk number pages₀ logs₀ work₀ budget₀ at after₀ n₀ pages logs work budget after n =
+    (n ≤ 128) × (length at ≡ 128)
+    × Pending sizes disk number after₀ pages₀ logs₀ work₀ budget₀ (take n₀ at) after pages logs work budget (take n at)
+
+abbrev μ-loop : tie.MeasureT-loop
+μ-loop sizes disk number pages₀ logs₀ work₀ budget₀ at after₀ n₀ pages logs work budget after n = n
+
+loop-holds : tie.Need-loop-holds Inv-loop μ-loop
+loop-holds c =
+    let pre = c .before .before .before .before .pre in
+    (pre .0, search needs, pending-start _ _ _ _ _ _ _ _ _ (pre .1) (record { starts = search needs; tails = search needs; fills = search needs }))
+
+mul-site-at : tie.Need-mul-site-at Inv-loop μ-loop
+mul-site-at c = let few = c .before .loop .inv .0 in omega arith
+
+array-read-site-at : tie.Need-array-read-site-at Inv-loop μ-loop
+array-read-site-at c = let few = c .before .loop .inv .0 in omega arith
+
+site-at-requires : tie.Need-site-at-requires Inv-loop μ-loop
+site-at-requires c κs =
+    let pre = c .before .before .before .before .before .before .before .before .pre in
+    let inv = c .before .before .before .loop .inv in
+    one-there _ _ _ _ _ _ _ _ _ (pre .1) (c .before .before .before .loop .n) (c .before .before .before .before .before .before .before .before .args .group .at) (c .before .before .loop-test .taken) (omega (arith, inv .0, inv .1)) (inv .2)
+
+undo-one-requires : tie.Need-undo-one-requires Inv-loop μ-loop
+undo-one-requires c κs =
+    let pre = c .before .before .before .before .before .before .before .before .before .before .before .before .before .pre in
+    let inv = c .before .before .before .before .before .before .before .before .loop .inv in
+    one-compensable _ _ _ _ _ _ _ _ _ (pre .1) (c .before .before .before .before .before .before .before .before .loop .n) (c .before .before .before .before .before .before .before .before .before .before .before .before .before .args .group .at) (c .before .before .before .before .before .before .before .loop-test .taken) (omega (arith, inv .0, inv .1)) (inv .2) (c .before .before .before .before .site-at .ensures)
+
+same-length : tie.Need-same-length Inv-loop μ-loop
+same-length c =
+    did-lengths (c .before .before .before .before .before .before .before .before .undo-one .ensures [] []) .pages ∙ c .before .before .before .before .before .before .before .before .before .before .before .before .before .before .before .before .before .loop .inv .2 .page-words ∙ sym (c .before .before .before .before .before .before .before .before .before .before .before .before .before .before .before .before .before .before .before .before .before .before .pre .1 .page-words)
+
+same-length-2 : tie.Need-same-length-2 Inv-loop μ-loop
+same-length-2 c =
+    did-lengths (c .before .before .before .before .before .before .before .before .undo-one .ensures [] []) .logs ∙ c .before .before .before .before .before .before .before .before .before .before .before .before .before .before .before .before .before .loop .inv .2 .serving .log-words ∙ sym (c .before .before .before .before .before .before .before .before .before .before .before .before .before .before .before .before .before .before .before .before .before .before .pre .1 .serving .log-words)
+
+same-length-3 : tie.Need-same-length-3 Inv-loop μ-loop
+same-length-3 c =
+    did-lengths (c .before .before .before .before .before .before .before .before .undo-one .ensures [] []) .work ∙ c .before .before .before .before .before .before .before .before .before .before .before .before .before .before .before .before .before .loop .inv .2 .serving .work-words ∙ sym (c .before .before .before .before .before .before .before .before .before .before .before .before .before .before .before .before .before .before .before .before .before .before .pre .1 .serving .work-words)
+
+returns : tie.Need-returns Inv-loop μ-loop
+returns c =
+    let pre = c .before .before .before .before .before .before .before .before .before .before .before .before .before .before .before .before .before .before .before .before .before .before .pre in
+    let inv = c .before .before .before .before .before .before .before .before .before .before .before .before .before .before .before .before .before .loop .inv in
+    let undo-one = c .before .before .before .before .before .before .before .before .undo-one in
+    λ anchor backups.
+    one-cut _ _ _ _ _ _ _ _ _ (pre .1) (c .before .before .before .before .before .before .before .before .before .before .before .before .before .before .before .before .before .loop .n) (c .before .before .before .before .before .before .before .before .before .before .before .before .before .before .before .before .before .before .before .before .before .before .args .group .at) (c .before .before .before .before .before .before .before .before .before .before .before .before .before .before .before .before .loop-test .taken) (omega (arith, inv .0, inv .1)) (inv .2) (c .before .before .before .before .before .before .before .before .before .before .before .before .before .site-at .ensures) anchor backups
+    (undo-one .ensures anchor backups) (not-true _ (c .if1 .taken))
+
+loop-less : tie.Need-loop-less Inv-loop μ-loop
+loop-less c = let some = c .before .before .before .before .before .before .before .before .before .before .before .before .before .before .before .before .before .loop-test .taken in omega arith
+
+loop-again : tie.Need-loop-again Inv-loop μ-loop
+loop-again c =
+    let pre = c .before .before .before .before .before .before .before .before .before .before .before .before .before .before .before .before .before .before .before .before .before .before .before .pre in
+    let inv = c .before .before .before .before .before .before .before .before .before .before .before .before .before .before .before .before .before .before .loop .inv in
+    let undo-one = c .before .before .before .before .before .before .before .before .before .undo-one in (
+      omega (arith, inv .0),
+      inv .1,
+      one-step _ _ _ _ _ _ _ _ _ (pre .1) (c .before .before .before .before .before .before .before .before .before .before .before .before .before .before .before .before .before .before .loop .n) (c .before .before .before .before .before .before .before .before .before .before .before .before .before .before .before .before .before .before .before .before .before .before .before .args .group .at) (c .before .before .before .before .before .before .before .before .before .before .before .before .before .before .before .before .before .loop-test .taken) (omega (arith, inv .0, inv .1)) (inv .2) (c .before .before .before .before .before .before .before .before .before .before .before .before .before .before .site-at .ensures)
+          (not-false _ (c .before .if1 .left)) (undo-one .ensures),
+    )
+
+same-length-4 : tie.Need-same-length-4 Inv-loop μ-loop
+same-length-4 c = c .before .loop .inv .2 .page-words ∙ sym (c .before .before .before .before .before .before .pre .1 .page-words)
+
+same-length-5 : tie.Need-same-length-5 Inv-loop μ-loop
+same-length-5 c = c .before .loop .inv .2 .serving .log-words ∙ sym (c .before .before .before .before .before .before .pre .1 .serving .log-words)
+
+same-length-6 : tie.Need-same-length-6 Inv-loop μ-loop
+same-length-6 c = c .before .loop .inv .2 .serving .work-words ∙ sym (c .before .before .before .before .before .before .pre .1 .serving .work-words)
+
+returns-2 : tie.Need-returns-2 Inv-loop μ-loop
+returns-2 c =
+    let pre = c .before .before .before .before .before .before .pre in
+    let turn = c .before .loop in
+    let none : turn .n ≡ 0 = omega arith in
+    pending-last _ _ _ _ _ _ _ _ _ (pre .1) (rw none at (turn .inv .2))
+
+pub undo-group-spec : {M : Type 1} → statement M
+undo-group-spec =
+    tie.close
+    (tie.spec
+    Inv-loop
+    μ-loop
+    loop-holds
+    (λ c. search needs)
+    mul-site-at
+    array-read-site-at
+    site-at-requires
+    undo-one-requires
+    same-length
+    same-length-2
+    same-length-3
+    returns
+    loop-less
+    loop-again
+    same-length-4
+    same-length-5
+    same-length-6
+    returns-2)
