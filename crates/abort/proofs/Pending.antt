@@ -8,9 +8,8 @@ use lib.ListN.{length}
 use Rattle.model.specs.declared.Sizes.{Sizes}
 use Rattle.model.specs.declared.Logs.{Logs}
 use Rattle.model.specs.Sizes.{ringOf, total}
-use Rattle.model.specs.Decode.{widthField}
 use Rattle.model.specs.Scan.{Update, updateWords}
-use Rattle.model.specs.World.{World, worldOf, perform}
+use Rattle.model.specs.World.{World, worldOf}
 use Rattle.model.specs.Memory.{bufferAt}
 use Rattle.model.specs.State.{endOf}
 use Rattle.model.specs.Abort.{undoAll}

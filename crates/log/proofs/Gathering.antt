@@ -1,11 +1,11 @@
 -- The positions of a transaction's updates, by what is decoded at a position; and 128 of them gathered.
-use Prim.Native.Nat.{ℕ, suc, _+_, _≤_, _<_}
+use Prim.Native.Nat.{ℕ, _+_, _≤_, _<_}
 use mathlib.Core.Path.{_≡_, refl, sym, ap, _∙_}
 use mathlib.Core.List.{List, [], _∷_, _++_, append-nil}
 use mathlib.Core.Bool.{Bool, true, false, cond}
 use native.Mathlib.Omega.{arith}
 use native.Mathlib.Numerals.{add-one}
-use lib.ListN.{length, set, take, drop, drop-of-length-le}
+use lib.ListN.{length, set, take, drop-of-length-le}
 use lib.Seq.{length-take-le, take-all, take-at, drop-at, take-suc-set, append-snoc}
 use Rattle.model.specs.declared.Sizes.{Sizes}
 use Rattle.model.specs.declared.Decoded.{Decoded}

@@ -1,11 +1,10 @@
 -- `abort::notes::notes_from` meets its contract. The loop's invariant: what is noted is right, and the other updates are read from p on.
-use mathlib.Core.Path.{_≡_, refl}
+use mathlib.Core.Path.{refl}
 use Prim.Native.Nat.{_-_}
 use native.Mathlib.Omega.{arith}
 use Rattle.model.specs.Scan.{scan}
 use Rattle.abort.specs.Undo.{reader}
 use Rattle.abort.proofs.Noting.{Noting, noting-start, noting-end, noting-room, noting-next}
-use borrow.Author.Needs.{needs}
 use Rattle.abort.proofs.notes.notes_from.Statement.{statement}
 use Rattle.abort.proofs.notes.notes_from.Tie as tie
 

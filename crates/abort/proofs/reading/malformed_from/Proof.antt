@@ -13,7 +13,7 @@ first-malformed-requires : tie.Need-first-malformed-requires
 first-malformed-requires c κs =
     let pre = c .before .before .before .before .before .pre in
     let e = c .before .before .window-of .ensures in
-    (lent-readable pre e _ (c .extent-of .ensures) (lent-ordered pre e), lent-lies pre e _ (c .extent-of .ensures))
+    (lent-readable pre e _ (c .extent-of .ensures) (omega (arith, lent-ordered pre e)), lent-lies pre e _ (c .extent-of .ensures))
 
 returns : tie.Need-returns
 returns c =

@@ -72,7 +72,7 @@ undo-group-requires c κs =
     let inv = c .before .before .before .before .before .before .before .before .loop .inv in
     let got = c .before .before .before .before .group-from .ensures in (
       got .few,
-      group-takeable _ _ _ _ _ _ _ _ pre _ (c .before .before .before .before .before .before .before .loop-test .taken) (inv .1) (c .before .before .before .before .before .before .before .before .before .before .notes-from .ensures) (inv .0) got,
+      group-takeable _ _ _ _ _ _ _ _ pre (c .before .before .before .before .before .before .before .before .loop .k) (omega (arith, c .before .before .before .before .before .before .before .loop-test .taken)) (inv .1) (c .before .before .before .before .before .before .before .before .before .before .notes-from .ensures) (inv .0) got,
     )
 
 same-length : tie.Need-same-length Inv-loop μ-loop
@@ -93,7 +93,7 @@ returns c =
     let pre = c .before .before .before .before .before .before .before .before .before .before .before .before .before .before .before .before .before .before .before .before .before .before .before .before .before .before .before .pre in
     let inv = c .before .before .before .before .before .before .before .before .before .before .before .before .before .before .before .before .before .loop .inv in
     λ anchor backups.
-    group-cut _ _ _ _ _ _ _ _ pre _ (c .before .before .before .before .before .before .before .before .before .before .before .before .before .before .before .before .loop-test .taken) (inv .1) (c .before .before .before .before .before .before .before .before .before .before .before .before .before .before .before .before .before .before .before .notes-from .ensures) (inv .0) (c .before .before .before .before .before .before .before .before .before .before .before .before .before .group-from .ensures) anchor backups
+    group-cut _ _ _ _ _ _ _ _ pre (c .before .before .before .before .before .before .before .before .before .before .before .before .before .before .before .before .before .loop .k) (omega (arith, c .before .before .before .before .before .before .before .before .before .before .before .before .before .before .before .before .loop-test .taken)) (inv .1) (c .before .before .before .before .before .before .before .before .before .before .before .before .before .before .before .before .before .before .before .notes-from .ensures) (inv .0) (c .before .before .before .before .before .before .before .before .before .before .before .before .before .group-from .ensures) anchor backups
     (c .before .before .before .before .before .before .before .before .undo-group .ensures anchor backups) (not-true _ (c .if1 .taken))
 
 loop-less : tie.Need-loop-less Inv-loop μ-loop
@@ -105,7 +105,7 @@ loop-again c =
     let pre = c .before .before .before .before .before .before .before .before .before .before .before .before .before .before .before .before .before .before .before .before .before .before .before .before .before .before .before .before .pre in
     let inv = c .before .before .before .before .before .before .before .before .before .before .before .before .before .before .before .before .before .before .loop .inv in (
       omega (arith, inv .0),
-      group-step _ _ _ _ _ _ _ _ pre _ (c .before .before .before .before .before .before .before .before .before .before .before .before .before .before .before .before .before .loop-test .taken) (inv .1) (c .before .before .before .before .before .before .before .before .before .before .before .before .before .before .before .before .before .before .before .before .notes-from .ensures) (inv .0) (c .before .before .before .before .before .before .before .before .before .before .before .before .before .before .group-from .ensures)
+      group-step _ _ _ _ _ _ _ _ pre (c .before .before .before .before .before .before .before .before .before .before .before .before .before .before .before .before .before .before .loop .k) (omega (arith, c .before .before .before .before .before .before .before .before .before .before .before .before .before .before .before .before .before .loop-test .taken)) (inv .1) (c .before .before .before .before .before .before .before .before .before .before .before .before .before .before .before .before .before .before .before .before .notes-from .ensures) (inv .0) (c .before .before .before .before .before .before .before .before .before .before .before .before .before .before .group-from .ensures)
           (not-false _ (c .before .if1 .left)) (c .before .before .before .before .before .before .before .before .before .undo-group .ensures),
     )
 
