@@ -44,12 +44,12 @@ module _ (f : ℕ → Bool) (n i : ℕ) (before : (j : ℕ) → j < i → f j �
 
 -- The rows, of the tails that the code has read and the lowest disk that it has found.
 module _ (s : Sizes) (few : s .disks ≤ 8) (start : ℕ → ℕ) (logs : List ℕ) {tails : List ℕ} (to : tails ≡ perDisk s (tailIn s logs)) {disk : ℕ}
-    (found : disk ≡ firstBelow (λ d. tailOut (s .ring) (start d) (getD tails d 0)) (s .disks)) where
+    (found : disk ≡ firstBelow (λ d. tailOut (ringOf s d) (start d) (getD tails d 0)) (s .disks)) where
   lowest : disk ≡ wrongTail s start logs
-  unfolding wrongTail tailWrong tailOut ringOf
+  unfolding wrongTail tailWrong tailOut
   lowest =
       found
-      ∙ first-cong (λ d. tailOut (s .ring) (start d) (getD tails d 0)) (tailWrong s start logs) (s .disks)
+      ∙ first-cong (λ d. tailOut (ringOf s d) (start d) (getD tails d 0)) (tailWrong s start logs) (s .disks)
       (λ d h. rw (to, getD-per-disk s (tailIn s logs) d few h))
 
   pub logs-tail : disk < s .disks → verdict (logRows s start logs) ≡ rejected 6 disk 0

@@ -3,16 +3,18 @@ use layout::anchor::read_rows;
 use layout::anchor::read_sizes;
 use layout::bounds::in_bounds;
 use layout::bounds::narrow;
+use layout::disks::disk_at;
+use layout::disks::ring_of;
 use log::scan::check_disks;
 use model::Fault;
 use model::Sizes;
 use table::room::LIMIT;
 ghost use mathlib.Core.Path.{_≡_};
 ghost use mathlib.Core.Bool.{true};
-ghost use Prim.Native.Nat.{_+_, _*_, _≤_};
+ghost use Prim.Native.Nat.{_≤_};
 ghost use lib.ListN.{length, getD};
 ghost use Rattle.model.specs.Below.{firstBelow};
-ghost use Rattle.model.specs.Sizes.{logWords, sizesInBounds};
+ghost use Rattle.model.specs.Sizes.{ringOf, logWords, sizesInBounds};
 ghost use Rattle.model.specs.Anchor.{anchorWords, sizesOn, startOn};
 ghost use Rattle.model.specs.Refusal.{verdict};
 ghost use Rattle.model.specs.Causes.{tailIn, logRows};
@@ -83,15 +85,14 @@ pub fn current_starts(disks: u64, anchor: &[u64]) -> [u64; 8]
 
 // The tails, as the log disks have them.
 pub fn tails_on(sizes: Sizes, logs: &[u64]) -> [u64; 8]
-    requires { ⌜ (sizes .disks ≤ 8) × (sizes .ring ≤ 65536) × (sizes .disks * (sizes .ring + 1) ≤ length (now logs)) ⌝ }
+    requires { ⌜ (sizes .disks ≤ 8) × (sizes .ring ≤ 65536) × (logWords sizes ≤ length (now logs)) ⌝ }
     ensures { λ r. ⌜ r ≡ perDisk sizes (tailIn sizes (now (logs .entry))) ⌝ }
 {
     let disks = sizes.disks;
-    let ring = sizes.ring;
     let mut tails = [0u64; 8];
     let mut d: u64 = 0;
     while d < disks {
-        let at = (d * (ring + 1)) as usize;
+        let at = disk_at(sizes, d) as usize;
         tails[d as usize] = logs[at];
         d += 1;
     }
@@ -112,12 +113,14 @@ fn tail_out(ring: u64, start: u64, tail: u64) -> bool
 }
 
 // The lowest disk whose tail is wrong, the number of disks where none is.
-fn wrong_tail(disks: u64, ring: u64, starts: [u64; 8], tails: [u64; 8]) -> u64
-    requires { ⌜ disks ≤ 8 ⌝ }
-    ensures { λ r. ⌜ r ≡ firstBelow (λ d. tailOut ring (getD starts d 0) (getD tails d 0)) disks ⌝ }
+fn wrong_tail(sizes: Sizes, starts: [u64; 8], tails: [u64; 8]) -> u64
+    requires { ⌜ sizes .disks ≤ 8 ⌝ }
+    ensures { λ r. ⌜ r ≡ firstBelow (λ d. tailOut (ringOf sizes d) (getD starts d 0) (getD tails d 0)) (sizes .disks) ⌝ }
 {
+    let disks = sizes.disks;
     let mut d: u64 = 0;
     while d < disks {
+        let ring = ring_of(sizes, d);
         if tail_out(ring, starts[d as usize], tails[d as usize]) {
             return d;
         }
@@ -133,7 +136,7 @@ pub fn check_logs(sizes: Sizes, starts: [u64; 8], logs: &[u64]) -> Finding
 {
     let disks = sizes.disks;
     let tails = tails_on(sizes, logs);
-    let disk = wrong_tail(disks, sizes.ring, starts, tails);
+    let disk = wrong_tail(sizes, starts, tails);
     if disk < disks {
         return Finding {
             number: 6,

@@ -3,7 +3,6 @@ use denote.Ref.{now}
 use lib.ListN.{getD}
 use native.Mathlib.Omega.{arith}
 use borrow.Author.Needs.{needs}
-use Rattle.model.specs.Sizes.{diskAt, logWords}
 use Rattle.model.proofs.Bounds.{bounded}
 use Rattle.log.proofs.Ready.{checkable}
 use Rattle.replay.specs.Parts.{findingOf}
@@ -12,7 +11,6 @@ use Rattle.replay.proofs.image.check_logs.Statement.{statement}
 use Rattle.replay.proofs.image.check_logs.Tie as tie
 
 tails-on-requires : tie.Need-tails-on-requires
-unfolding logWords diskAt
 tails-on-requires c κs =
     let pre = c .before .pre in
     let b = bounded _ (pre .0) in

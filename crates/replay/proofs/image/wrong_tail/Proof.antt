@@ -5,6 +5,7 @@ use mathlib.Core.Bool.{false}
 use lib.ListN.{getD}
 use native.Mathlib.Omega.{arith}
 use borrow.Author.Needs.{needs}
+use Rattle.model.specs.Sizes.{ringOf}
 use Rattle.model.proofs.Below.{below-suc}
 use Rattle.replay.specs.Parts.{tailOut}
 use Rattle.replay.proofs.Tails.{search-found, search-none}
@@ -12,21 +13,24 @@ use Rattle.replay.proofs.image.wrong_tail.Statement.{statement}
 use Rattle.replay.proofs.image.wrong_tail.Tie as tie
 
 abbrev Inv-loop : tie.InvT-loop
-Inv-loop disks ring starts tails d₀ d = (d ≤ disks) × ((j : ℕ) → j < d → tailOut ring (getD starts j 0) (getD tails j 0) ≡ false)
+Inv-loop sizes starts tails disks d₀ d = (d ≤ disks) × ((j : ℕ) → j < d → tailOut (ringOf sizes j) (getD starts j 0) (getD tails j 0) ≡ false)
 
 abbrev μ-loop : tie.MeasureT-loop
-μ-loop disks ring starts tails d₀ d = disks - d
+μ-loop sizes starts tails disks d₀ d = disks - d
 
 loop-holds : tie.Need-loop-holds Inv-loop μ-loop
 loop-holds c = (omega arith, λ j h. absurd (omega arith))
 
 returns : tie.Need-returns Inv-loop μ-loop
-returns c = search-found _ _ _ (c .before .before .before .loop .inv .1) (omega arith) (sym (c .before .tail-out .ensures) ∙ c .if1 .taken)
+returns c =
+    let out = rw (c .before .before .ring-of .ensures) at (c .before .tail-out .ensures) in
+    search-found _ _ _ (c .before .before .before .before .loop .inv .1) (omega arith) (sym out ∙ c .if1 .taken)
 
 loop-again : tie.Need-loop-again Inv-loop μ-loop
 loop-again c =
-    let at-loop = c .before .before .before in
-    (omega arith, λ j h. below-suc _ (at-loop .loop .d) (at-loop .loop .inv .1) (sym (c .before .tail-out .ensures) ∙ c .if1 .left) j (omega arith))
+    let at-loop = c .before .before .before .before in
+    let out = rw (c .before .before .ring-of .ensures) at (c .before .tail-out .ensures) in
+    (omega arith, λ j h. below-suc _ (at-loop .loop .d) (at-loop .loop .inv .1) (sym out ∙ c .if1 .left) j (omega arith))
 
 returns-2 : tie.Need-returns-2 Inv-loop μ-loop
 returns-2 c = search-none _ _ (c .before .loop .d) (c .before .loop .inv .1) (omega arith)
@@ -38,6 +42,7 @@ wrong-tail-spec =
     Inv-loop
     μ-loop
     loop-holds
+    (λ c κs. search needs)
     (λ c. search needs)
     (λ c. search needs)
     (λ c. search needs)

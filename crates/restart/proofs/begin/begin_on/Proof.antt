@@ -2,7 +2,6 @@
 use mathlib.Core.Path.{refl}
 use native.Mathlib.Omega.{arith}
 use borrow.Author.Needs.{needs}
-use Rattle.model.specs.Sizes.{diskAt, logWords}
 use Rattle.model.specs.Anchor.{epochOn}
 use Rattle.model.proofs.Bounds.{bounded}
 use Rattle.restart.proofs.Beginning.{begin-refused, begin-spent, begin-taken}
@@ -37,7 +36,6 @@ returns-2 c =
     (at-starts .current-starts .ensures _ refl) _ (at-check .check-logs .ensures) (at-if1 .if1 .left) (c .before .if2 .taken))
 
 tails-on-requires : tie.Need-tails-on-requires
-unfolding logWords diskAt
 tails-on-requires c κs =
     let pre = c .before .before .before .before .before .before .before .before .before .pre in
     let b = bounded _ (pre .1) in
