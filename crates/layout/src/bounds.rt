@@ -1,4 +1,5 @@
 // The bounds of the sizes, and the lengths that they give the lent slices.
+use crate::disks::disk_at;
 use crate::places::total_in_bounds;
 use crate::places::words_of;
 use model::Sizes;
@@ -18,14 +19,13 @@ pub fn lengths_right(sizes: Sizes, pages: usize, backups: usize, logs: usize, wo
 {
     let words = total_in_bounds(sizes) as usize;
     let disks = sizes.disks as usize;
-    let ring = sizes.ring as usize;
     if pages != words {
         return false;
     }
     if backups != 2 * words {
         return false;
     }
-    if logs != disks * (ring + 1) {
+    if logs != disk_at(sizes, sizes.disks) as usize {
         return false;
     }
     work == words + 64 * disks + 64

@@ -2,10 +2,9 @@ use Prim.Native.Nat.{_+_}
 use native.Mathlib.Omega.{arith}
 use borrow.Author.Needs.{needs}
 use borrow.Author.Tests.{eq-eqb, ne-eqb}
-use Rattle.model.specs.Sizes.{diskAt, logWords}
+use Rattle.model.specs.Sizes.{logWords}
 use Rattle.model.specs.Memory.{bufferAt, copyAt, workWords}
 use Rattle.model.proofs.Bounds.{bounded}
-use Rattle.layout.proofs.Laws.{product-max}
 use Rattle.layout.proofs.bounds.lengths_right.Statement.{statement}
 use Rattle.layout.proofs.bounds.lengths_right.Tie as tie
 
@@ -16,41 +15,37 @@ returns-2 : tie.Need-returns-2
 returns-2 c =
     rw (← c .before .before .total-in-bounds .ensures, eq-eqb _ _ (c .before .if1 .left), ne-eqb _ _ (c .if2 .taken))
 
-add-if3 : tie.Need-add-if3
-add-if3 c = omega (arith, bounded _ (c .before .before .before .pre) .ring-max)
-
-mul-if3 : tie.Need-mul-if3
-mul-if3 c =
-    let sizes = c .before .before .before .args .sizes in
-    let b = bounded sizes (c .before .before .before .pre) in
-    omega (arith, product-max (sizes .disks) (sizes .ring + 1) 8 65537 (b .disks-max) (omega arith))
+disk-at-requires : tie.Need-disk-at-requires
+disk-at-requires c κs = let b = bounded _ (c .before .before .before .pre) in (b .disks-max, b .ring-max)
 
 returns-3 : tie.Need-returns-3
-unfolding logWords diskAt
+unfolding logWords
 returns-3 c =
     rw (
-      ← c .before .before .before .total-in-bounds .ensures,
-      eq-eqb _ _ (c .before .before .if1 .left),
-      eq-eqb _ _ (c .before .if2 .left),
+      ← c .before .before .before .before .total-in-bounds .ensures,
+      eq-eqb _ _ (c .before .before .before .if1 .left),
+      eq-eqb _ _ (c .before .before .if2 .left),
+      ← c .before .disk-at .ensures .0,
       ne-eqb _ _ (c .if3 .taken),
     )
 
 mul-result : tie.Need-mul-result
-mul-result c = omega (arith, bounded _ (c .before .before .before .before .pre) .disks-max)
+mul-result c = omega (arith, bounded _ (c .before .before .before .before .before .pre) .disks-max)
 
 add-result : tie.Need-add-result
-add-result c = omega (arith, bounded _ (c .before .before .before .before .pre) .disks-max)
+add-result c = omega (arith, bounded _ (c .before .before .before .before .before .pre) .disks-max)
 
 add-result-2 : tie.Need-add-result-2
-add-result-2 c = omega (arith, bounded _ (c .before .before .before .before .pre) .disks-max)
+add-result-2 c = omega (arith, bounded _ (c .before .before .before .before .before .pre) .disks-max)
 
 returns-4 : tie.Need-returns-4
-unfolding logWords diskAt workWords copyAt bufferAt
+unfolding logWords workWords copyAt bufferAt
 returns-4 c =
     rw (
-      ← c .before .before .before .total-in-bounds .ensures,
-      eq-eqb _ _ (c .before .before .if1 .left),
-      eq-eqb _ _ (c .before .if2 .left),
+      ← c .before .before .before .before .total-in-bounds .ensures,
+      eq-eqb _ _ (c .before .before .before .if1 .left),
+      eq-eqb _ _ (c .before .before .if2 .left),
+      ← c .before .disk-at .ensures .0,
       eq-eqb _ _ (c .if3 .left),
     )
 
@@ -63,8 +58,7 @@ lengths-right-spec =
     returns
     (λ c. search needs)
     returns-2
-    add-if3
-    mul-if3
+    disk-at-requires
     returns-3
     mul-result
     add-result
