@@ -69,11 +69,11 @@ undo-group-requires : tie.Need-undo-group-requires Inv-loop μ-loop
 unfolding endOf tailOf fillOf
 undo-group-requires c κs =
     let pre = c .before .before .before .before .before .before .before .before .before .before .before .before .before .before .before .before .before .before .pre in
-    let inv = c .before .before .before .before .before .before .before .before .loop .inv in
-    let got = c .before .before .before .before .group-from .ensures in (
-      got .few,
-      group-takeable _ _ _ _ _ _ _ _ pre (c .before .before .before .before .before .before .before .before .loop .k) (omega (arith, c .before .before .before .before .before .before .before .loop-test .taken)) (inv .1) (c .before .before .before .before .before .before .before .before .before .before .notes-from .ensures) (inv .0) got,
-    )
+    let turn = c .before .before .before .before .before .before .before .before .loop in
+    let noted = c .before .before .before .before .before .before .before .before .before .before .notes-from .ensures in
+    let got = c .before .before .before .before .group-from .ensures in
+    let some = c .before .before .before .before .before .before .before .loop-test .taken in
+    (got .few, group-takeable _ _ _ _ _ _ _ _ pre (turn .k) (omega (arith, some)) (turn .inv .1) noted (turn .inv .0) got)
 
 same-length : tie.Need-same-length Inv-loop μ-loop
 same-length c =
@@ -91,9 +91,12 @@ returns : tie.Need-returns Inv-loop μ-loop
 unfolding endOf tailOf fillOf
 returns c =
     let pre = c .before .before .before .before .before .before .before .before .before .before .before .before .before .before .before .before .before .before .before .before .before .before .before .before .before .before .before .pre in
-    let inv = c .before .before .before .before .before .before .before .before .before .before .before .before .before .before .before .before .before .loop .inv in
+    let turn = c .before .before .before .before .before .before .before .before .before .before .before .before .before .before .before .before .before .loop in
+    let noted = c .before .before .before .before .before .before .before .before .before .before .before .before .before .before .before .before .before .before .before .notes-from .ensures in
+    let got = c .before .before .before .before .before .before .before .before .before .before .before .before .before .group-from .ensures in
+    let some = c .before .before .before .before .before .before .before .before .before .before .before .before .before .before .before .before .loop-test .taken in
     λ anchor backups.
-    group-cut _ _ _ _ _ _ _ _ pre (c .before .before .before .before .before .before .before .before .before .before .before .before .before .before .before .before .before .loop .k) (omega (arith, c .before .before .before .before .before .before .before .before .before .before .before .before .before .before .before .before .loop-test .taken)) (inv .1) (c .before .before .before .before .before .before .before .before .before .before .before .before .before .before .before .before .before .before .before .notes-from .ensures) (inv .0) (c .before .before .before .before .before .before .before .before .before .before .before .before .before .group-from .ensures) anchor backups
+    group-cut _ _ _ _ _ _ _ _ pre (turn .k) (omega (arith, some)) (turn .inv .1) noted (turn .inv .0) got anchor backups
     (c .before .before .before .before .before .before .before .before .undo-group .ensures anchor backups) (not-true _ (c .if1 .taken))
 
 loop-less : tie.Need-loop-less Inv-loop μ-loop
@@ -103,10 +106,13 @@ loop-again : tie.Need-loop-again Inv-loop μ-loop
 unfolding endOf tailOf fillOf
 loop-again c =
     let pre = c .before .before .before .before .before .before .before .before .before .before .before .before .before .before .before .before .before .before .before .before .before .before .before .before .before .before .before .before .pre in
-    let inv = c .before .before .before .before .before .before .before .before .before .before .before .before .before .before .before .before .before .before .loop .inv in (
-      omega (arith, inv .0),
-      group-step _ _ _ _ _ _ _ _ pre (c .before .before .before .before .before .before .before .before .before .before .before .before .before .before .before .before .before .before .loop .k) (omega (arith, c .before .before .before .before .before .before .before .before .before .before .before .before .before .before .before .before .before .loop-test .taken)) (inv .1) (c .before .before .before .before .before .before .before .before .before .before .before .before .before .before .before .before .before .before .before .before .notes-from .ensures) (inv .0) (c .before .before .before .before .before .before .before .before .before .before .before .before .before .before .group-from .ensures)
-          (not-false _ (c .before .if1 .left)) (c .before .before .before .before .before .before .before .before .before .undo-group .ensures),
+    let turn = c .before .before .before .before .before .before .before .before .before .before .before .before .before .before .before .before .before .before .loop in
+    let noted = c .before .before .before .before .before .before .before .before .before .before .before .before .before .before .before .before .before .before .before .before .notes-from .ensures in
+    let got = c .before .before .before .before .before .before .before .before .before .before .before .before .before .before .group-from .ensures in
+    let some = c .before .before .before .before .before .before .before .before .before .before .before .before .before .before .before .before .before .loop-test .taken in (
+      omega (arith, turn .inv .0),
+      group-step _ _ _ _ _ _ _ _ pre (turn .k) (omega (arith, some)) (turn .inv .1) noted (turn .inv .0) got (not-false _ (c .before .if1 .left))
+          (c .before .before .before .before .before .before .before .before .before .undo-group .ensures),
     )
 
 same-length-4 : tie.Need-same-length-4 Inv-loop μ-loop

@@ -34,15 +34,18 @@ array-read-site-at c = let few = c .before .loop .inv .0 in omega arith
 
 site-at-requires : tie.Need-site-at-requires Inv-loop μ-loop
 site-at-requires c κs =
-    let pre = c .before .before .before .before .before .before .before .before .pre in
-    let inv = c .before .before .before .loop .inv in
-    one-there _ _ _ _ _ _ _ _ _ (pre .1) (c .before .before .before .loop .n) (c .before .before .before .before .before .before .before .before .args .group .at) (c .before .before .loop-test .taken) (omega (arith, inv .0, inv .1)) (inv .2)
+    let start = c .before .before .before .before .before .before .before .before in
+    let turn = c .before .before .before .loop in
+    let some = c .before .before .loop-test .taken in
+    one-there _ _ _ _ _ _ _ _ _ (start .pre .1) (turn .n) (start .args .group .at) (omega (arith, some)) (omega (arith, turn .inv .0, turn .inv .1)) (turn .inv .2)
 
 undo-one-requires : tie.Need-undo-one-requires Inv-loop μ-loop
 undo-one-requires c κs =
-    let pre = c .before .before .before .before .before .before .before .before .before .before .before .before .before .pre in
-    let inv = c .before .before .before .before .before .before .before .before .loop .inv in
-    one-compensable _ _ _ _ _ _ _ _ _ (pre .1) (c .before .before .before .before .before .before .before .before .loop .n) (c .before .before .before .before .before .before .before .before .before .before .before .before .before .args .group .at) (c .before .before .before .before .before .before .before .loop-test .taken) (omega (arith, inv .0, inv .1)) (inv .2) (c .before .before .before .before .site-at .ensures)
+    let start = c .before .before .before .before .before .before .before .before .before .before .before .before .before in
+    let turn = c .before .before .before .before .before .before .before .before .loop in
+    let some = c .before .before .before .before .before .before .before .loop-test .taken in
+    one-compensable _ _ _ _ _ _ _ _ _ (start .pre .1) (turn .n) (start .args .group .at) (omega (arith, some)) (omega (arith, turn .inv .0, turn .inv .1)) (turn .inv .2)
+    (c .before .before .before .before .site-at .ensures)
 
 same-length : tie.Need-same-length Inv-loop μ-loop
 same-length c =
@@ -58,25 +61,25 @@ same-length-3 c =
 
 returns : tie.Need-returns Inv-loop μ-loop
 returns c =
-    let pre = c .before .before .before .before .before .before .before .before .before .before .before .before .before .before .before .before .before .before .before .before .before .before .pre in
-    let inv = c .before .before .before .before .before .before .before .before .before .before .before .before .before .before .before .before .before .loop .inv in
-    let undo-one = c .before .before .before .before .before .before .before .before .undo-one in
+    let start = c .before .before .before .before .before .before .before .before .before .before .before .before .before .before .before .before .before .before .before .before .before .before in
+    let turn = c .before .before .before .before .before .before .before .before .before .before .before .before .before .before .before .before .before .loop in
+    let some = c .before .before .before .before .before .before .before .before .before .before .before .before .before .before .before .before .loop-test .taken in
     λ anchor backups.
-    one-cut _ _ _ _ _ _ _ _ _ (pre .1) (c .before .before .before .before .before .before .before .before .before .before .before .before .before .before .before .before .before .loop .n) (c .before .before .before .before .before .before .before .before .before .before .before .before .before .before .before .before .before .before .before .before .before .before .args .group .at) (c .before .before .before .before .before .before .before .before .before .before .before .before .before .before .before .before .loop-test .taken) (omega (arith, inv .0, inv .1)) (inv .2) (c .before .before .before .before .before .before .before .before .before .before .before .before .before .site-at .ensures) anchor backups
-    (undo-one .ensures anchor backups) (not-true _ (c .if1 .taken))
+    one-cut _ _ _ _ _ _ _ _ _ (start .pre .1) (turn .n) (start .args .group .at) (omega (arith, some)) (omega (arith, turn .inv .0, turn .inv .1)) (turn .inv .2)
+    (c .before .before .before .before .before .before .before .before .before .before .before .before .before .site-at .ensures) anchor backups (c .before .before .before .before .before .before .before .before .undo-one .ensures anchor backups) (not-true _ (c .if1 .taken))
 
 loop-less : tie.Need-loop-less Inv-loop μ-loop
 loop-less c = let some = c .before .before .before .before .before .before .before .before .before .before .before .before .before .before .before .before .before .loop-test .taken in omega arith
 
 loop-again : tie.Need-loop-again Inv-loop μ-loop
 loop-again c =
-    let pre = c .before .before .before .before .before .before .before .before .before .before .before .before .before .before .before .before .before .before .before .before .before .before .before .pre in
-    let inv = c .before .before .before .before .before .before .before .before .before .before .before .before .before .before .before .before .before .before .loop .inv in
-    let undo-one = c .before .before .before .before .before .before .before .before .before .undo-one in (
-      omega (arith, inv .0),
-      inv .1,
-      one-step _ _ _ _ _ _ _ _ _ (pre .1) (c .before .before .before .before .before .before .before .before .before .before .before .before .before .before .before .before .before .before .loop .n) (c .before .before .before .before .before .before .before .before .before .before .before .before .before .before .before .before .before .before .before .before .before .before .before .args .group .at) (c .before .before .before .before .before .before .before .before .before .before .before .before .before .before .before .before .before .loop-test .taken) (omega (arith, inv .0, inv .1)) (inv .2) (c .before .before .before .before .before .before .before .before .before .before .before .before .before .before .site-at .ensures)
-          (not-false _ (c .before .if1 .left)) (undo-one .ensures),
+    let start = c .before .before .before .before .before .before .before .before .before .before .before .before .before .before .before .before .before .before .before .before .before .before .before in
+    let turn = c .before .before .before .before .before .before .before .before .before .before .before .before .before .before .before .before .before .before .loop in
+    let some = c .before .before .before .before .before .before .before .before .before .before .before .before .before .before .before .before .before .loop-test .taken in (
+      omega (arith, turn .inv .0),
+      turn .inv .1,
+      one-step _ _ _ _ _ _ _ _ _ (start .pre .1) (turn .n) (start .args .group .at) (omega (arith, some)) (omega (arith, turn .inv .0, turn .inv .1)) (turn .inv .2)
+          (c .before .before .before .before .before .before .before .before .before .before .before .before .before .before .site-at .ensures) (not-false _ (c .before .if1 .left)) (c .before .before .before .before .before .before .before .before .before .undo-one .ensures),
     )
 
 same-length-4 : tie.Need-same-length-4 Inv-loop μ-loop
