@@ -15,7 +15,6 @@ use Rattle.model.specs.Memory.{lengthsRight}
 use Rattle.model.specs.State.{withReplay}
 use Rattle.model.proofs.Sound.Test.{ReplaySound, replay-sound, replaying-test}
 use Rattle.model.proofs.Restart.Words.{withPages}
-use Rattle.restart.specs.Rest.{finished, StepsOn}
 use Rattle.restart.specs.Run.{Passes, RanOn, Onward}
 use Rattle.restart.proofs.Stepping.{backup-none, backup-taken}
 use Rattle.restart.proofs.Onward.{onward-none, onward-step, onward-most, onward-stop}

@@ -1,7 +1,7 @@
 -- A run of a log, a record at a time, read by ring index.
 use mathlib.Core.Path.{_≡_, refl, sym, ap, _∙_}
 use mathlib.Core.List.{List, []}
-use mathlib.Core.Bool.{Bool, true, cond}
+use mathlib.Core.Bool.{Bool, cond}
 use Prim.Native.Nat.{ℕ, _+_, _-_, _≤_, _<_}
 use native.Mathlib.Omega.{arith}
 use native.Mathlib.Decide.{ℕ-discrete}
@@ -19,14 +19,12 @@ use Rattle.model.specs.Scan.{scan, fateIn}
 use Rattle.model.specs.Image.{xorAt}
 use Rattle.model.specs.World.{World}
 use Rattle.model.specs.Memory.{lengthsRight}
-use Rattle.model.specs.State.{withReplay, tailOf, sound}
-use Rattle.model.specs.Causes.{whenReplaying}
+use Rattle.model.specs.State.{withReplay, tailOf}
 use Rattle.model.specs.Restart.{positionOf, replays, readDisk, fateFrom, nextRecord, fateFault, recordFault, stepFault, movedTo}
 use Rattle.model.proofs.Sound.Test.{ReplaySound, replay-sound, replaying-test}
 use Rattle.model.proofs.Restart.Words.{withPages}
 use Rattle.log.specs.Ring.{readRing}
 use Rattle.log.proofs.Rings.{ring-decode, ring-scan, ring-span}
-use Rattle.restart.specs.Rest.{finished, StepsOn}
 use Rattle.restart.specs.Run.{Passes, RanOn, Onward, faultAt}
 use Rattle.restart.proofs.Stepping.{fault-here, step-none, step-malformed, step-close, step-unreadable, step-change}
 use Rattle.restart.proofs.Onward.{onward-none, onward-step, onward-most, onward-stop}
