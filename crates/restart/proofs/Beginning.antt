@@ -124,5 +124,5 @@ module _ (c : Core) (w : World) (s : Sizes) (same : s ≡ sizesOn (w .anchor)) (
       unfolding BeginsOn verdict spent
       begin-taken l did is =
           rw (rest-verdict, lt-leb limit (epochOn (w .anchor)) l, did, is, task-is)
-          (nothing-spent (each (write pages) 0 (replicate (total s) 0)) (replayingCore s (epochOn (w .anchor)) starts tails) w _
+          (nothing-spent (each (write pages) 0 (replicate (total s) 0)) (replayingCore s (epochOn (w .anchor)) starts tails) 0 w _
           (rw task-is at (storeless-finishes restartBegin c w refl)) (perform-pages 0 (replicate (total s) 0) w))

@@ -1,30 +1,33 @@
 -- What a replaying state gives the functions that a step calls.
-use mathlib.Core.Path.{_≡_}
+use mathlib.Core.Path.{_≡_, refl}
 use mathlib.Core.List.{List, []}
-use Prim.Native.Nat.{ℕ, _+_, _≤_, _<_}
+use Prim.Native.Nat.{ℕ, _+_, _*_, _≤_, _<_}
 use native.Mathlib.Omega.{arith}
 use lib.ListN.{length}
 use Rattle.model.specs.declared.Core.{Core}
 use Rattle.model.specs.declared.Fate.{Fate}
 use Rattle.model.specs.declared.Decoded.{Decoded}
 use Rattle.model.specs.declared.Decoded.the-variants.{Change}
-use Rattle.model.specs.Sizes.{slotBase}
+use Rattle.model.specs.Sizes.{ringOf, diskAt, pageBase, slotBase, total}
 use Rattle.model.specs.World.{World}
 use Rattle.model.specs.Decode.{readLog, decodeAt}
 use Rattle.model.specs.Scan.{scan, fateIn}
 use Rattle.model.specs.State.{limit, tailOf}
 use Rattle.model.specs.Causes.{whenReplaying}
 use Rattle.model.specs.Restart.{positionOf, readDisk, nextRecord}
-use Rattle.model.proofs.Bounds.{Bounded, bounded}
+use Rattle.model.proofs.Bounds.{Bounded, bounded, total-max}
 use Rattle.model.proofs.Decode.{ChangeAt, found-change}
 use Rattle.model.proofs.Geometry.{slot-end-total}
 use Rattle.model.proofs.Lengths.{Lengths, lengths-right}
+use Rattle.model.proofs.Ring.{disk-within}
 use Rattle.model.proofs.Sound.Test.{ReplaySound, replay-sound}
 use Rattle.frame.proofs.Verdicts.{Passed}
 use Rattle.log.specs.declared.read.Extent.{Extent}
 use Rattle.log.specs.Reading.{LiesAt, extentOf, Readable}
 use Rattle.log.proofs.Ready.{readable, read-there}
+use Rattle.log.specs.Ring.{Ring, EntriesOf}
 use Rattle.restart.specs.Rest.{Replays, OnLog}
+use Rattle.restart.specs.Run.{Passes}
 
 module _ (c : Core) (r : Replays c) where
   pub replaying : ReplaySound c
@@ -40,6 +43,9 @@ module _ {c : Core} {w : World} (p : Passed whenReplaying c w) where
 
   pub slices : Lengths (c .sizes) w
   slices = lengths-right (c .sizes) w (p .lengths)
+
+  pub passes : Passes c w
+  passes = record { replays = replays; anchor = p .anchor; lengths = p .lengths }
 
   pub on-log : {disk : ℕ} → disk < c .sizes .disks → OnLog c disk (w .pages) (w .logs)
   on-log h = record { replays = replays; disk-in = h; page-words = slices .pages; log-words = slices .logs }
@@ -73,6 +79,32 @@ module _ {c : Core} {disk : ℕ} {pages logs : List ℕ} (on : OnLog c disk page
         → r ≡ fateIn number (scan (c .sizes) (readLog (c .sizes) logs d (e .tail) []) (e .end) p))
         → r ≡ fateIn number (scan (c .sizes) (readLog (c .sizes) logs disk (tailOf (c .logs) disk) []) (tailOf (c .logs) disk) p)
     fate-there p number = read-there _ _ _ _ is logs [] (λ read stop. fateIn number (scan (c .sizes) read stop p))
+
+  -- read by ring index
+  pub log-ring : {place : ℕ} → place ≡ diskAt (c .sizes) disk → Ring logs place (c .sizes .ring) (tailOf (c .logs) disk)
+  unfolding ringOf
+  log-ring e =
+      let b = sizes-bounded c (on .replays) in
+      record {
+        ring-min = omega (arith, b .ring-min);
+        ring-max = b .ring-max;
+        place-fits = omega (arith, e, on .log-words, disk-within (c .sizes) disk (on .disk-in));
+        tail-low = omega (arith, tail-low);
+      }
+
+  pub log-entries : EntriesOf (c .sizes) (c .sizes .slots) (c .sizes .widths)
+  log-entries = record { bounds = replaying c (on .replays) .bounds; same-slots = refl; same-widths = refl }
+
+  -- the slot of a change found there, from where its page begins
+  pub slot-sum : {stop p kind page slot number width next base : ℕ} → ChangeAt (c .sizes) stop p kind page slot number width next
+      → base ≡ pageBase (c .sizes) page
+      → (slot * width ≤ 8192) × (base + slot * width ≡ slotBase (c .sizes) page slot) × (slotBase (c .sizes) page slot + width ≤ total (c .sizes))
+      × (total (c .sizes) ≤ 8192)
+  unfolding slotBase
+  slot-sum {page} {slot} f e =
+      let max = total-max (c .sizes) (sizes-bounded c (on .replays)) in
+      let ends = slot-end-total (c .sizes) page slot (f .page-in) (f .slot-in) in
+      rw (f .width-eq, e) (omega (arith, ends, max), refl, ends, omega (arith, max))
 
   -- A change found there: its slot is one of the pages', and its difference ends within the log.
   module _ (w : World) {kind page slot number copy width next : ℕ} (e : nextRecord c w disk ≡ Change kind page slot number copy width next) where

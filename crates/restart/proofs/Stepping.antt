@@ -1,6 +1,7 @@
 -- Restart step: its rows 7, 8 and 15, and what a step does when none applies.
 use mathlib.Core.Path.{_≡_, refl, ap, _∙_}
 use mathlib.Core.Bool.{Bool, true, false, cond}
+use mathlib.Core.Logic.{_⊎_, inl, inr}
 use mathlib.Core.List.{List, []}
 use Prim.Native.Nat.{ℕ, _+_, _≤_, _<_}
 use native.Mathlib.Omega.{arith}
@@ -41,7 +42,7 @@ module _ (c : Core) (w : World) (source : ℕ) where
   unfolding StepsOn
   steps-refused number first second e = rw e
 
-  fault-refused : (disk p : ℕ) → stepFault c w source ≡ BadRecord disk p → StepsOn c w source (refusedWith c 7 disk p) w
+  pub fault-refused : (disk p : ℕ) → stepFault c w source ≡ BadRecord disk p → StepsOn c w source (refusedWith c 7 disk p) w
   unfolding stepRest verdict
   fault-refused disk p e = steps-refused 7 disk p (rw e)
 
@@ -61,10 +62,14 @@ module _ (c : Core) (w : World) (source : ℕ) where
   unfolding StepsOn stepRest verdict sourceMissing
   steps-taken {actions} {k} {v} e h left same did =
       rw (e, le-ltb (c .sizes .disks) source h, ne-eqb (remaining c source) 0 (λ z. omega arith), same)
-      (nothing-spent actions k w v (rw same at (storeless-finishes (restartStep source) c w refl)) did)
+      (nothing-spent actions k 0 w v (rw same at (storeless-finishes (restartStep source) c w refl)) did)
 
 -- A search ahead that meets no malformed record is no fault.
-fate-sound : (disk : ℕ) (f : Fate) → ((p : ℕ) → f ≡ Unreadable p → ⊥) → fateFault disk f ≡ NoFault
+pub not-told : {m : ℕ} → (m ≡ 0) ⊎ (m ≡ 1) → m ≡ 2 → ⊥
+not-told (inl e) z = omega arith
+not-told (inr e) z = omega arith
+
+pub fate-sound : (disk : ℕ) (f : Fate) → ((p : ℕ) → f ≡ Unreadable p → ⊥) → fateFault disk f ≡ NoFault
 fate-sound disk Closed unmet = refl
 fate-sound disk Unclosed unmet = refl
 fate-sound disk (Unreadable p) unmet = absurd (unmet p refl)
@@ -81,7 +86,7 @@ module _ (c : Core) (w : World) (disk : ℕ) (h : disk < c .sizes .disks) where
     some : 0 < remaining c disk
     some = omega (arith, remaining-log c disk h)
 
-    fault-here : {d : Decoded} → nextRecord c w disk ≡ d → stepFault c w disk ≡ recordFault c w disk d
+    pub fault-here : {d : Decoded} → nextRecord c w disk ≡ d → stepFault c w disk ≡ recordFault c w disk d
     unfolding stepFault
     fault-here e = rw (lt-ltb disk (c .sizes .disks) h, lt-ltb 0 (remaining c disk) some, e)
 
@@ -122,7 +127,7 @@ module _ (c : Core) (w : World) (disk : ℕ) (h : disk < c .sizes .disks) where
 
 -- The backup.
 module _ (c : Core) (w : World) where
-  no-fault : stepFault c w (c .sizes .disks) ≡ NoFault
+  pub no-fault : stepFault c w (c .sizes .disks) ≡ NoFault
   unfolding stepFault
   no-fault = rw (le-ltb (c .sizes .disks) (c .sizes .disks) (omega arith))
 

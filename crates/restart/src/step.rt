@@ -26,7 +26,7 @@ ghost use Rattle.model.specs.Call.{Gives, restartStep};
 ghost use Rattle.restart.specs.Rest.{Replays, OnLog, finished, StepsOn};
 
 // A step done: the log's next record stands at `next`.
-fn move_on(core: Core, disk: u64, next: u64) -> Reply
+pub fn move_on(core: Core, disk: u64, next: u64) -> Reply
     requires { ⌜ disk < 8 ⌝ }
     ensures { λ r. ⌜ r ≡ finished (movedTo core disk next) ⌝ }
 {
@@ -50,7 +50,7 @@ fn move_on(core: Core, disk: u64, next: u64) -> Reply
 }
 
 // A closed transaction's record not in the backup, or a loose one's record in it, is XORed in.
-fn is_replayed(current: u64, fate: Fate, copy: u64) -> bool
+pub fn is_replayed(current: u64, fate: Fate, copy: u64) -> bool
     ensures { λ r. ⌜ r ≡ replays current fate copy ⌝ }
 {
     let in_backup = copy < current;

@@ -1,8 +1,6 @@
 -- `restart::step::log_step` meets its contract: by the record at the next position, and by its transaction's fate. Assumes nothing.
-use mathlib.Core.Path.{_≡_, refl, sym, _∙_}
-use mathlib.Core.Logic.{_⊎_, inl, inr}
+use mathlib.Core.Path.{refl, sym, _∙_}
 use mathlib.Core.List.{[]}
-use Prim.Native.Nat.{ℕ}
 use native.Mathlib.Omega.{arith}
 use borrow.Author.Needs.{needs}
 use Rattle.model.specs.World.{worldOf}
@@ -10,14 +8,9 @@ use Rattle.model.specs.State.{tailOf}
 use Rattle.model.specs.Restart.{positionOf, readDisk, nextRecord, fateFrom}
 use Rattle.log.proofs.Ready.{lies-there, disk-there, tail-there, end-there}
 use Rattle.restart.proofs.Facts.{eight, tail-low, extent-asked, log-readable, decoded-there, fate-there, slot-place, slot-fits, difference-ends}
-use Rattle.restart.proofs.Stepping.{step-none, step-malformed, step-close, step-unreadable, step-change}
+use Rattle.restart.proofs.Stepping.{step-none, step-malformed, step-close, step-unreadable, step-change, not-told}
 use Rattle.restart.proofs.step.log_step.Statement.{statement}
 use Rattle.restart.proofs.step.log_step.Tie as tie
-
--- the search ahead meets no malformed record
-not-told : {m : ℕ} → (m ≡ 0) ⊎ (m ≡ 1) → m ≡ 2 → ⊥
-not-told (inl e) z = omega arith
-not-told (inr e) z = omega arith
 
 mul-tail : tie.Need-mul-tail
 mul-tail c = let few = eight (c .before .before .before .before .before .pre) in omega arith
