@@ -1,11 +1,11 @@
 // The restarts after a power failure.
-use crate::answers::is_refused;
+use crate::answers::value_of;
 use crate::input::Plan;
 use std::num::wrapping_add_u64;
 use store::State;
 use store::restarts::restart_begin;
 use store::restarts::restart_end;
-use store::restarts::restart_step;
+use store::restarts::restart_run;
 
 // A restart under way, and the records of the logs that it took.
 struct Progress {
@@ -13,7 +13,7 @@ struct Progress {
     records: u64,
 }
 
-// Steps of one source until one is refused: none remains. No source has more items than a ring has words and the store has pages.
+// One run of a source: no source has more items than a ring has words and the store has pages.
 fn source_replayed(
     plan: Plan,
     state: State,
@@ -25,23 +25,12 @@ fn source_replayed(
     work: &[u64],
 ) -> Progress {
     let most = wrapping_add_u64(plan.ring, plan.pages);
-    let mut s = state;
-    let mut taken: u64 = 0;
-    while taken < most {
-        let done = restart_step(s, source, anchor, pages, backups, logs, work);
-        s = done.state;
-        let answer = done.answer;
-        if is_refused(answer) {
-            return Progress {
-                state: s,
-                records: taken,
-            };
-        }
-        taken += 1;
-    }
+    let done = restart_run(state, source, most, anchor, pages, backups, logs, work);
+    let s = done.state;
+    let answer = done.answer;
     Progress {
         state: s,
-        records: taken,
+        records: value_of(answer),
     }
 }
 

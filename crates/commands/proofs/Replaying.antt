@@ -1,8 +1,7 @@
--- The steps of a source, one at a time, and the line of a restart.
+-- A source taken to its end, and the line of a restart.
 use mathlib.Core.Path.{_≡_, refl}
-use Prim.Native.Nat.{ℕ, zero, suc, _-_, _<_}
+use Prim.Native.Nat.{ℕ}
 use mathlib.Core.Bool.{Bool, true, false, cond}
-use native.Mathlib.Omega.{arith}
 use borrow.Author.Tests.{eq-eqb, ne-eqb}
 use Rattle.model.specs.declared.Core.{Core}
 use Rattle.model.specs.declared.Answer.{Answer}
@@ -10,11 +9,11 @@ use Rattle.model.specs.declared.Answer.the-variants.{Finished, Refused, Interru
 use Rattle.model.specs.World.{World}
 use Rattle.model.specs.Refusal.{Result}
 use Rattle.model.specs.Restart.{remaining}
-use Rattle.model.specs.Call.{restartBegin, restartStep, restartEnd, resultOf}
+use Rattle.model.specs.Call.{restartBegin, restartRun, restartEnd, resultOf}
 use Rattle.model.proofs.Booleans.{true-false}
 use Rattle.commands.specs.declared.outcome.Outcome.{Outcome}
 use Rattle.commands.specs.Shown.{valueIn, shownOf}
-use Rattle.commands.specs.Restarting.{isFinished, stepped, toEnd, replayedAll, restartedAll}
+use Rattle.commands.specs.Restarting.{isFinished, toEnd, replayedAll, restartedAll}
 use Rattle.commands.specs.Meaning.{Line, showingOwn}
 
 -- one source after the other
@@ -24,27 +23,22 @@ unfolding replayedAll
 replayed-through c w b f s a = rw (← b, ← f, ← s) a
 
 module _ (source : ℕ) (r : Result) where
-  pub stepped-refused : (n : ℕ) → isFinished (r .answer) ≡ false → stepped n source r ≡ r
-  unfolding stepped
-  stepped-refused zero e = refl
-  stepped-refused (suc n) e = rw e
+  pub end-refused : isFinished (r .answer) ≡ false → toEnd source r ≡ r
+  unfolding toEnd
+  end-refused e = rw e
 
-  pub stepped-through : (n : ℕ) → remaining (r .core) source ≡ 0 → stepped n source r ≡ r
-  unfolding stepped
-  stepped-through zero e = refl
-  stepped-through (suc n) e = rw (eq-eqb (remaining (r .core) source) 0 e) (either (isFinished (r .answer)))
+  pub end-reached : remaining (r .core) source ≡ 0 → toEnd source r ≡ r
+  unfolding toEnd
+  end-reached e = rw (eq-eqb (remaining (r .core) source) 0 e) (either (isFinished (r .answer)))
     where
       either : (b : Bool) → cond b r r ≡ r
       either true = refl
       either false = refl
 
-  pub stepped-on : (n : ℕ) → 0 < n → isFinished (r .answer) ≡ true → (remaining (r .core) source ≡ 0 → ⊥)
-      → stepped n source r ≡ stepped (n - 1) source (resultOf (restartStep source) (r .core) (r .world))
-  unfolding stepped
-  stepped-on zero pos e some = absurd (omega arith)
-  stepped-on (suc n) pos e some =
-      let back : suc n - 1 ≡ n = omega arith in
-      rw (e, ne-eqb (remaining (r .core) source) 0 some, back)
+  pub end-run : isFinished (r .answer) ≡ true → (remaining (r .core) source ≡ 0 → ⊥)
+      → toEnd source r ≡ resultOf (restartRun source (remaining (r .core) source)) (r .core) (r .world)
+  unfolding toEnd
+  end-run e some = rw (e, ne-eqb (remaining (r .core) source) 0 some)
 
 -- a refusal has no value to show
 no-value : (a : Answer) → isFinished a ≡ false → shownOf a 0 ≡ shownOf a (valueIn a)

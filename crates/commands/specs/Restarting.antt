@@ -1,5 +1,5 @@
 -- "restart (source 0 to its end, then 1, then the backup, then the end)"; "A restart line stops at its first refusal."
-use Prim.Native.Nat.{ℕ, zero, suc}
+use Prim.Native.Nat.{ℕ}
 use mathlib.Core.Bool.{Bool, true, false, cond}
 use lib.Dec.{eqb}
 use Rattle.model.specs.declared.Core.{Core}
@@ -8,7 +8,7 @@ use Rattle.model.specs.declared.Answer.the-variants.{Finished, Refused, Interru
 use Rattle.model.specs.World.{World}
 use Rattle.model.specs.Refusal.{Result}
 use Rattle.model.specs.Restart.{remaining}
-use Rattle.model.specs.Call.{restartBegin, restartStep, restartEnd, resultOf}
+use Rattle.model.specs.Call.{restartBegin, restartRun, restartEnd, resultOf}
 use Rattle.store.specs.declared.Called.{Called}
 
 abbrev pub isFinished : Answer → Bool
@@ -16,18 +16,13 @@ isFinished (Finished stores value) = true
 isFinished (Refused number first second) = false
 isFinished (Interrupted stores) = false
 
--- Steps of a source after a call: up to its end or to the first refusal, n at most.
-unfoldable pub stepped : (n source : ℕ) → Result → Result
-stepped zero source r = r
-stepped (suc n) source r =
-    cond (isFinished (r .answer))
-    (cond (eqb (remaining (r .core) source) 0) r (stepped n source (resultOf (restartStep source) (r .core) (r .world))))
-    r
-
--- To its end: a step takes a record of two words or more, or a page, so what remains is the most steps that there are. Were something
--- left, the end would answer 15.
+-- To its end, by one run: as many steps as words or pages remain of a source are enough (`all` of model's `Finishable`). A source with
+-- nothing left is passed over, and a call that was refused stays the last.
 unfoldable pub toEnd : (source : ℕ) → Result → Result
-toEnd source r = stepped (remaining (r .core) source) source r
+toEnd source r =
+    cond (isFinished (r .answer))
+    (cond (eqb (remaining (r .core) source) 0) r (resultOf (restartRun source (remaining (r .core) source)) (r .core) (r .world)))
+    r
 
 -- the pages as the logs and the backup give them; the program's store has two disks, so source 2 is the backup
 unfoldable pub replayedAll : Core → World → Result

@@ -11,7 +11,7 @@ ghost use Rattle.lines.specs.declared.command.Command.the-variants.{Restart};
 ghost use Rattle.commands.specs.Restarting.{toEnd, replayedAll, given};
 ghost use Rattle.commands.specs.Meaning.{Runs};
 
-// Takes a source to its end, which the store tells: what remains of it is steps enough.
+// Takes a source to its end by one run: what remains of it, which the store tells, is steps enough.
 fn replay(
     begun: Called,
     source: u64,
@@ -23,21 +23,16 @@ fn replay(
 ) -> Called
     ensures { λ r. ⌜ given r (worldOf (now (anchor .entry)) (now (pages .exit)) (now (backups .entry)) (now (logs .entry)) (now (work .entry))) ≡ toEnd source (given begun (worldOf (now (anchor .entry)) (now (pages .entry)) (now (backups .entry)) (now (logs .entry)) (now (work .entry)))) ⌝ }
 {
-    let mut called = begun;
-    let mut turns = store::restarts::restart_remaining(begun.state, source);
-    while 0 < turns {
-        turns -= 1;
-        let answer = called.answer;
-        if !is_finished(answer) {
-            return called;
-        }
-        let state = called.state;
-        if store::restarts::restart_remaining(state, source) == 0 {
-            return called;
-        }
-        called = store::restarts::restart_step(state, source, anchor, pages, backups, logs, work);
+    let answer = begun.answer;
+    if !is_finished(answer) {
+        return begun;
     }
-    called
+    let state = begun.state;
+    let left = store::restarts::restart_remaining(state, source);
+    if left == 0 {
+        return begun;
+    }
+    store::restarts::restart_run(state, source, left, anchor, pages, backups, logs, work)
 }
 
 // The pages as the backup and the logs give them: source 0 to its end, then 1, then the backup.

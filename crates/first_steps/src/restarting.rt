@@ -9,10 +9,10 @@ use store::Called;
 use store::restarts::restart_begin;
 use store::restarts::restart_end;
 use store::restarts::restart_remaining;
-use store::restarts::restart_step;
+use store::restarts::restart_run;
 
-// Takes a source to its end, if the call before finished. It looks at each answer: after a refusal what remains stays as it is, or
-// means nothing. A proved loop has to end, so it counts down; each step takes something, so what remains at first is turns enough.
+// Takes a source to its end by one run, if the call before finished. Each step takes a word or a page or more, so what remains of the
+// source is steps enough. A source with nothing left is passed over: a run of it would be refused with 15.
 fn replayed(
     begun: Called,
     source: u64,
@@ -22,21 +22,16 @@ fn replayed(
     logs: &Logs,
     work: &Work,
 ) -> Called {
-    let mut called = begun;
-    let mut turns = restart_remaining(begun.state, source);
-    while 0 < turns {
-        turns -= 1;
-        let answer = called.answer;
-        let Answer::Finished { .. } = answer else {
-            return called;
-        };
-        let state = called.state;
-        if restart_remaining(state, source) == 0 {
-            return called;
-        }
-        called = restart_step(state, source, anchor, pages, backups, logs, work);
+    let answer = begun.answer;
+    let Answer::Finished { .. } = answer else {
+        return begun;
+    };
+    let state = begun.state;
+    let left = restart_remaining(state, source);
+    if left == 0 {
+        return begun;
     }
-    called
+    restart_run(state, source, left, anchor, pages, backups, logs, work)
 }
 
 // A restart from a new state: the logs of disks 0 and 1, the backup (source D = 2), the end. It stops at the first call that does not

@@ -4,12 +4,11 @@ use crate::sizes::Backups;
 use crate::sizes::Logs;
 use crate::sizes::Pages;
 use crate::sizes::Work;
+use trial_table::answers::value_of;
 use store::State;
 use store::restarts::restart_begin;
 use store::restarts::restart_end;
-use store::restarts::restart_step;
-use trial_table::answers::number_of;
-use trial_table::words::more;
+use store::restarts::restart_run;
 
 // A restart under way, and the items of the source that it took last.
 struct Progress {
@@ -17,7 +16,7 @@ struct Progress {
     items: u64,
 }
 
-// Takes a source to its end, where a step is refused. A ring has fewer records than words, and there are 64 pages.
+// Takes a source to its end by one run. A ring has fewer records than words, and there are 64 pages.
 fn source_replayed(
     begun: State,
     source: u64,
@@ -27,20 +26,13 @@ fn source_replayed(
     logs: &Logs,
     work: &Work,
 ) -> Progress {
-    let mut state = begun;
-    let mut items = 0;
-    let mut left: u64 = 65536;
-    while 0 < left {
-        left -= 1;
-        let done = restart_step(state, source, anchor, pages, backups, logs, work);
-        state = done.state;
-        let answer = done.answer;
-        if number_of(answer) > 0 {
-            return Progress { state, items };
-        }
-        items = more(items);
+    let done = restart_run(begun, source, 65536, anchor, pages, backups, logs, work);
+    let state = done.state;
+    let answer = done.answer;
+    Progress {
+        state,
+        items: value_of(answer),
     }
-    Progress { state, items }
 }
 
 // A restart from a new state up to its end, which is not called: the backup, then the log, whose records are the items.

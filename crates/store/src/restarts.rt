@@ -1,4 +1,4 @@
-// The three calls of a restart, and what remains of a source.
+// The calls of a restart, and what remains of a source.
 use crate::Called;
 use crate::State;
 use crate::core_of;
@@ -8,7 +8,7 @@ ghost use mathlib.Core.Bool.{true};
 ghost use Rattle.model.specs.World.{worldOf};
 ghost use Rattle.model.specs.State.{sound};
 ghost use Rattle.model.specs.Restart.{remaining};
-ghost use Rattle.model.specs.Call.{restartBegin, restartStep, restartEnd, Gives};
+ghost use Rattle.model.specs.Call.{restartBegin, restartStep, restartRun, restartEnd, Gives};
 
 // Checks the devices, and zeroes the pages.
 pub fn restart_begin(
@@ -42,6 +42,25 @@ pub fn restart_step(
 {
     let core = core_of(state);
     let reply = restart::step::step(core, source, anchor, pages, backups, logs, work);
+    hand_back(reply)
+}
+
+// Replays up to `most` items of a source, as that many steps would; answers how many.
+pub fn restart_run(
+    state: State,
+    source: u64,
+    most: u64,
+    anchor: &[u64],
+    pages: &mut [u64],
+    backups: &[u64],
+    logs: &[u64],
+    work: &[u64],
+) -> Called
+    ensures { λ r. ⌜ Gives (restartRun source most) (state .core) (worldOf (now (anchor .entry)) (now (pages .entry)) (now (backups .entry)) (now (logs .entry)) (now (work .entry))) (record { answer = r .answer; core = r .state .core }) 0 (worldOf (now (anchor .entry)) (now (pages .exit)) (now (backups .entry)) (now (logs .entry)) (now (work .entry))) ⌝ }
+    ensures { λ r. ⌜ (sound (state .core) ≡ true → sound (r .state .core) ≡ true) ⌝ }
+{
+    let core = core_of(state);
+    let reply = restart::run::run(core, source, most, anchor, pages, backups, logs, work);
     hand_back(reply)
 }
 
