@@ -10,7 +10,7 @@ use Rattle.model.specs.declared.Sizes.{Sizes}
 use Rattle.model.specs.declared.Core.{Core}
 use Rattle.model.specs.declared.Reply.{Reply}
 use Rattle.model.specs.Below.{joinBelow}
-use Rattle.model.specs.Sizes.{total}
+use Rattle.model.specs.Sizes.{total, diskAt}
 use Rattle.model.specs.Anchor.{epochWord, slotsAt, widthsAt, rowsAt, backupAt}
 use Rattle.model.specs.World.{World, Action, worldOf, store, anchor, backups, logs, each}
 use Rattle.model.specs.State.{openCore}
@@ -24,12 +24,12 @@ use Rattle.frame.proofs.Verdicts.{task-settled}
 use Rattle.format.specs.Parts.{frontStores, arrayStores, tailStores, lastStores, pagesZero}
 
 -- the tail of a disk, at its start
-abbrev pub tailOn : ℕ → ℕ → List Action
-tailOn ring d = store logs (d * (ring + 1)) 0 ∷ []
+abbrev pub tailOn : Sizes → ℕ → List Action
+tailOn s d = store logs (diskAt s d) 0 ∷ []
 
 -- the tails of the disks below n
-unfoldable pub tailsTo : ℕ → ℕ → List Action
-tailsTo ring n = joinBelow (tailOn ring) n
+unfoldable pub tailsTo : Sizes → ℕ → List Action
+tailsTo s n = joinBelow (tailOn s) n
 
 -- one tail
 pub tail-ran : {budget rest at : ℕ} {before after : List ℕ} {whole : Bool} (anchor memory backups work : List ℕ)

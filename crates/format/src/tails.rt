@@ -1,5 +1,6 @@
 // Every log becomes empty.
 use device::store_word;
+use layout::disks::disk_at;
 use model::Sizes;
 ghost use mathlib.Core.Path.{_≡_};
 ghost use mathlib.Core.Bool.{true};
@@ -20,10 +21,10 @@ pub fn store_tails(sizes: Sizes, logs: &mut [u64], budget: &mut u64) -> bool
         (worldOf anchor memory backups (now (logs .exit)) work) r) ⌝ }
 {
     let disks = sizes.disks;
-    let ring = sizes.ring;
     let mut d: u64 = 0;
     while d < disks {
-        if !store_word(logs, (d * (ring + 1)) as usize, 0, budget) {
+        let at = disk_at(sizes, d) as usize;
+        if !store_word(logs, at, 0, budget) {
             return false;
         }
         d += 1;
