@@ -4,11 +4,11 @@ use crate::sizes::Backups;
 use crate::sizes::Logs;
 use crate::sizes::Pages;
 use crate::sizes::Work;
-use trial_table::answers::value_of;
 use store::State;
 use store::restarts::restart_begin;
 use store::restarts::restart_end;
 use store::restarts::restart_run;
+use trial_table::answers::value_of;
 
 // A restart under way, and the items of the source that it took last.
 struct Progress {
