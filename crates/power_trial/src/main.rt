@@ -8,9 +8,9 @@ mod watching;
 
 use crate::turns::Trial;
 use crate::turns::turn;
+use script::progress::new_progress;
 use script::sizes::how_many;
 use script::sizes::shape_at;
-use script::trial::new_trial;
 use trial_table::text::read_number;
 ghost use Prim.Native.Nat.{_<_};
 
@@ -50,7 +50,7 @@ fn main() {
     let lists = read_number(1);
     let first = Trial {
         state: store::new_state(),
-        trial: new_trial(shape_at(0), lists),
+        progress: new_progress(shape_at(0), lists),
         size: 0,
         lists,
     };

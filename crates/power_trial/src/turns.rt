@@ -2,13 +2,13 @@
 use crate::watching::Made;
 use crate::watching::watch;
 use script::plan::Mode;
+use script::progress;
+use script::progress::Progress;
+use script::progress::mode_of;
+use script::progress::new_progress;
+use script::progress::next_call;
 use script::sizes::shape_at;
 use script::sizes::tell;
-use script::trial;
-use script::trial::Trial;
-use script::trial::mode_of;
-use script::trial::new_trial;
-use script::trial::next_call;
 use store::State;
 use trial_table::calls::Call;
 use trial_table::calls::Kind;
@@ -23,7 +23,7 @@ use trial_table::words::wipe;
 
 pub struct Trial {
     pub state: State,
-    pub trial: Trial,
+    pub progress: Progress,
     pub size: u64,
     pub lists: u64,
 }
@@ -37,7 +37,7 @@ pub fn turn(
     work: &mut [u64],
     book: &mut [u64],
 ) -> Trial {
-    let mode = mode_of(t.trial);
+    let mode = mode_of(t.progress);
     match mode {
         Mode::Losing | Mode::Comparing | Mode::Telling => {
             quiet_turn(t, mode, anchor, pages, work, book)
@@ -58,11 +58,11 @@ fn quiet_turn(
     match mode {
         Mode::Losing => Trial {
             state: store::new_state(),
-            trial: lose_power(t.trial, pages, work, book),
+            progress: lose_power(t.progress, pages, work, book),
             ..t
         },
         Mode::Comparing => Trial {
-            trial: trial::compared(t.trial, pages, book),
+            progress: progress::compared(t.progress, pages, book),
             ..t
         },
         _ => next_size(t, anchor, book),
@@ -70,34 +70,39 @@ fn quiet_turn(
 }
 
 // Power is lost: sheets and buffers go, pages and work hold anything.
-fn lose_power(trial: Trial, pages: &mut [u64], work: &mut [u64], book: &mut [u64]) -> Trial {
-    let shape = trial.shape;
-    let plan = trial.plan;
+fn lose_power(
+    progress: Progress,
+    pages: &mut [u64],
+    work: &mut [u64],
+    book: &mut [u64],
+) -> Progress {
+    let shape = progress.shape;
+    let plan = progress.plan;
     let filled = fill(pages, total_of(shape), plan.seed);
     let seed = fill(work, work_words(shape), filled);
-    trial::after_loss(trial, seed, book)
+    progress::after_loss(progress, seed, book)
 }
 
 // Tells what was tried on a size, and goes on to the next: no store, an empty book.
 fn next_size(t: Trial, anchor: &mut [u64], book: &mut [u64]) -> Trial {
-    let trial = t.trial;
-    tell(trial.shape, trial.counts);
+    let progress = t.progress;
+    tell(progress.shape, progress.counts);
     put(anchor, 3, 0);
     wipe(book, 8328);
     let size = more(t.size);
     Trial {
         state: store::new_state(),
-        trial: new_trial(shape_at(size), t.lists),
+        progress: new_progress(shape_at(size), t.lists),
         size,
         lists: t.lists,
     }
 }
 
 // The first source from a random one on, in turn, of which something remains; one too large where there is none, or in another stage.
-fn some_source(state: State, trial: Trial) -> u64 {
-    let shape = trial.shape;
-    let plan = trial.plan;
-    let plain = trial.plain;
+fn some_source(state: State, progress: Progress) -> u64 {
+    let shape = progress.shape;
+    let plan = progress.plan;
+    let plain = progress.plain;
     let sources = more(shape.disks);
     if plain.stage != 1 {
         return sources;
@@ -139,11 +144,11 @@ struct Asked {
     remains: u64,
 }
 
-fn ask(state: State, trial: Trial, book: &[u64]) -> Asked {
-    let shape = trial.shape;
-    let plan = trial.plan;
-    let source = some_source(state, trial);
-    let call = next_call(trial, source, book);
+fn ask(state: State, progress: Progress, book: &[u64]) -> Asked {
+    let shape = progress.shape;
+    let plan = progress.plan;
+    let source = some_source(state, progress);
+    let call = next_call(progress, source, book);
     Asked {
         call,
         budget: plan.budget,
@@ -161,11 +166,11 @@ fn call_turn(
     work: &mut [u64],
     book: &mut [u64],
 ) -> Trial {
-    let trial = t.trial;
-    let asked = ask(t.state, trial, book);
+    let progress = t.progress;
+    let asked = ask(t.state, progress, book);
     let made = watch(
         t.state,
-        trial.shape,
+        progress.shape,
         asked.call,
         asked.budget,
         anchor,
@@ -182,8 +187,8 @@ fn judge(t: Trial, asked: Asked, made: Made, book: &mut [u64]) -> Trial {
     let called = made.called;
     let answer = called.answer;
     let state = called.state;
-    let trial = trial::after_call(
-        t.trial,
+    let progress = progress::after_call(
+        t.progress,
         asked.call,
         asked.remains,
         answer,
@@ -191,5 +196,9 @@ fn judge(t: Trial, asked: Asked, made: Made, book: &mut [u64]) -> Trial {
         made.kept,
         book,
     );
-    Trial { state, trial, ..t }
+    Trial {
+        state,
+        progress,
+        ..t
+    }
 }

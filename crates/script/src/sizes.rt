@@ -1,5 +1,5 @@
 // The sizes that are tried, by number, and what is told of each.
-use crate::trial::Counts;
+use crate::progress::Counts;
 use trial_table::shape::Shape;
 use trial_table::text::count;
 

@@ -35,15 +35,15 @@ pub struct Counts {
     pub right: u64,
 }
 
-pub struct Trial {
+pub struct Progress {
     pub shape: Shape,
     pub plain: Plain,
     pub plan: Plan,
     pub counts: Counts,
 }
 
-pub fn new_trial(shape: Shape, lists: u64) -> Trial {
-    Trial {
+pub fn new_progress(shape: Shape, lists: u64) -> Progress {
+    Progress {
         shape,
         plain: new_plain(),
         plan: new_plan(lists),
@@ -57,16 +57,16 @@ pub fn new_trial(shape: Shape, lists: u64) -> Trial {
 }
 
 // What the next turn does.
-pub fn mode_of(trial: Trial) -> Mode {
-    let plan = trial.plan;
+pub fn mode_of(progress: Progress) -> Mode {
+    let plan = progress.plan;
     plan.mode
 }
 
 // The next call; `source` has something left to replay.
-pub fn next_call(trial: Trial, source: u64, book: &[u64]) -> Call {
-    let plan = trial.plan;
-    let plain = trial.plain;
-    let shape = trial.shape;
+pub fn next_call(progress: Progress, source: u64, book: &[u64]) -> Call {
+    let plan = progress.plan;
+    let plain = progress.plain;
+    let shape = progress.shape;
     let seed = plan.seed;
     let mode = plan.mode;
     let call = match mode {
@@ -79,9 +79,9 @@ pub fn next_call(trial: Trial, source: u64, book: &[u64]) -> Call {
 }
 
 // In how many words a read that was to be taken differs from the reader's newest entry, or from the results.
-fn read_differs(trial: Trial, call: Call, book: &[u64]) -> u64 {
-    let shape = trial.shape;
-    let plain = trial.plain;
+fn read_differs(progress: Progress, call: Call, book: &[u64]) -> u64 {
+    let shape = progress.shape;
+    let plain = progress.plain;
     let page = call.page;
     let address = address_of(shape, page, call.slot);
     let newest = write_sets::newest(book, plain.entries, address);
@@ -94,7 +94,7 @@ fn read_differs(trial: Trial, call: Call, book: &[u64]) -> u64 {
 }
 
 // Whether what was read is what it should be: nothing, where the read was refused.
-fn reads_well(trial: Trial, call: Call, refusal: u64, book: &[u64]) -> bool {
+fn reads_well(progress: Progress, call: Call, refusal: u64, book: &[u64]) -> bool {
     let kind = call.kind;
     let Kind::Read = kind else {
         return true;
@@ -102,35 +102,35 @@ fn reads_well(trial: Trial, call: Call, refusal: u64, book: &[u64]) -> bool {
     if refusal > 0 {
         return get(book, write_sets::seen_at(0)) == 0;
     }
-    read_differs(trial, call, book) == 0
+    read_differs(progress, call, book) == 0
 }
 
-// The trial after a call: its answer is compared with what is expected, with the budget left and whether it kept what it had to keep.
+// The progress after a call: its answer is compared with what is expected, with the budget left and whether it kept what it had to keep.
 pub fn after_call(
-    trial: Trial,
+    progress: Progress,
     call: Call,
     remains: u64,
     answer: Answer,
     left: u64,
     kept: bool,
     book: &mut [u64],
-) -> Trial {
-    let shape = trial.shape;
-    let plan = trial.plan;
-    let counts = trial.counts;
+) -> Progress {
+    let shape = progress.shape;
+    let plan = progress.plan;
+    let counts = progress.counts;
     let kind = call.kind;
-    let wanted = expected(shape, trial.plain, call, remains, plan.budget, book);
+    let wanted = expected(shape, progress.plain, call, remains, plan.budget, book);
     let agrees = is_wanted(answer, plan.budget, left, wanted)
         && kept
-        && reads_well(trial, call, wanted.number, book);
+        && reads_well(progress, call, wanted.number, book);
     let number = number_of(answer);
-    let plain = plain::after_call(trial.plain, shape, call, number, book);
+    let plain = plain::after_call(progress.plain, shape, call, number, book);
     let rolled = Plan {
         budget: left,
         seed: next(plan.seed),
         ..plan
     };
-    Trial {
+    Progress {
         shape,
         plain,
         plan: plan::after_call(rolled, kind, number, plain.stage, agrees),
@@ -143,25 +143,29 @@ pub fn after_call(
 }
 
 // After lost power; `seed` is the next call's.
-pub fn after_loss(trial: Trial, seed: u64, book: &mut [u64]) -> Trial {
-    Trial {
-        plain: plain::lost(trial.plain, book),
-        plan: plan::after_loss(trial.plan, seed),
-        ..trial
+pub fn after_loss(progress: Progress, seed: u64, book: &mut [u64]) -> Progress {
+    Progress {
+        plain: plain::lost(progress.plain, book),
+        plan: plan::after_loss(progress.plan, seed),
+        ..progress
     }
 }
 
 // After a restart: the pages are compared with the results.
-pub fn compared(trial: Trial, pages: &[u64], book: &[u64]) -> Trial {
-    let counts = trial.counts;
-    let differ = differing(pages, write_sets::results_of(book), total_of(trial.shape));
-    Trial {
-        plan: plan::next_run(trial.plan),
+pub fn compared(progress: Progress, pages: &[u64], book: &[u64]) -> Progress {
+    let counts = progress.counts;
+    let differ = differing(
+        pages,
+        write_sets::results_of(book),
+        total_of(progress.shape),
+    );
+    Progress {
+        plan: plan::next_run(progress.plan),
         counts: Counts {
             restarts: more(counts.restarts),
             right: tally(counts.right, differ == 0),
             ..counts
         },
-        ..trial
+        ..progress
     }
 }
