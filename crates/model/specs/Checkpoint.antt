@@ -23,7 +23,7 @@ use Rattle.model.specs.Append.{flush}
 unfoldable pub eightBelow : ℕ → (ℕ → ℕ) → List ℕ
 eightBelow n f = listBelow (λ d. cond (ltb d n) (f d) 0) 8
 
--- a number for each of the eight disks, 0 from D on
+-- a number for each of the eight disks, 0 from D on (getD-per-disk in proofs/PerDisk.antt)
 unfoldable pub perDisk : Sizes → (ℕ → ℕ) → List ℕ
 perDisk s f = eightBelow (s .disks) f
 

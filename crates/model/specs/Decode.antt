@@ -38,7 +38,8 @@ misplaced s w =
     leb (s .pages) (pageField w) || leb (slotsIn s (pageField w)) (slotField w)
     || not (eqb (widthField w) (widthIn s (pageField w)))
 
--- a record whose first three words are w, number and copy, at position p of a log that ends at `end`
+-- a record whose first three words are w, number and copy, at position p of a log that ends at `end` (round-trip in
+-- proofs/RoundTrip.antt: what was encoded is decoded)
 unfoldable pub decodeWords : Sizes → ℕ → ℕ → ℕ → ℕ → ℕ → Decoded
 decodeWords s end p w number copy =
     -- "kind above 3"

@@ -50,7 +50,7 @@ imageOf w = imageFrom (sizesOn (w .anchor)) (epochOn (w .anchor)) (startOn (w .a
 unfoldable pub xorAt : ℕ → List ℕ → List ℕ → List ℕ
 xorAt at diff words = sets words at (xored at diff words)
 
--- the records of a log replayed by 01's rule, first to last
+-- the records of a log replayed by 01's rule, first to last (replayed-word in proofs/Restart/Gain.antt: what becomes of each word)
 unfoldable pub replayed : Sizes → ℕ → Scan → List ℕ → List ℕ
 replayed s c end words = words
 replayed s c (bad p) words = words

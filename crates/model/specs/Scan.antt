@@ -54,7 +54,8 @@ unfoldable pub placed : ℕ → List Record → Scan
 placed p [] = end
 placed p (r ∷ rs) = item p r (placed (p + length (encode r)) rs)
 
--- "a transaction with a closing record (commit or abort) further on in that retained log is closed, else it is loose"
+-- "a transaction with a closing record (commit or abort) further on in that retained log is closed, else it is loose" (fate-entries in
+-- proofs/Restart/Entries.antt)
 unfoldable pub fateIn : ℕ → Scan → Fate
 fateIn number end = Unclosed
 fateIn number (bad p) = Unreadable p
