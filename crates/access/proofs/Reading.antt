@@ -17,10 +17,9 @@ use Rattle.model.specs.Causes.{whenServing, lengthsWrong, slotMissing, notOpen,
 use Rattle.model.specs.Transaction.{readRows}
 use Rattle.model.proofs.Lengths.{lengths-right}
 use Rattle.model.proofs.Verdict.{row-passed}
-use Rattle.model.proofs.Store.Rows.{serving-row}
 use Rattle.frame.proofs.Passing.{sound-sizes, serving-not-shut}
 use Rattle.frame.specs.Checks.{firstRefusal, verdictOf}
-use Rattle.frame.proofs.Verdicts.{first-refused, first-accepted}
+use Rattle.frame.proofs.Verdicts.{first-row, first-refused, first-accepted}
 use Rattle.access.proofs.SlotBounds.{There, slot-there}
 
 -- a verdict by its number
@@ -67,7 +66,7 @@ module _ (c : Core) (w : World) (reader page slot : ℕ) where
       let r2 = row-passed _ _ (r1 .1) in
       let r5 = row-passed _ _ (r2 .1) in
       let r8 = row-passed _ _ (r5 .1) in
-      let serving = serving-row c (r1 .0) in
+      let serving = first-row whenServing c (r1 .0) in
       let sizes = sound-sizes c (serving-not-shut (c .stage) (serving .0)) (serving .1) in
       let there = slot-there (c .sizes) page slot sizes (r8 .0) in
       (there, omega (arith, lengths-right (c .sizes) w (not-false _ (r5 .0)) .pages, there .end))

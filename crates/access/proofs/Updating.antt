@@ -24,7 +24,7 @@ use Rattle.model.specs.Append.{append}
 use Rattle.model.specs.Transaction.{diskOf, slotWords, updateRecord, updated, slotRows, updateRows, updateTask}
 use Rattle.model.proofs.Lengths.{lengths-right}
 use Rattle.model.proofs.Verdict.{row-passed}
-use Rattle.model.proofs.Store.Rows.{serving-row, serving-sound, sizes-sound, disk-sound}
+use Rattle.model.proofs.Store.Rows.{serving-sound, sizes-sound, disk-sound}
 use Rattle.model.proofs.Store.Accepted.{open-entry, open-below}
 use Rattle.log.specs.declared.write.Head.{Head}
 use Rattle.log.specs.declared.write.Logged.{Logged}
@@ -34,7 +34,7 @@ use Rattle.frame.specs.Checks.{firstRefusal, verdictOf}
 use Rattle.log.specs.declared.write.Home.{Home}
 use Rattle.frame.specs.Home.{Serves, homeOf, withDisk}
 use Rattle.frame.specs.Settle.{settled, Concludes}
-use Rattle.frame.proofs.Verdicts.{first-refused, first-accepted, task-settled}
+use Rattle.frame.proofs.Verdicts.{first-row, first-refused, first-accepted, task-settled}
 use Rattle.device.specs.Ran.{Ran}
 use Rattle.access.specs.Tasks.{grown, replacing, Replaced}
 use Rattle.access.proofs.Reading.{taken-number}
@@ -102,7 +102,7 @@ module _ (c : Core) (w : World) (number page slot : ℕ) (value : List ℕ) wher
       let r10 = row-passed _ _ (r9 .1) in
       let r11 = row-passed _ _ (r10 .1) in
       let r14 = row-passed _ _ (r11 .1) in
-      let serving = serving-row c (r1 .0) in
+      let serving = first-row whenServing c (r1 .0) in
       let lengths = lengths-right (c .sizes) w (not-false _ (r5 .0)) in
       record {
         serves = record { state = serving-sound c (serving .0) (serving .1); log-words = lengths .logs; work-words = lengths .work };

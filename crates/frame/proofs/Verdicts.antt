@@ -6,7 +6,7 @@ use Prim.Native.Nat.{ℕ, _-_, _*_, _≤_, min}
 use native.Mathlib.Omega.{arith}
 use lib.Dec.{leb, eqb}
 use lib.ListN.{length}
-use borrow.Author.Tests.{eqb-true, eq-eqb, ne-eqb}
+use borrow.Author.Tests.{eqb-true, eq-eqb, ne-eqb, not-false}
 use Rattle.model.specs.declared.Stage.{Stage}
 use Rattle.model.specs.declared.Sizes.{Sizes}
 use Rattle.model.specs.declared.Core.{Core}
@@ -32,6 +32,11 @@ pub record Passed (allowed : Stage → Bool) (c : Core) (w : World) : Type 0 whe
   pub state : sound c ≡ true
   pub anchor : length (w .anchor) ≡ anchorWords
   pub lengths : lengthsRight (c .sizes) w ≡ true
+
+-- row 1 by its tests: the code makes both, so a call that passes them has learnt both
+pub first-row : (allowed : Stage → Bool) (c : Core) → stageForbids allowed c ≡ false → (allowed (c .stage) ≡ true) × (sound c ≡ true)
+unfolding stageForbids
+first-row allowed c e = both (allowed (c .stage)) (sound c) (not-false _ e)
 
 -- rows 1, 2 and 5 by their tests
 first-tests : (a b d : Bool) (rest : List Row)

@@ -28,7 +28,7 @@ use Rattle.model.specs.Restart.{restartBeginRows, restartStepRows, resta
 use Rattle.model.specs.Call.{Call, format, begin, update, look, read, commit, abort, checkpointBegin, checkpointStep, checkpointEnd, restartBegin, restartStep, restartRun, restartEnd, newState, rowsOf, resultOf}
 use Rattle.model.specs.Reference.{Reference, taken, outcomeOf}
 use Rattle.model.specs.Machine.{Machine, Event, result, outcome, isRefused, follow, allowedAll, formatted}
-use Rattle.model.specs.History.{Told, nothingTold}
+use Rattle.model.specs.History.{Told}
 use Rattle.model.specs.Promise.{Always}
 use Rattle.model.specs.Answers.{stagesOf, isFormat, ClosingTaken, OwnSlices}
 use Rattle.model.proofs.Booleans.{true-false}
@@ -40,8 +40,8 @@ use Rattle.model.proofs.Store.Checks.{step-never-bad, begin-verdict, sh
 use Rattle.model.proofs.Store.AbortRows.{abort-never-bad}
 use Rattle.model.proofs.Store.Holding.{Holding, shut, replaying, serving, holding-kept, served, replayed}
 use Rattle.model.proofs.Sound.Lists.{sound-after}
-use Rattle.model.proofs.Sound.Made.{stage-answers}
-use Rattle.model.proofs.PowerLoss.{format-holds, follow-holds}
+use Rattle.model.proofs.Sound.Made.{stage-alone, stage-answers}
+use Rattle.model.proofs.PowerLoss.{holds-after}
 
 -- What holds of a machine that a list of events reached, as far as refusals go.
 record Right (c : Core) (w : World) : Type 0 where
@@ -62,7 +62,7 @@ reached : (m : Machine) (s : Sizes) (budget : ℕ) → outcome m (format s budge
     → allowedAll es (formatted m s budget .machine) ≡ true
     → Right (follow es (formatted m s budget) .machine .core) (follow es (formatted m s budget) .machine .world)
 reached m s budget formats es a =
-    let h = follow-holds es nothingTold (formatted m s budget) (format-holds m s budget formats) a in
+    let h = holds-after m s budget formats es a in
     record {
       sound = sound-after m s budget formats es .1;
       restarts = holding-kept h .restartable;
@@ -86,9 +86,9 @@ module _ (c : Core) (w : World) (right : Right c w) where
   -- rows 1, 2 and 5, which every call but format, restart begin and a new state has first
   first-three : (allowed : Stage → Bool) → allowed Shut ≡ false → allowed (c .stage) ≡ true → (rest : List Row)
       → verdict (row 1 (stageForbids allowed c) ∷ row 2 (anchorWrong (w .anchor)) ∷ row 5 (lengthsWrong (c .sizes) w) ∷ rest) ≡ verdict rest
-  unfolding verdict stageForbids lengthsWrong
+  unfolding verdict lengthsWrong
   first-three allowed none stage rest =
-      rw (stage, right .sound, anchor-right, right .lengths (not-shut allowed none (c .stage) stage))
+      rw (stage-alone allowed c (right .sound), stage, anchor-right, right .lengths (not-shut allowed none (c .stage) stage))
 
 -- In its stage a call's verdict is that of rows above 7.
 record Late (k : Call) (c : Core) (w : World) : Type 0 where

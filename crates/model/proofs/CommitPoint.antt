@@ -16,14 +16,14 @@ use Rattle.model.specs.Sizes.{ringOf, tailWord, ringWord}
 use Rattle.model.specs.Record.{close, encode, commitKind}
 use Rattle.model.specs.World.{World, Device, logs, work, Action, store, write, cost, perform, stores, covered, run, finishes, each}
 use Rattle.model.specs.Memory.{bufferAt, bufferOf}
-use Rattle.model.specs.State.{tailOf, fillOf, endOf, withFill, afterFlush}
+use Rattle.model.specs.State.{tailOf, fillOf, endOf, withFill, afterFlush, sound}
 use Rattle.model.specs.Refusal.{verdict, accepted}
 use Rattle.model.specs.Append.{storeLog, storeAll, flush, buffered, append}
 use Rattle.model.specs.Transaction.{diskOf, commitRows, commitTask}
 use Rattle.model.specs.Reference.{Reference}
 use Rattle.model.specs.Machine.{Machine}
 use Rattle.model.specs.History.{Told}
-use Rattle.model.specs.Promise.{coversCommit, CommitPoint, CommitPoints}
+use Rattle.model.specs.Promise.{Always, coversCommit, CommitPoint, CommitPoints}
 use Rattle.model.proofs.Members.{Every, every-nil, every-cons, every-append}
 use Rattle.model.proofs.Run.{perform-append, stores-append, run-append, run-cut, finished-run, perform-work, each-append}
 use Rattle.model.proofs.Lengths.{Lengths, lengths-right, length-buffer, buffer-fits}
@@ -33,9 +33,9 @@ use Rattle.model.proofs.Parts.{part-sets-end}
 use Rattle.model.proofs.Flush.{store-some}
 use Rattle.model.proofs.Growth.{fill-flushed, ends-flushed, fill-set}
 use Rattle.model.proofs.Store.Rows.{serving-sound}
-use Rattle.model.proofs.Store.Holding.{Holding}
-use Rattle.model.proofs.Store.Holding.{served}
-use Rattle.model.proofs.PowerLoss.{always}
+use Rattle.model.proofs.Store.Holding.{Holding, served}
+use Rattle.model.proofs.Sound.Lists.{sound-after}
+use Rattle.model.proofs.PowerLoss.{holds-after}
 use Rattle.model.proofs.Store.Accepted.{small-buffers, commit-accepted}
 
 -- words one after the other, each put by an action with the property
@@ -189,18 +189,18 @@ module _ (c : Core) (w : World) (t : ℕ) (a : Arrays (c .sizes) (c .logs)) (rig
 
 -- The commit point, in every store that is reached: see specs/Promise.antt.
 pub commit-point : CommitPoints
-unfolding CommitPoints
-commit-point = always _ given
+unfolding CommitPoints Always
+commit-point m s budget formats events a = given _ _ _ (holds-after m s budget formats events a) (sound-after m s budget formats events .1)
   where
-    given : (puts : Told) (m : Machine) (r : Reference) → Holding puts m r → (t : ℕ)
+    given : (puts : Told) (m : Machine) (r : Reference) → Holding puts m r → sound (m .core) ≡ true → (t : ℕ)
         → verdict (commitRows (m .core) (m .world) t) ≡ accepted → CommitPoint (m .core) (m .world) t
-    given puts m r h t v =
+    given puts m r h s t v =
         let a = commit-accepted (m .core) (m .world) t v in
         let g = served h (a .serving) in
         let below = g .serving .accounts .disks t (a .opened) in
         let devices = g .serving .safe .devices in
         commit-ends (m .core) (m .world) t (devices .arrays) (lengths-right (m .core .sizes) (m .world) (devices .lengths)) below
-        (small-buffers (m .core) (serving-sound (m .core) (a .serving) (a .sound)) (diskOf (m .core) t) below)
+        (small-buffers (m .core) (serving-sound (m .core) (a .serving) s) (diskOf (m .core) t) below)
 
 -- A list that ends with a store, cut: it is cut before that store.
 cut-before : (budget : ℕ) (l : List Action) (device : Device) (i x : ℕ) (w : World) → finishes budget (l ++ store device i x ∷ []) ≡ false

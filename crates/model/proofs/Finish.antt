@@ -1,5 +1,5 @@
 -- A restart that was begun can be finished.
-use mathlib.Core.Path.{_≡_, refl, ap}
+use mathlib.Core.Path.{_≡_, refl, ap, _∙_}
 use mathlib.Core.Bool.{true, false}
 use Prim.Native.Nat.{ℕ, _+_, _≤_, _<_}
 use native.Mathlib.Omega.{arith}
@@ -17,8 +17,7 @@ use Rattle.model.specs.Causes.{whenReplaying, stageForbids, anchorWrong,
 use Rattle.model.specs.Restart.{remaining, restartStepRows, restartEndRows, restartEndTask}
 use Rattle.model.specs.Call.{Call, restartStep, restartRun, restartEnd, resultOf}
 use Rattle.model.specs.Reference.{taken, outcomeOf}
-use Rattle.model.specs.Machine.{call, result, outcome, formatted}
-use Rattle.model.specs.History.{nothingTold}
+use Rattle.model.specs.Machine.{call, result, outcome}
 use Rattle.model.specs.Promise.{Always, RestartFinishes}
 use Rattle.model.proofs.Below.{each-all}
 use Rattle.model.proofs.Counts.{restart-end-stores}
@@ -32,13 +31,13 @@ use Rattle.model.proofs.Store.Checks.{step-never-bad}
 use Rattle.model.proofs.Store.Holding.{holding-kept, replayed}
 use Rattle.model.proofs.Store.Step.{step-call}
 use Rattle.model.proofs.Sound.Lists.{event-passes, sound-after}
-use Rattle.model.proofs.PowerLoss.{format-holds, follow-holds}
+use Rattle.model.proofs.Sound.Made.{stage-alone}
+use Rattle.model.proofs.PowerLoss.{holds-after}
 
 module _ (c : Core) (w : World) (m : Progress c w) (ok : sound c ≡ true) (k : Restartable w) where
   -- the rows that a step, a run and an end share
   stage-right : stageForbids whenReplaying c ≡ false
-  unfolding stageForbids
-  stage-right = rw (ok, m .stage)
+  stage-right = stage-alone whenReplaying c ok ∙ rw (m .stage)
 
   anchor-right : anchorWrong (w .anchor) ≡ false
   unfolding anchorWrong
@@ -133,7 +132,7 @@ module _ (c : Core) (w : World) (m : Progress c w) (ok : sound c ≡ true) (k : 
 pub restart-finishes : RestartFinishes
 unfolding RestartFinishes Always result outcome
 restart-finishes m s budget formats events a stage =
-    let h = follow-holds events nothingTold (formatted m s budget) (format-holds m s budget formats) a in
+    let h = holds-after m s budget formats events a in
     let p = replayed h (ap whenReplaying stage) .progress in
     let passes = sound-after m s budget formats events in
     let ok = passes .1 in
@@ -146,7 +145,7 @@ restart-finishes m s budget formats events a stage =
       all = λ source most enough.
           run-all _ _ p ok k source most enough
           (step-taken _ _ (run-progress _ _ p ok k source most) (event-passes _ (call (restartRun source most)) passes .1)
-          (holding-kept (step-call (restartRun source most) _ _ _ h refl) .restartable) source);
+          (holding-kept (step-call (restartRun source most) _ _ _ h ok refl) .restartable) source);
       beside = run-beside _ _ p ok k;
       ends = end-taken _ _ p ok k;
     }

@@ -11,11 +11,12 @@ use Rattle.model.specs.declared.Core.{Core}
 use Rattle.model.specs.declared.Answer.{Answer}
 use Rattle.model.specs.declared.Answer.the-variants.{Finished, Refused, Interrupted}
 use Rattle.model.specs.World.{World}
+use Rattle.model.specs.State.{sound}
 use Rattle.model.specs.Anchor.{sizesOn, startOn}
 use Rattle.model.specs.Causes.{whenShut, whenReplaying, whenServing}
 use Rattle.model.specs.Restart.{positionOf, restartBeginTask, restartEndRows}
 use Rattle.model.specs.Call.{Call, format, restartBegin, restartEnd, resultOf}
-use Rattle.model.specs.Reference.{Reference, taken, refused, outcomeOf, hear, heardOf, wordsIn}
+use Rattle.model.specs.Reference.{Reference, taken, outcomeOf, hear, heardOf, wordsIn}
 use Rattle.model.specs.Machine.{Machine, Event, call, lent, scramble, result, outcome, isRefused, allowed, after, referred, Run, follow, allowedAll, formatted}
 use Rattle.model.specs.Promise.{Always, PowerLoss, RestartAccepted, Table}
 use Rattle.model.specs.LogPromise.{LogOf, LogKept, StateTrue, NeverMalformed, BackupSteps}
@@ -36,6 +37,8 @@ use Rattle.model.proofs.Store.Crash.{stored}
 use Rattle.model.proofs.Store.Buffered.{buffered}
 use Rattle.model.proofs.Store.Truth.{truth}
 use Rattle.model.proofs.Store.AbortRows.{abort-never-bad}
+use Rattle.model.proofs.Sound.Test.{Passing}
+use Rattle.model.proofs.Sound.Lists.{event-passes, formatted-passes}
 
 -- what the reference hears of a refused call changes nothing
 heard-refused : (k : Call) (c : Core) (w : World) (a : Answer) (r : Reference) → isRefused (outcomeOf a) ≡ true
@@ -46,11 +49,11 @@ heard-refused k c w (Refused n x y) r e = refl
 heard-refused k c w (Interrupted n) r e = true-false e refl
 
 -- every allowed event keeps what holds
-pub step-event : (e : Event) (puts : Told) (m : Machine) (r : Reference) → Holding puts m r → allowed m e ≡ true
+pub step-event : (e : Event) (puts : Told) (m : Machine) (r : Reference) → Holding puts m r → sound (m .core) ≡ true → allowed m e ≡ true
     → Holding (told (record { machine = m; reference = r }) e puts) (after m e) (referred m e r)
-step-event (call k) puts m r h a = step-call k puts m r h a
-step-event (lent k w) puts m r h a = rw (heard-refused k (m .core) w (resultOf k (m .core) w .answer) r a) h
-step-event (scramble pages work) puts m r h a =
+step-event (call k) puts m r h s a = step-call k puts m r h s a
+step-event (lent k w) puts m r h s a = rw (heard-refused k (m .core) w (resultOf k (m .core) w .answer) r a) h
+step-event (scramble pages work) puts m r h s a =
     let one = eqb (length pages) (length (m .world .pages)) in
     let two = eqb (length work) (length (m .world .work)) in
     let both = and-eq-true-iff (whenShut (m .core .stage) && one) two .0 a in
@@ -64,14 +67,14 @@ step-event (scramble pages work) puts m r h a =
 
 -- and so does every list of them
 pub follow-holds : (events : List Event) (puts : Told) (x : Run) → Holding puts (x .machine) (x .reference)
-    → allowedAll events (x .machine) ≡ true
+    → Passing (x .machine .core) → allowedAll events (x .machine) ≡ true
     → Holding (history events x puts) (follow events x .machine) (follow events x .reference)
 unfolding follow allowedAll history
-follow-holds [] puts x h a = h
-follow-holds (e ∷ es) puts x h a =
+follow-holds [] puts x h p a = h
+follow-holds (e ∷ es) puts x h p a =
     let both = and-eq-true-iff (allowed (x .machine) e) (allowedAll es (after (x .machine) e)) .0 a in
     follow-holds es (told x e puts) (record { machine = after (x .machine) e; reference = referred (x .machine) e (x .reference) })
-    (step-event e puts (x .machine) (x .reference) h (both .0)) (both .1)
+    (step-event e puts (x .machine) (x .reference) h (p .1) (both .0)) (event-passes (x .machine) e p) (both .1)
 
 -- it holds after a format
 pub format-holds : (m : Machine) (s : Sizes) (budget : ℕ) → outcome m (format s budget) ≡ taken
@@ -82,10 +85,15 @@ format-holds m s budget e =
     rw (t .core, t .world) (serving (format-serves (m .core) (m .world) s (t .accepted)))
 
 -- so it holds of every machine and reference that a list of allowed events reaches
+pub holds-after : (m : Machine) (s : Sizes) (budget : ℕ) → outcome m (format s budget) ≡ taken → (es : List Event)
+    → allowedAll es (formatted m s budget .machine) ≡ true
+    → Holding (history es (formatted m s budget) nothingTold) (follow es (formatted m s budget) .machine) (follow es (formatted m s budget) .reference)
+holds-after m s budget formats es a =
+    follow-holds es nothingTold (formatted m s budget) (format-holds m s budget formats) (formatted-passes m s budget formats) a
+
 pub always : (P : Machine → Reference → Type 0) → ((puts : Told) (m : Machine) (r : Reference) → Holding puts m r → P m r) → Always P
 unfolding Always
-always P f m s budget formats events a =
-    f (history events (formatted m s budget) nothingTold) _ _ (follow-holds events nothingTold (formatted m s budget) (format-holds m s budget formats) a)
+always P f m s budget formats events a = f _ _ _ (holds-after m s budget formats events a)
 
 -- The power-loss theorem: see specs/Promise.antt.
 pub power-loss : PowerLoss
@@ -147,8 +155,7 @@ log-holds {puts} {m} {r} (serving g) d below =
 
 pub log-kept : LogKept
 unfolding LogKept
-log-kept m s budget formats events a =
-    log-holds (follow-holds events nothingTold (formatted m s budget) (format-holds m s budget formats) a)
+log-kept m s budget formats events a = log-holds (holds-after m s budget formats events a)
 
 -- A backup step takes the next page.
 pub backup-steps : BackupSteps

@@ -1,6 +1,7 @@
 -- Abort writes no more words than its transaction has reserved, so it hands back a state that passes the first test.
 use mathlib.Core.Path.{_≡_, refl}
 use mathlib.Core.List.{List, [], _∷_, List·Memᴰ·head, List·Memᴰ·tail}
+use mathlib.Core.Bool.{true}
 use Prim.Native.Nat.{ℕ, _+_, _≤_, _<_}
 use native.Mathlib.Omega.{arith}
 use lib.ListN.{length}
@@ -78,13 +79,13 @@ undo-grown s l w number d (u ∷ us) sized small below short =
     (undo-grown s (one .logs) (perform (one .actions) w) number d us (first .sized) (first .small) below (λ v m. short v (List·Memᴰ·tail m)))
 
 -- The log of its disk grows by the words of the updates taken back and the two of the closing record.
-pub abort-grown : (c : Core) (w : World) (number : ℕ) → Sized c → Aborting c w number
+pub abort-grown : (c : Core) (w : World) (number : ℕ) → Sized c → sound c ≡ true → Aborting c w number
     → Longer (c .sizes) (diskOf c number) (updateWords (updatesLeft c w number) + 2) (c .logs) (abortTask c w number .core .logs)
 unfolding abortTask withLog encode
-abort-grown c w number sized a =
+abort-grown c w number sized ok a =
     let s : Sizes = c .sizes in
     let d : ℕ = diskOf c number in
-    let good = serving-sound c (a .serving) (a .sound) in
+    let good = serving-sound c (a .serving) ok in
     let below : d < 8 = omega (arith, open-below c number good (a .opened), disks-max c good) in
     let undone : Appended = undoAll s (c .logs) w number d (updatesLeft c w number) in
     let first =
@@ -94,10 +95,10 @@ abort-grown c w number sized a =
     (append-longer s (undone .logs) d (first .sized) (first .small) below (perform (undone .actions) w .work)
     (encode (close abortKind number)) (omega arith))
 
-pub abort-passes : (c : Core) (w : World) (number : ℕ) → Sized c → verdict (abortRows c w number) ≡ accepted
+pub abort-passes : (c : Core) (w : World) (number : ℕ) → Sized c → sound c ≡ true → verdict (abortRows c w number) ≡ accepted
     → Passing (abortTask c w number .core)
 unfolding abortTask withLog
-abort-passes c w number sized ok =
-    let a = abort-accepted c w number ok in
-    close-passes c (a .serving) (a .sound) sized number (a .opened) (updateWords (updatesLeft c w number) + 2)
-    (abortTask c w number .core .logs) (abort-grown c w number sized a) (a .words)
+abort-passes c w number sized s ok =
+    let a = abort-accepted c w number s ok in
+    close-passes c (a .serving) s sized number (a .opened) (updateWords (updatesLeft c w number) + 2)
+    (abortTask c w number .core .logs) (abort-grown c w number sized s a) (a .words)

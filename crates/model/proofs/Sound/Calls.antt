@@ -1,20 +1,17 @@
 -- Every call keeps the lengths of the state's arrays, and of a state that passes the first test it makes one that passes it.
 use mathlib.Core.Path.{_≡_, refl}
 use mathlib.Core.Bool.{true}
-use Prim.Native.Nat.{ℕ}
 use Rattle.model.specs.declared.Core.{Core}
 use Rattle.model.specs.World.{World}
 use Rattle.model.specs.State.{newCore, sound}
 use Rattle.model.specs.Refusal.{Result, accepted, verdict}
 use Rattle.model.specs.Call.{Call, format, begin, update, look, lookTask, commit, abort, checkpointBegin, checkpointStep, checkpointEnd, restartBegin, restartStep, restartRun, restartEnd, newState, rowsOf, taskOf, resultOf}
 use Rattle.model.proofs.Store.Cases.{call-cases}
-use Rattle.model.proofs.Store.Rows.{serving-row}
 use Rattle.model.proofs.Sound.Test.{Sized, Passing}
 use Rattle.model.proofs.Sound.Transaction.{begin-passes, update-passes, commit-passes}
 use Rattle.model.proofs.Sound.Abort.{abort-passes}
 use Rattle.model.proofs.Sound.Checkpoint.{checkpoint-begin-passes, checkpoint-step-passes, checkpoint-end-passes}
 use Rattle.model.proofs.Sound.Restart.{format-passes, restart-begin-passes, restart-step-passes, restart-run-passes, restart-end-passes}
-use Rattle.model.proofs.Verdict.{row-passed}
 
 -- a new state, which is also what an interrupted call hands back
 pub new-passes : Passing newCore
@@ -36,18 +33,18 @@ look-passes c sized s = (sized, s)
 -- a call that is accepted
 pub taken-passes : (k : Call) (c : Core) (w : World) → Sized c → sound c ≡ true → verdict (rowsOf k c w) ≡ accepted → Passing (taskOf k c w .core)
 taken-passes (format z budget) c w sized s ok = format-passes c w z ok
-taken-passes begin c w sized s ok = begin-passes c w sized ok
-taken-passes (update number page slot value budget) c w sized s ok = update-passes c w number page slot value sized ok
+taken-passes begin c w sized s ok = begin-passes c w sized s ok
+taken-passes (update number page slot value budget) c w sized s ok = update-passes c w number page slot value sized s ok
 taken-passes (look q) c w sized s ok = look-passes c sized s
-taken-passes (commit number budget) c w sized s ok = commit-passes c w number sized ok
-taken-passes (abort number budget) c w sized s ok = abort-passes c w number sized ok
-taken-passes checkpointBegin c w sized s ok = checkpoint-begin-passes c w sized ok
-taken-passes (checkpointStep budget) c w sized s ok = checkpoint-step-passes c w sized ok
-taken-passes (checkpointEnd budget) c w sized s ok = checkpoint-end-passes c w sized ok
+taken-passes (commit number budget) c w sized s ok = commit-passes c w number sized s ok
+taken-passes (abort number budget) c w sized s ok = abort-passes c w number sized s ok
+taken-passes checkpointBegin c w sized s ok = checkpoint-begin-passes c w sized s ok
+taken-passes (checkpointStep budget) c w sized s ok = checkpoint-step-passes c w sized s ok
+taken-passes (checkpointEnd budget) c w sized s ok = checkpoint-end-passes c w sized s ok
 taken-passes restartBegin c w sized s ok = restart-begin-passes c w ok
-taken-passes (restartStep source) c w sized s ok = restart-step-passes c w source sized ok
+taken-passes (restartStep source) c w sized s ok = restart-step-passes c w source sized s ok
 taken-passes (restartRun source most) c w sized s ok = restart-run-passes c w source most (sized, s)
-taken-passes (restartEnd budget) c w sized s ok = restart-end-passes c w sized ok
+taken-passes (restartEnd budget) c w sized s ok = restart-end-passes c w sized s ok
 taken-passes newState c w sized s ok = new-passes
 
 pub sized-kept : (k : Call) (c : Core) (w : World) → Sized c → sound c ≡ true → Sized (resultOf k c w .core)

@@ -24,16 +24,15 @@ use Rattle.model.proofs.Places.{served-is, served-here}
 use Rattle.model.proofs.Store.Accepted.{disks-max}
 
 -- Begin: the remembered ends are the logs' ends.
-pub checkpoint-begin-passes : (c : Core) (w : World) → Sized c → verdict (checkpointBeginRows c w) ≡ accepted
+pub checkpoint-begin-passes : (c : Core) (w : World) → Sized c → sound c ≡ true → verdict (checkpointBeginRows c w) ≡ accepted
     → Passing (checkpointBeginTask c w .core)
 unfolding checkpointBeginRows checkpointBeginTask spent servingSound diskSound placeSound
-checkpoint-begin-passes c w sized ok =
+checkpoint-begin-passes c w sized s ok =
     let stage = row-passed _ _ ok in
     let anchor = row-passed _ _ (stage .1) in
     let lengths = row-passed _ _ (anchor .1) in
     let epoch = row-passed _ _ (lengths .1) in
-    let opened = stage-row whenOpen c (stage .0) in
-    let good = serving-sound c (open-serving c (opened .0)) (opened .1) in (
+    let good = serving-sound c (open-serving c (stage-row whenOpen c (stage .0))) s in (
       record {
         logs = sized .logs;
         table = sized .table;
@@ -51,21 +50,21 @@ checkpoint-begin-passes c w sized ok =
     )
 
 -- Step: the page that is copied is one of the pages.
-pub checkpoint-step-passes : (c : Core) (w : World) → Sized c → verdict (checkpointStepRows c w) ≡ accepted
+pub checkpoint-step-passes : (c : Core) (w : World) → Sized c → sound c ≡ true → verdict (checkpointStepRows c w) ≡ accepted
     → Passing (checkpointStepTask c w .core)
 unfolding checkpointStepRows checkpointStepTask lowestToCopy toCopy servingSound diskSound placeSound
-checkpoint-step-passes c w sized ok =
+checkpoint-step-passes c w sized s ok =
     let stage = row-passed _ _ ok in
     let anchor = row-passed _ _ (stage .1) in
     let lengths = row-passed _ _ (anchor .1) in
     let page = row-passed _ _ (lengths .1) in
     let copying = stage-row whenCopying c (stage .0) in
-    let good = serving-sound c (copying-serving c (copying .0)) (copying .1) in
-    let k = checkpoint-sound c (copying .0) (copying .1) in
+    let good = serving-sound c (copying-serving c copying) s in
+    let k = checkpoint-sound c copying s in
     let below : lowestToCopy c < c .sizes .pages = leb-false _ _ (page .0) in
     let from : c .checkpoint .copied ≤ lowestToCopy c = leb-true _ _ (first-passes (toCopy c) (c .sizes .pages) below) in (
       record { logs = sized .logs; table = sized .table; ends = sized .ends; positions = sized .positions },
-      copying-test (checkpointStepTask c w .core) (copying .0) good
+      copying-test (checkpointStepTask c w .core) copying good
           (record { epoch = k .epoch; copied = omega arith; ends = k .ends }),
     )
 
@@ -132,21 +131,19 @@ module _ (c : Core) (w : World) (copying : whenCopying (c .stage) ≡ true) (s :
         );
       })
 
-pub checkpoint-end-passes : (c : Core) (w : World) → Sized c → verdict (checkpointEndRows c w) ≡ accepted
+pub checkpoint-end-passes : (c : Core) (w : World) → Sized c → sound c ≡ true → verdict (checkpointEndRows c w) ≡ accepted
     → Passing (checkpointEndTask c w .core)
 unfolding checkpointEndRows checkpointEndTask sound
-checkpoint-end-passes c w sized ok =
-    let stage = row-passed _ _ ok in
-    let copying = stage-row whenCopying c (stage .0) in (
-      record {
-        logs = record {
-          starts = length-per-disk (c .sizes) (newStart c);
-          tails = length-per-disk (c .sizes) (endOf (c .logs));
-          fills = refl;
-        };
-        table = sized .table;
-        ends = refl;
-        positions = sized .positions;
-      },
-      checkpoint-ended c w (copying .0) (copying .1),
-    )
+checkpoint-end-passes c w sized s ok = (
+  record {
+    logs = record {
+      starts = length-per-disk (c .sizes) (newStart c);
+      tails = length-per-disk (c .sizes) (endOf (c .logs));
+      fills = refl;
+    };
+    table = sized .table;
+    ends = refl;
+    positions = sized .positions;
+  },
+  checkpoint-ended c w (stage-row whenCopying c (row-passed _ _ ok .0)) s,
+)

@@ -80,17 +80,17 @@ pub record Closes (c : Core) (number words : ℕ) (after : Logs) : Type 0 where
   pub end : endOf after (diskOf c number) ≡ endOf (c .logs) (diskOf c number) + words
   pub reserved : words ≤ reservedAt (c .table) (placeOf (c .table) number)
 
-pub commit-closes : (c : Core) (w : World) (number : ℕ) → Sized c → verdict (commitRows c w number) ≡ accepted
+pub commit-closes : (c : Core) (w : World) (number : ℕ) → Sized c → sound c ≡ true → verdict (commitRows c w number) ≡ accepted
     → Closes c number 2 (commitTask c w number .core .logs)
-commit-closes c w number sized ok =
+commit-closes c w number sized s ok =
     let a = commit-accepted c w number ok in
     record {
-      end = commit-grown c w number sized a .end-longer;
-      reserved = sound-closing c (a .sound) (a .serving) number (a .opened) .closing;
+      end = commit-grown c w number sized s a .end-longer;
+      reserved = sound-closing c s (a .serving) number (a .opened) .closing;
     }
 
-pub abort-closes : (c : Core) (w : World) (number : ℕ) → Sized c → verdict (abortRows c w number) ≡ accepted
+pub abort-closes : (c : Core) (w : World) (number : ℕ) → Sized c → sound c ≡ true → verdict (abortRows c w number) ≡ accepted
     → Closes c number (updateWords (updatesLeft c w number) + 2) (abortTask c w number .core .logs)
-abort-closes c w number sized ok =
-    let a = abort-accepted c w number ok in
-    record { end = abort-grown c w number sized a .end-longer; reserved = a .words }
+abort-closes c w number sized s ok =
+    let a = abort-accepted c w number s ok in
+    record { end = abort-grown c w number sized s a .end-longer; reserved = a .words }

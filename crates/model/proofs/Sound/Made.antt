@@ -36,7 +36,7 @@ made-passes (by k w {c} made) =
     (sized-kept k c w (p .0) (p .1), sound-kept k c w (p .0) (p .1))
 
 -- row 1 of a state that passes the test
-stage-alone : (allowed : Stage → Bool) (c : Core) → sound c ≡ true → stageForbids allowed c ≡ not (allowed (c .stage))
+pub stage-alone : (allowed : Stage → Bool) (c : Core) → sound c ≡ true → stageForbids allowed c ≡ not (allowed (c .stage))
 unfolding stageForbids
 stage-alone allowed c ok = rw ok (go (allowed (c .stage)))
   where

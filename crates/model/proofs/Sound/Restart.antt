@@ -151,38 +151,35 @@ page-left c source same e =
     eqb-false _ _ (rw (le-ltb source (c .sizes .disks) (omega arith), eq-eqb source (c .sizes .disks) (sym same)) at e) in
     omega (arith, left)
 
-pub restart-step-passes : (c : Core) (w : World) (source : ℕ) → Sized c → verdict (restartStepRows c w source) ≡ accepted
+pub restart-step-passes : (c : Core) (w : World) (source : ℕ) → Sized c → sound c ≡ true → verdict (restartStepRows c w source) ≡ accepted
     → Passing (restartStepTask c w source .core)
 unfolding restartStepRows restartStepTask sourceMissing
-restart-step-passes c w source sized ok =
+restart-step-passes c w source sized s ok =
     let stage = row-passed _ _ ok in
     let anchor = row-passed _ _ (stage .1) in
     let lengths = row-passed _ _ (anchor .1) in
     let records = row-passed _ _ (lengths .1) in
     let missing = row-passed _ _ (records .1) in
     let rest = row-passed _ _ (missing .1) in
-    let replaying = stage-row whenReplaying c (stage .0) in
-    go (replaying .0) (replaying .1) (missing .0) (rest .0) (ltb source (c .sizes .disks)) refl
+    go (stage-row whenReplaying c (stage .0)) (missing .0) (rest .0) (ltb source (c .sizes .disks)) refl
   where
-    go : whenReplaying (c .stage) ≡ true → sound c ≡ true → ltb (c .sizes .disks) source ≡ false → eqb (remaining c source) 0 ≡ false
+    go : whenReplaying (c .stage) ≡ true → ltb (c .sizes .disks) source ≡ false → eqb (remaining c source) 0 ≡ false
         → (b : Bool) → ltb source (c .sizes .disks) ≡ b
         → Passing (cond b (recordStep c w source (nextRecord c w source)) (backupStep c w) .core)
-    go replaying s near left true e =
+    go replaying near left true e =
         record-passes c w sized replaying s source (ltb-true _ _ e) (nextRecord c w source) refl
-    go replaying s near left false e =
+    go replaying near left false e =
         backup-passes c w sized replaying s
         (page-left c source (omega (arith, ltb-false source (c .sizes .disks) e, ltb-false (c .sizes .disks) source near)) left)
 
 -- A run of them.
 pub restart-run-passes : (c : Core) (w : World) (source most : ℕ) → Passing c → Passing (restartRunTask most c w source .core)
 restart-run-passes c w source most p =
-    run-keeps most (λ k n v. Passing n) source (λ k n v ok now. restart-step-passes n v source (now .0) ok) c w p
+    run-keeps most (λ k n v. Passing n) source (λ k n v ok now. restart-step-passes n v source (now .0) (now .1) ok) c w p
 
 -- Restart end: the logs start at their tails.
-pub restart-end-passes : (c : Core) (w : World) → Sized c → verdict (restartEndRows c w) ≡ accepted → Passing (restartEndTask c w .core)
+pub restart-end-passes : (c : Core) (w : World) → Sized c → sound c ≡ true → verdict (restartEndRows c w) ≡ accepted → Passing (restartEndTask c w .core)
 unfolding restartEndRows restartEndTask tailOf
-restart-end-passes c w sized ok =
-    let stage = row-passed _ _ ok in
-    let replaying = stage-row whenReplaying c (stage .0) in
-    let k = replay-sound c (replaying .0) (replaying .1) in
+restart-end-passes c w sized s ok =
+    let k = replay-sound c (stage-row whenReplaying c (row-passed _ _ ok .0)) s in
     open-passes (c .sizes) (c .epoch + 1) (c .logs .tails) (k .bounds) (sized .logs .tails) (k .tails)

@@ -26,20 +26,21 @@ use Rattle.model.proofs.Growth.{tail-end, Longer, longer-none, longer-t
 use Rattle.model.proofs.Store.Accepted.{room-found, room-none, small-buffers, disks-max, OpenPlace, open-entry, open-below, Committing, begin-accepted, update-accepted, commit-accepted, Room}
 
 -- Begin: two words more are reserved on the chosen disk, which has room for them.
-pub begin-passes : (c : Core) (w : World) → Sized c → verdict (beginRows c w) ≡ accepted → Passing (beginTask c w .core)
+pub begin-passes : (c : Core) (w : World) → Sized c → sound c ≡ true → verdict (beginRows c w) ≡ accepted → Passing (beginTask c w .core)
 unfolding beginTask begun
-begin-passes c w sized ok =
+begin-passes c w sized s ok =
     let a = begin-accepted c w ok in
-    let good = serving-sound c (a .serving) (a .sound) in (
+    let good = serving-sound c (a .serving) s in
+    let disk = a .chosen (disks-max c good) in (
       record {
         logs = sized .logs;
         table = sized-put (c .table) (sized .table) (placeOf (c .table) 0) (c .next) (idlest c 2) 0 2 (a .free);
         ends = sized .ends;
         positions = sized .positions;
       },
-      entry-sound c (a .serving) (a .sound) sized (idlest c 2) 0 (c .logs) (a .chosen .below)
+      entry-sound c (a .serving) s sized (idlest c 2) 0 (c .logs) (disk .below)
           (longer-none (c .logs) (sized .logs) (small-buffers c good)) (placeOf (c .table) 0) (a .free) (c .next) (idlest c 2)
-          0 2 (c .next + 1) 2 (room-found c 2 (idlest c 2) (a .chosen .passes)) (omega arith)
+          0 2 (c .next + 1) 2 (room-found c 2 (idlest c 2) (disk .passes)) (omega arith)
           (λ some. record { home = refl; closing = omega arith; inside = λ more. absurd (omega arith) }),
     )
 
@@ -114,37 +115,37 @@ module _ (c : Core) (serving : whenServing (c .stage) ≡ true) (s : sound c ≡
         (room-none c disk (disk-sound c disk good below)) (omega (arith, mine .by)) (λ some. absurd (some refl)),
   )
 
-pub update-passes : (c : Core) (w : World) (number page slot : ℕ) (value : List ℕ) → Sized c
+pub update-passes : (c : Core) (w : World) (number page slot : ℕ) (value : List ℕ) → Sized c → sound c ≡ true
     → verdict (updateRows c w number page slot value) ≡ accepted → Passing (updateTask c w number page slot value .core)
 unfolding updateTask
-update-passes c w number page slot value sized ok =
+update-passes c w number page slot value sized s ok =
     let a = update-accepted c w number page slot value ok in
-    let good = serving-sound c (a .serving) (a .sound) in
+    let good = serving-sound c (a .serving) s in
     let words : List ℕ = encode (updateRecord c w number page slot value) in
     let few = update-words c w number page slot value (a .width) in
     let short = short-words c page good (a .page-lt) in
     let d : diskOf c number < 8 = omega (arith, open-below c number good (a .opened), disks-max c good) in
-    update-entry c (a .serving) (a .sound) sized number (a .opened) (length words)
+    update-entry c (a .serving) s sized number (a .opened) (length words)
     (append (c .sizes) (c .logs) (w .work) (diskOf c number) words .logs)
     (append-longer (c .sizes) (c .logs) (diskOf c number) (sized .logs) (small-buffers c good) d (w .work) words (omega arith))
     (2 * wordsOf updateKind (widthIn (c .sizes) page)) (omega arith) (a .room)
 
 -- The log of its disk grows by the two words of the closing record.
-pub commit-grown : (c : Core) (w : World) (number : ℕ) → Sized c → Committing c number
+pub commit-grown : (c : Core) (w : World) (number : ℕ) → Sized c → sound c ≡ true → Committing c number
     → Longer (c .sizes) (diskOf c number) 2 (c .logs) (commitTask c w number .core .logs)
 unfolding commitTask withLog encode
-commit-grown c w number sized a =
-    let good = serving-sound c (a .serving) (a .sound) in
+commit-grown c w number sized s a =
+    let good = serving-sound c (a .serving) s in
     let words : List ℕ = encode (close commitKind number) in
     let d : ℕ = diskOf c number in
     let below : d < 8 = omega (arith, open-below c number good (a .opened), disks-max c good) in
     let added = append-longer (c .sizes) (c .logs) d (sized .logs) (small-buffers c good) below (w .work) words (omega arith) in
     longer-then added (flush-longer (c .sizes) (append (c .sizes) (c .logs) (w .work) d words .logs) d (added .sized) (added .small) below)
 
-pub commit-passes : (c : Core) (w : World) (number : ℕ) → Sized c → verdict (commitRows c w number) ≡ accepted
+pub commit-passes : (c : Core) (w : World) (number : ℕ) → Sized c → sound c ≡ true → verdict (commitRows c w number) ≡ accepted
     → Passing (commitTask c w number .core)
 unfolding commitTask withLog
-commit-passes c w number sized ok =
+commit-passes c w number sized s ok =
     let a = commit-accepted c w number ok in
-    close-passes c (a .serving) (a .sound) sized number (a .opened) 2 (commitTask c w number .core .logs) (commit-grown c w number sized a)
-    (open-entry c number (serving-sound c (a .serving) (a .sound)) (a .opened) .sound .reserved)
+    close-passes c (a .serving) s sized number (a .opened) 2 (commitTask c w number .core .logs) (commit-grown c w number sized s a)
+    (open-entry c number (serving-sound c (a .serving) s) (a .opened) .sound .reserved)

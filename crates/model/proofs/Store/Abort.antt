@@ -11,7 +11,7 @@ use Rattle.model.specs.Word.{_⊕_}
 use Rattle.model.specs.Sizes.{ringOf}
 use Rattle.model.specs.Scan.{Update, updateWords}
 use Rattle.model.specs.World.{World, perform, stores, run, finishes}
-use Rattle.model.specs.State.{limit, keptOf, endOf, withLog, placeOf, hasUpdate}
+use Rattle.model.specs.State.{limit, keptOf, endOf, withLog, placeOf, hasUpdate, sound}
 use Rattle.model.specs.Refusal.{accepted, verdict}
 use Rattle.model.specs.Append.{Appended}
 use Rattle.model.specs.Transaction.{diskOf}
@@ -154,17 +154,17 @@ module _ {home : ℕ → ℕ} {puts : Told} {c : Core} {w : World} {r : Referenc
           (omega (arith, stores-append (undo .actions) (last .actions))))
 
 -- An accepted abort leaves a store that serves, without the transaction.
-pub abort-serves : {puts : Told} {c : Core} {w : World} {r : Reference} → Served puts c w r → (number budget n : ℕ)
+pub abort-serves : {puts : Told} {c : Core} {w : World} {r : Reference} → Served puts c w r → sound c ≡ true → (number budget n : ℕ)
     → verdict (abortRows c w number) ≡ accepted
     → Served (also puts (putBy (abort number budget) (runAt c w r) puts)) (abortTask c w number .core) (perform (abortTask c w number .actions) w) (afterTaken (abort number budget) n r)
-abort-serves {c = c} {w = w} g number budget n v = abort-served (g .serving) number (may-abort c w number v)
+abort-serves {c = c} {w = w} g s number budget n v = abort-served (g .serving) number (may-abort c w number s v)
 
 -- Cut, it leaves devices that restart to what was committed.
-pub abort-cut : {puts : Told} {c : Core} {w : World} {r : Reference} → Served puts c w r → (number budget : ℕ)
+pub abort-cut : {puts : Told} {c : Core} {w : World} {r : Reference} → Served puts c w r → sound c ≡ true → (number budget : ℕ)
     → verdict (abortRows c w number) ≡ accepted → finishes budget (abortTask c w number .actions) ≡ false
     → Kept (also puts (putBy (abort number budget) (runAt c w r) puts)) (run budget (abortTask c w number .actions) w) r
 unfolding finishes
-abort-cut {puts} {c = c} {w = w} g number budget v f =
-    let may = may-abort c w number v in
+abort-cut {puts} {c = c} {w = w} g s number budget v f =
+    let may = may-abort c w number s v in
     rw (updates-told (g .serving) number (may .opened) (may .below), ← append-assoc (puts .puts) (compensations c w number (updatesLeft c w number)) _)
-    (kept-lost (abort-kept (g .serving) number (may-abort c w number v) budget (leb-false _ _ f)) _)
+    (kept-lost (abort-kept (g .serving) number may budget (leb-false _ _ f)) _)

@@ -26,7 +26,7 @@ use Rattle.model.proofs.Bounds.{bounded}
 use Rattle.model.proofs.Places.{place-holds, open-place}
 use Rattle.model.proofs.Reserved.{reservedBy, own-by, by-le}
 use Rattle.model.proofs.Growth.{Small}
-use Rattle.model.proofs.Store.Rows.{serving-row, serving-sound, sizes-sound, DiskSound, disk-sound, PlaceSound, place-sound}
+use Rattle.model.proofs.Store.Rows.{stage-row, serving-sound, sizes-sound, DiskSound, disk-sound, PlaceSound, place-sound}
 
 -- Room for k words more on a disk, beside those that are reserved.
 pub record Room (c : Core) (d k : ℕ) : Type 0 where
@@ -87,12 +87,11 @@ module _ (c : Core) (number : ℕ) (ok : servingSound c ≡ true) (o : isOpen (c
       let on = disk-sound c (diskOf c number) ok open-below in
       (omega (arith, on .room, on .ordered, open-entry .on), omega (arith, on .limit, open-entry .on))
 
--- Begin: a place is free, and the disk chosen has room for two words.
+-- Begin: a place is free, and the disk chosen has room for two words; a choice looks at eight disks.
 pub record Beginning (c : Core) : Type 0 where
   pub serving : whenServing (c .stage) ≡ true
-  pub sound : sound c ≡ true
   pub free : placeOf (c .table) 0 < places
-  pub chosen : Idlest (hasRoom c 2) (loadOf (c .logs)) (c .sizes .disks) (idlest c 2)
+  pub chosen : c .sizes .disks ≤ 8 → Idlest (hasRoom c 2) (loadOf (c .logs)) (c .sizes .disks) (idlest c 2)
 
 pub begin-accepted : (c : Core) (w : World) → verdict (beginRows c w) ≡ accepted → Beginning c
 unfolding beginRows tableFull idlest
@@ -103,20 +102,16 @@ begin-accepted c w ok =
     let r12 = row-passed _ _ (r5 .1) in
     let r13 = row-passed _ _ (r12 .1) in
     let r14 = row-passed _ _ (r13 .1) in
-    let serving = serving-row c (r1 .0) in
-    let eight = disks-max c (serving-sound c (serving .0) (serving .1)) in
     record {
-      serving = serving .0;
-      sound = serving .1;
+      serving = stage-row whenServing c (r1 .0);
       free = leb-false _ _ (r12 .0);
-      chosen = idlest-found (hasRoom c 2) (loadOf (c .logs)) (c .sizes .disks) eight (leb-false _ _ (r14 .0));
+      chosen = λ eight. idlest-found (hasRoom c 2) (loadOf (c .logs)) (c .sizes .disks) eight (leb-false _ _ (r14 .0));
     }
 
 -- Update: its transaction is open, its slot is there and not another's, its value as wide, and its disk has room for the
 -- record and for one that takes it back.
 pub record Updating (c : Core) (w : World) (number page slot : ℕ) (value : List ℕ) : Type 0 where
   pub serving : whenServing (c .stage) ≡ true
-  pub sound : sound c ≡ true
   pub page-lt : page < c .sizes .pages
   pub slot-lt : slot < slotsIn (c .sizes) page
   pub opened : isOpen (c .table) number ≡ true
@@ -136,11 +131,9 @@ update-accepted c w number page slot value ok =
     let r10 = row-passed _ _ (r9 .1) in
     let r11 = row-passed _ _ (r10 .1) in
     let r14 = row-passed _ _ (r11 .1) in
-    let serving = serving-row c (r1 .0) in
     let there = or-none _ _ (r8 .0) in
     record {
-      serving = serving .0;
-      sound = serving .1;
+      serving = stage-row whenServing c (r1 .0);
       page-lt = leb-false _ _ (there .0);
       slot-lt = leb-false _ _ (there .1);
       opened = not-false _ (r9 .0);
@@ -151,7 +144,6 @@ update-accepted c w number page slot value ok =
 
 pub record Committing (c : Core) (number : ℕ) : Type 0 where
   pub serving : whenServing (c .stage) ≡ true
-  pub sound : sound c ≡ true
   pub opened : isOpen (c .table) number ≡ true
 
 pub commit-accepted : (c : Core) (w : World) (number : ℕ) → verdict (commitRows c w number) ≡ accepted → Committing c number
@@ -161,30 +153,27 @@ commit-accepted c w number ok =
     let r2 = row-passed _ _ (r1 .1) in
     let r5 = row-passed _ _ (r2 .1) in
     let r9 = row-passed _ _ (r5 .1) in
-    let serving = serving-row c (r1 .0) in
-    record { serving = serving .0; sound = serving .1; opened = not-false _ (r9 .0) }
+    record { serving = stage-row whenServing c (r1 .0); opened = not-false _ (r9 .0) }
 
 -- Abort: what it takes back and its closing record have no more words than are reserved for them.
 pub record Aborting (c : Core) (w : World) (number : ℕ) : Type 0 where
   pub serving : whenServing (c .stage) ≡ true
-  pub sound : sound c ≡ true
   pub opened : isOpen (c .table) number ≡ true
   pub words : updateWords (updatesLeft c w number) + 2 ≤ reservedAt (c .table) (placeOf (c .table) number)
 
-pub abort-accepted : (c : Core) (w : World) (number : ℕ) → verdict (abortRows c w number) ≡ accepted → Aborting c w number
+pub abort-accepted : (c : Core) (w : World) (number : ℕ) → sound c ≡ true → verdict (abortRows c w number) ≡ accepted → Aborting c w number
 unfolding abortRows notOpen
-abort-accepted c w number ok =
+abort-accepted c w number s ok =
     let r1 = row-passed _ _ ok in
     let r2 = row-passed _ _ (r1 .1) in
     let r5 = row-passed _ _ (r2 .1) in
     let r7 = row-passed _ _ (r5 .1) in
     let r9 = row-passed _ _ (r7 .1) in
-    let serving = serving-row c (r1 .0) in
+    let serving = stage-row whenServing c (r1 .0) in
     let opened = not-false _ (r9 .0) in
-    let mine = open-entry c number (serving-sound c (serving .0) (serving .1)) opened in
+    let mine = open-entry c number (serving-sound c serving s) opened in
     record {
-      serving = serving .0;
-      sound = serving .1;
+      serving = serving;
       opened = opened;
       words = omega (arith, mine .sound .reserved, abort-words c w number (r7 .0));
     }

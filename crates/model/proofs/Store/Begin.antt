@@ -108,7 +108,7 @@ module _ {home : ℕ → ℕ} {puts : Told} {c : Core} {w : World} {r : Referenc
         disks =
             λ t o.
             newly ok v t (diskAtPlace T (placeOf T t) < c .sizes .disks) o
-            (λ q. rw (q, new-disk ok v) (begin-accepted c w ok .chosen .below))
+            (λ q. rw (q, new-disk ok v) (begin-accepted c w ok .chosen (v .safe .devices .bounds .disks-max) .below))
             (λ p. rw (same-disk ok v t p) (v .accounts .disks t p));
         started =
             λ t o u.

@@ -40,9 +40,8 @@ end-accepted c w e =
     let two = row-passed _ _ (one .1) in
     let five = row-passed _ _ (two .1) in
     let last = row-passed _ _ (five .1) in
-    let stage = stage-row whenCopying c (one .0) in
     record {
-      stage = stage .0;
+      stage = stage-row whenCopying c (one .0);
       copied = ltb-false _ _ (last .0);
     }
 

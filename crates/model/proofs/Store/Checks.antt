@@ -143,7 +143,7 @@ stage-first k c w allowed rows e none seven = go (stageForbids allowed c) refl
         omega arith
     go false f =
         let found = rw e at (seven-row k c w seven) in
-        true≢false (sym found ∙ none (stage-row allowed c f .0))
+        true≢false (sym found ∙ none (stage-row allowed c f))
 
 pub shut-stage : (s : Stage) → whenShut s ≡ true → s ≡ Shut
 shut-stage Shut e = refl

@@ -11,7 +11,7 @@ use Rattle.model.specs.declared.Core.{Core}
 use Rattle.model.specs.Sizes.{ringOf}
 use Rattle.model.specs.Record.{encode, close, commitKind}
 use Rattle.model.specs.World.{World, Action, perform, stores, run, finishes}
-use Rattle.model.specs.State.{limit, keptOf, endOf, afterFlush, withLog, without, isOpen}
+use Rattle.model.specs.State.{limit, keptOf, endOf, afterFlush, withLog, without, isOpen, sound}
 use Rattle.model.specs.Refusal.{accepted, verdict}
 use Rattle.model.specs.Append.{Appended, append, flush}
 use Rattle.model.specs.Transaction.{diskOf, commitRows, commitTask}
@@ -39,10 +39,10 @@ record Allowed (c : Core) (n : ℕ) : Type 0 where
   space : endOf (c .logs) (diskOf c n) + 2 ≤ keptOf (c .logs) (diskOf c n) + ringOf (c .sizes) (diskOf c n)
   in-limit : endOf (c .logs) (diskOf c n) + 2 ≤ limit
 
-allowed : (c : Core) (w : World) (n : ℕ) → verdict (commitRows c w n) ≡ accepted → Allowed c n
-allowed c w n ok =
+allowed : (c : Core) (w : World) (n : ℕ) → sound c ≡ true → verdict (commitRows c w n) ≡ accepted → Allowed c n
+allowed c w n s ok =
     let a = commit-accepted c w n ok in
-    let good = serving-sound c (a .serving) (a .sound) in
+    let good = serving-sound c (a .serving) s in
     let room = own-room c n good (a .opened) 2 (open-entry c n good (a .opened) .sound .reserved) in
     record {
       opened = a .opened;
@@ -146,19 +146,19 @@ module _ {puts : Told} {c : Core} {w : World} {r : Reference} (g : Served puts c
           (cut (k - stores (start .flushing) - stores (added .actions)) (omega (arith, no-stores)))
 
 -- An accepted commit keeps the store open, and commits the transaction.
-pub commit-serves : {puts : Told} {c : Core} {w : World} {r : Reference} → Served puts c w r → (number budget n : ℕ)
+pub commit-serves : {puts : Told} {c : Core} {w : World} {r : Reference} → Served puts c w r → sound c ≡ true → (number budget n : ℕ)
     → verdict (commitRows c w number) ≡ accepted
     → Served (also puts (putBy (commit number budget) (runAt c w r) puts)) (commitTask c w number .core) (perform (commitTask c w number .actions) w) (afterTaken (commit number budget) n r)
-commit-serves {c} {w} g number budget n v =
-    let a = allowed c w number v in
+commit-serves {c} {w} g s number budget n v =
+    let a = allowed c w number s v in
     rw (task g number a, perform-append, perform-append) (serves g number a)
 
 -- Cut, it leaves what was committed before it.
-pub commit-cut : {puts : Told} {c : Core} {w : World} {r : Reference} → Served puts c w r → (number budget : ℕ)
+pub commit-cut : {puts : Told} {c : Core} {w : World} {r : Reference} → Served puts c w r → sound c ≡ true → (number budget : ℕ)
     → verdict (commitRows c w number) ≡ accepted → finishes budget (commitTask c w number .actions) ≡ false
     → Kept (also puts (putBy (commit number budget) (runAt c w r) puts)) (run budget (commitTask c w number .actions) w) r
 unfolding finishes
-commit-cut {puts} {c} {w} g number budget v f =
-    let a = allowed c w number v in
+commit-cut {puts} {c} {w} g s number budget v f =
+    let a = allowed c w number s v in
     let less : budget < stores (commitTask c w number .actions) = leb-false _ _ f in
     kept-lost {puts = puts} (rw (task g number a) (cut-anywhere g number a budget (rw (task g number a) at less))) _

@@ -13,7 +13,7 @@ use Rattle.model.specs.declared.Core.{Core}
 use Rattle.model.specs.Sizes.{pageBase, pageWords, total}
 use Rattle.model.specs.World.{World, backups, work, store, write, perform, run, finishes, each}
 use Rattle.model.specs.Memory.{copyAt, copyOf, lengthsRight}
-use Rattle.model.specs.State.{keptOf, fillOf, endOf}
+use Rattle.model.specs.State.{keptOf, fillOf, endOf, sound}
 use Rattle.model.specs.Refusal.{accepted, verdict}
 use Rattle.model.specs.Causes.{whenOpen, tailIn}
 use Rattle.model.specs.Checkpoint.{checkpointBeginRows, checkpointBeginTask, lowestToCopy, checkpointStepRows, copyPage, checkpointStepTask}
@@ -30,7 +30,7 @@ use Rattle.model.proofs.Ledger.Checkpoint.{copy-good}
 use Rattle.model.proofs.Link.Words.{Link, log-end}
 use Rattle.model.proofs.Restart.Aside.{Aside, aside-append, aside-backup}
 use Rattle.model.proofs.Store.View.{Kept, view, before, Devices, Copies, Serving, Served}
-use Rattle.model.proofs.Store.Rows.{stage-row, copying-not-open, copying-serving, serving-sound, disk-sound}
+use Rattle.model.proofs.Store.Rows.{stage-row, copying-not-open, serving-sound, disk-sound}
 use Rattle.model.proofs.Store.Page.{at, words, after, copying, page-lt, page-first, stepped, fits, size-words, other-word, current-word, epoch-page, epoch-other, owner-word, buffer-words}
 use Rattle.model.proofs.Store.Same.{devices-same, accounts-same, sets-same, owners-same}
 use Rattle.model.proofs.Store.Steady.{kept-aside}
@@ -46,7 +46,7 @@ module _ {home : ℕ → ℕ} {puts : Told} {c : Core} {w : World} {r : Referenc
     (ok : verdict (checkpointBeginRows c w) ≡ accepted) (v : Serving 0 home puts c w r F B) where
   opened : whenOpen (c .stage) ≡ true
   unfolding checkpointBeginRows
-  opened = stage-row whenOpen c (row-passed _ _ ok .0) .0
+  opened = stage-row whenOpen c (row-passed _ _ ok .0)
 
   remembering : Copies (checkpointBeginTask c w .core) w F B
   unfolding checkpointBeginTask before
@@ -99,7 +99,7 @@ ltb-other q k ne = go (ltb q k) refl
     go false e = sym (le-ltb q (k + 1) (omega (arith, ltb-false q k e)))
 
 module _ {home : ℕ → ℕ} {puts : Told} {c : Core} {w : World} {r : Reference} {F B : List Entry}
-    (ok : verdict (checkpointStepRows c w) ≡ accepted) (v : Serving 0 home puts c w r F B) where
+    (ok : verdict (checkpointStepRows c w) ≡ accepted) (s : sound c ≡ true) (v : Serving 0 home puts c w r F B) where
   abbrev u : World
   u = after ok (v .safe .devices)
 
@@ -161,8 +161,7 @@ module _ {home : ℕ → ℕ} {puts : Told} {c : Core} {w : World} {r : Referenc
   stepped-link : Link (c .sizes) (c .logs) u F B
   unfolding tailIn
   stepped-link =
-      let state = copying ok (v .safe .devices) in
-      let right = serving-sound c (copying-serving c (state .0)) (state .1) in
+      let right = serving-sound c (v .stage) s in
       record {
         held = v .safe .link .held;
         tail = v .safe .link .tail;
@@ -175,7 +174,7 @@ module _ {home : ℕ → ℕ} {puts : Told} {c : Core} {w : World} {r : Referenc
   unfolding checkpointStepTask before
   copy-copies =
       record {
-        copied = λ e. true-false e (copying-not-open c (copying ok (v .safe .devices) .0));
+        copied = λ e. true-false e (copying-not-open c (copying ok (v .safe .devices)));
         pages = λ q h. go q h (ℕ-discrete q p);
         capped = v .copies .capped;
         early = v .copies .early;
@@ -215,11 +214,11 @@ module _ {home : ℕ → ℕ} {puts : Told} {c : Core} {w : World} {r : Referenc
         marks = v .marks;
       }
 
-pub checkpoint-step-serves : {puts : Told} {c : Core} {w : World} {r : Reference} → Served puts c w r → verdict (checkpointStepRows c w) ≡ accepted
-    → Served puts (checkpointStepTask c w .core) (perform (checkpointStepTask c w .actions) w) r
-checkpoint-step-serves s ok =
-    rw (stepped ok (s .serving .safe .devices))
-    (record { home = s .home; flushed = s .flushed; buffered = s .buffered; serving = step-serving ok (s .serving) })
+pub checkpoint-step-serves : {puts : Told} {c : Core} {w : World} {r : Reference} → Served puts c w r → sound c ≡ true
+    → verdict (checkpointStepRows c w) ≡ accepted → Served puts (checkpointStepTask c w .core) (perform (checkpointStepTask c w .actions) w) r
+checkpoint-step-serves g s ok =
+    rw (stepped ok (g .serving .safe .devices))
+    (record { home = g .home; flushed = g .flushed; buffered = g .buffered; serving = step-serving ok s (g .serving) })
 
 -- Cut short, it has stored in the other backup only, so a restart finds what it found before.
 step-aside : {c : Core} {w : World} → Devices c w → verdict (checkpointStepRows c w) ≡ accepted → All (Aside (c .sizes) (c .epoch)) (checkpointStepTask c w .actions)

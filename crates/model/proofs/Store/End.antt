@@ -1,30 +1,26 @@
 -- The end of a restart: taken, it leaves a fresh open store with the committed contents; cut, it leaves the image as it was.
 use mathlib.Core.Path.{_≡_, refl, sym, ap, _∙_}
 use mathlib.Core.List.{List, [], _∷_, _++_, append-assoc}
-use mathlib.Core.Bool.{Bool, true, false, _&&_, and-eq-true-iff}
+use mathlib.Core.Bool.{true, false}
 use Prim.Native.Nat.{ℕ, _+_, _≤_, _<_}
 use native.Mathlib.Omega.{arith}
-use lib.Dec.{leb, ltb}
 use lib.ListN.{length, getD, set, replicate, length-set}
 use lib.Seq.{sets, getD-set-same, getD-set-other}
-use borrow.Author.Tests.{eqb-true, not-false, leb-true, leb-false}
-use Rattle.model.specs.declared.Stage.{Stage}
-use Rattle.model.specs.declared.Stage.the-variants.{Shut, Replaying, Open, Copying}
+use borrow.Author.Tests.{eqb-true, not-false, leb-false}
 use Rattle.model.specs.declared.Sizes.{Sizes}
 use Rattle.model.specs.declared.Core.{Core}
-use Rattle.model.specs.Below.{allBelow, listBelow}
+use Rattle.model.specs.Below.{listBelow}
 use Rattle.model.specs.Sizes.{total, sizesInBounds}
 use Rattle.model.specs.Anchor.{anchorWords, epochWord, epochOn, sizesOn, startWord, startOn, backupAt}
 use Rattle.model.specs.World.{World, Action, store, write, anchor, backups, work, cost, act, perform, stores, run, finishes, each}
 use Rattle.model.specs.Memory.{copyAt}
-use Rattle.model.specs.State.{limit, tailOf, replaySound, soundIn, sound}
+use Rattle.model.specs.State.{limit, tailOf, sound}
 use Rattle.model.specs.Refusal.{accepted, verdict}
 use Rattle.model.specs.Causes.{whenReplaying, anchorWrong, lengthsWrong, tailOn, tailIn}
 use Rattle.model.specs.Format.{freshMemory, freshWork}
 use Rattle.model.specs.Restart.{restartEndRows, restartEndTask}
 use Rattle.model.specs.History.{Told, emptyFrom}
 use Rattle.model.specs.Reference.{Reference, wordsIn}
-use Rattle.model.proofs.Below.{all-each}
 use Rattle.model.proofs.Run.{perform-append, perform-backups, perform-work, stores-append, stores-stored}
 use Rattle.model.proofs.Counts.{stores-list, restart-end-stores}
 use Rattle.model.proofs.Bounds.{Bounded, bounded}
@@ -35,12 +31,12 @@ use Rattle.model.proofs.Link.Words.{lengths-perform}
 use Rattle.model.proofs.Restart.Image.{backup-within}
 use Rattle.model.proofs.Restart.Aside.{Aside, aside-append, aside-backup, aside-starts}
 use Rattle.model.proofs.Store.Rows.{stage-row}
+use Rattle.model.proofs.Sound.Test.{replay-sound}
 use Rattle.model.proofs.Store.View.{Kept, Served}
 use Rattle.model.proofs.Store.Steady.{kept-aside}
 use Rattle.model.proofs.Store.Puts.{setEach, length-set-each, set-each-other, set-each-in, perform-each-start, run-before, lengths-made, fresh-is, fresh-copy, fresh-owner}
 use Rattle.model.proofs.Store.Anchor.{sizes-same}
 use Rattle.model.proofs.Store.Fresh.{Freshly, fresh-serving}
-use Rattle.model.proofs.Booleans.{true-false, all-four}
 use Rattle.model.proofs.Parts.{getD-sets-inside}
 use Rattle.model.proofs.Verdict.{row-passed}
 
@@ -62,40 +58,16 @@ pub record EndFound (c : Core) (w : World) : Type 0 where
   pub anchor : length (w .anchor) ≡ anchorWords
   pub lengths : Lengths (c .sizes) w
 
--- a sound state in stage replaying has its sizes in bounds, and its tails below the bound of positions
-replaying-sound : (c : Core) → whenReplaying (c .stage) ≡ true → sound c ≡ true
-    → (sizesInBounds (c .sizes) ≡ true) × ((d : ℕ) → d < c .sizes .disks → tailOf (c .logs) d ≤ limit)
-unfolding sound replaySound
-replaying-sound c = go (c .stage)
-  where
-    short : ℕ → Bool
-    short d = leb (tailOf (c .logs) d) limit
-
-    read : ℕ → Bool
-    read d = leb (getD (c .replay .positions) d 0) (tailOf (c .logs) d)
-
-    go : (g : Stage) → whenReplaying g ≡ true → soundIn g c ≡ true
-        → (sizesInBounds (c .sizes) ≡ true) × ((d : ℕ) → d < c .sizes .disks → tailOf (c .logs) d ≤ limit)
-    go Shut e h = true-false refl (sym e)
-    go Replaying e h =
-        let four =
-        all-four (sizesInBounds (c .sizes)) (ltb (c .epoch) limit) (leb (c .replay .page) (c .sizes .pages))
-        (allBelow (λ d. short d && read d) (c .sizes .disks)) h in
-        (four .0, λ d l. leb-true _ _ (and-eq-true-iff (short d) (read d) .0 (all-each (λ d. short d && read d) (c .sizes .disks) (four .3) d l) .0))
-    go Open e h = true-false refl (sym e)
-    go Copying e h = true-false refl (sym e)
-
-pub end-found : (c : Core) (w : World) → verdict (restartEndRows c w) ≡ accepted → EndFound c w
+pub end-found : (c : Core) (w : World) → sound c ≡ true → verdict (restartEndRows c w) ≡ accepted → EndFound c w
 unfolding restartEndRows anchorWrong lengthsWrong
-end-found c w e =
+end-found c w s e =
     let first = row-passed _ _ e in
     let second = row-passed _ _ (first .1) in
     let third = row-passed _ _ (second .1) in
-    let stage = stage-row whenReplaying c (first .0) in
-    let held = replaying-sound c (stage .0) (stage .1) in
+    let held = replay-sound c (stage-row whenReplaying c (first .0)) s in
     record {
-      bounds = held .0;
-      short = held .1;
+      bounds = held .bounds;
+      short = held .tails;
       anchor = eqb-true _ _ (not-false _ (second .0));
       lengths = lengths-right (c .sizes) w (not-false _ (third .0));
     }
@@ -195,11 +167,11 @@ module _ (c : Core) (w : World) (r : Reference) (m : AtEnd c w r) (found : EndFo
       }
 
 -- A restart end that is taken leaves an open store with the committed contents.
-pub restart-end-serves : {c : Core} {w : World} {r : Reference} → AtEnd c w r → verdict (restartEndRows c w) ≡ accepted
+pub restart-end-serves : {c : Core} {w : World} {r : Reference} → AtEnd c w r → sound c ≡ true → verdict (restartEndRows c w) ≡ accepted
     → Served (emptyFrom (tailOn (c .sizes) w)) (restartEndTask c w .core) (perform (restartEndTask c w .actions) w) r
 unfolding restartEndTask tailOf
-restart-end-serves {c} {w} {r} m e =
-    let found = end-found c w e in
+restart-end-serves {c} {w} {r} m s e =
+    let found = end-found c w s e in
     rw (end-world c w r m found) (fresh-serving (end-fresh c w r m found) (tailOn (c .sizes) w) (m .tails))
 
 -- ---- cut: before the last store, c := c + 1, only the other backup and the other row change
@@ -235,9 +207,9 @@ module _ (c : Core) (w : World) (found : EndFound c w) where
 
 -- A restart end that is cut leaves what a restart needs: the next restart makes the same pages.
 pub restart-end-cut : (c : Core) (w : World) {puts : Told} {r : Reference} (budget : ℕ) → Kept puts w r → c .sizes ≡ sizesOn (w .anchor)
-    → c .epoch ≡ epochOn (w .anchor) → verdict (restartEndRows c w) ≡ accepted
+    → c .epoch ≡ epochOn (w .anchor) → sound c ≡ true → verdict (restartEndRows c w) ≡ accepted
     → finishes budget (restartEndTask c w .actions) ≡ false → Kept puts (run budget (restartEndTask c w .actions) w) r
-restart-end-cut c w budget k sizes epoch e f =
-    let found = end-found c w e in
+restart-end-cut c w budget k sizes epoch s e f =
+    let found = end-found c w s e in
     rw (early-only c w found budget f)
     (kept-aside budget (copies c w found ++ tails c w found) (rw (← sizes, ← epoch) (early-aside c w found)) k)

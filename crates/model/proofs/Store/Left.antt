@@ -12,7 +12,7 @@ use Rattle.model.specs.Sizes.{ringOf}
 use Rattle.model.specs.Record.{Record, change, close, updateKind}
 use Rattle.model.specs.Scan.{Scan, item, updatesIn, updateWords}
 use Rattle.model.specs.World.{World}
-use Rattle.model.specs.State.{limit, keptOf, endOf, isOpen, placeOf, firstAt, hasUpdate}
+use Rattle.model.specs.State.{limit, keptOf, endOf, isOpen, placeOf, firstAt, hasUpdate, sound}
 use Rattle.model.specs.Refusal.{accepted, verdict}
 use Rattle.model.specs.Transaction.{diskOf}
 use Rattle.model.specs.Abort.{abortScan, updatesLeft, abortRows}
@@ -149,10 +149,10 @@ pub record MayAbort (c : Core) (w : World) (t : ℕ) : Type 0 where
   pub room : endOf (c .logs) (diskOf c t) + (updateWords (updatesLeft c w t) + 2) ≤ keptOf (c .logs) (diskOf c t) + ringOf (c .sizes) (diskOf c t)
   pub in-limit : endOf (c .logs) (diskOf c t) + (updateWords (updatesLeft c w t) + 2) ≤ limit
 
-pub may-abort : (c : Core) (w : World) (t : ℕ) → verdict (abortRows c w t) ≡ accepted → MayAbort c w t
-may-abort c w t ok =
-    let a = abort-accepted c w t ok in
-    let good = serving-sound c (a .serving) (a .sound) in
+pub may-abort : (c : Core) (w : World) (t : ℕ) → sound c ≡ true → verdict (abortRows c w t) ≡ accepted → MayAbort c w t
+may-abort c w t s ok =
+    let a = abort-accepted c w t s ok in
+    let good = serving-sound c (a .serving) s in
     let room = own-room c t good (a .opened) (updateWords (updatesLeft c w t) + 2) (a .words) in
     record {
       opened = a .opened;

@@ -18,7 +18,6 @@ use Rattle.model.specs.Sizes.{pageBase, pageWords, total}
 use Rattle.model.specs.Anchor.{backupAt}
 use Rattle.model.specs.World.{World, backups, store, act, perform, each}
 use Rattle.model.specs.Memory.{bufferAt, copyAt, bufferOf, copyOf, workWords}
-use Rattle.model.specs.State.{sound}
 use Rattle.model.specs.Refusal.{accepted, verdict}
 use Rattle.model.specs.Causes.{whenCopying}
 use Rattle.model.specs.Checkpoint.{toCopy, lowestToCopy, checkpointStepRows, copyPage, checkpointStepTask}
@@ -53,7 +52,7 @@ module _ {c : Core} {w : World} (ok : verdict (checkpointStepRows c w) ≡ accep
   lengths : Lengths (c .sizes) w
   lengths = lengths-right (c .sizes) w (devices .lengths)
 
-  pub copying : (whenCopying (c .stage) ≡ true) × (sound c ≡ true)
+  pub copying : whenCopying (c .stage) ≡ true
   unfolding checkpointStepRows
   copying = stage-row whenCopying c (row-passed _ _ ok .0)
 

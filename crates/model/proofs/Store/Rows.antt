@@ -1,4 +1,4 @@
--- What an accepted call may rely on: none of its rows applies, so its stage is right and the state is within its bounds.
+-- What an accepted call learns of its stage, and what the bounds of a state say.
 use mathlib.Core.Path.{_≡_, refl, sym}
 use mathlib.Core.Bool.{Bool, true, false, not, _&&_, _||_}
 use Prim.Native.Nat.{ℕ, _+_, _-_, _≤_, _<_}
@@ -15,13 +15,11 @@ use Rattle.model.specs.Causes.{whenOpen, whenCopying, whenServing, stage
 use Rattle.model.proofs.Below.{all-each}
 use Rattle.model.proofs.Booleans.{true-false, both, in-range}
 
--- Row 1: the stage is one that the call is for, and the state is sound.
-pub stage-row : (allowed : Stage → Bool) (c : Core) → stageForbids allowed c ≡ false → (allowed (c .stage) ≡ true) × (sound c ≡ true)
+-- Row 1: the stage is one that the call is for. That the state is within its bounds is known of every state that calls made
+-- (proofs/Sound), so no law takes it from here.
+pub stage-row : (allowed : Stage → Bool) (c : Core) → stageForbids allowed c ≡ false → allowed (c .stage) ≡ true
 unfolding stageForbids
-stage-row allowed c e = both (allowed (c .stage)) (sound c) (not-false _ e)
-
-pub serving-row : (c : Core) → stageForbids whenServing c ≡ false → (whenServing (c .stage) ≡ true) × (sound c ≡ true)
-serving-row c e = stage-row whenServing c e
+stage-row allowed c e = both (allowed (c .stage)) (sound c) (not-false _ e) .0
 
 -- a store that serves is open or copying
 pub open-serving : (c : Core) → whenOpen (c .stage) ≡ true → whenServing (c .stage) ≡ true

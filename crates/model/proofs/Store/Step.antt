@@ -7,7 +7,7 @@ use Rattle.model.specs.declared.Stage.{Stage}
 use Rattle.model.specs.declared.Sizes.{Sizes}
 use Rattle.model.specs.declared.Core.{Core}
 use Rattle.model.specs.World.{perform, finishes}
-use Rattle.model.specs.State.{newCore}
+use Rattle.model.specs.State.{newCore, sound}
 use Rattle.model.specs.Refusal.{Row, row, verdict, accepted}
 use Rattle.model.specs.Causes.{whenShut, whenReplaying, whenOpen, whenCopying, whenServing, stageForbids}
 use Rattle.model.specs.Transaction.{beginRows, beginTask, updateRows, commitRows}
@@ -16,7 +16,7 @@ use Rattle.model.specs.Checkpoint.{checkpointBeginRows, checkpointBeginT
 use Rattle.model.specs.Restart.{restartBeginRows, restartStepRows, restartEndRows}
 use Rattle.model.specs.Call.{Call, format, begin, update, Look, look, lookTask, commit, abort, checkpointBegin, checkpointStep, checkpointEnd, restartBegin, restartStep, restartRun, restartEnd, newState, rowsOf, taskOf, budgetOf, resultOf}
 use Rattle.model.specs.Reference.{Reference, taken, outcomeOf}
-use Rattle.model.specs.Machine.{Machine, call, result, outcome, isRefused, allowedCall}
+use Rattle.model.specs.Machine.{Machine, result, outcome, isRefused, allowedCall}
 use Rattle.model.specs.History.{Told, also}
 use Rattle.model.proofs.Storeless.{storesNothing, storeless-finishes}
 use Rattle.model.proofs.Run.{perform-lengths}
@@ -41,7 +41,7 @@ use Rattle.model.proofs.Verdict.{row-passed}
 
 -- an accepted call found the stage that it is for
 pub row-one : (allowed : Stage → Bool) (c : Core) (rows : List Row) → verdict (row 1 (stageForbids allowed c) ∷ rows) ≡ accepted → allowed (c .stage) ≡ true
-row-one allowed c rows v = stage-row allowed c (row-passed _ rows v .0) .0
+row-one allowed c rows v = stage-row allowed c (row-passed _ rows v .0)
 
 -- a call that stores nothing is never cut
 never-cut : {X : Type 0} (k : Call) (m : Machine) → storesNothing k ≡ true → finishes (budgetOf k) (taskOf k (m .core) (m .world) .actions) ≡ false → X
@@ -83,27 +83,27 @@ module _ (puts : Told) (m : Machine) (r : Reference) (h : Holding puts m r) wher
   unfolding lookTask perform
   step-look q = call-keeps (look q) puts m r h (λ v f. puts-none h) (λ v f. never-cut (look q) m refl f)
 
-  step-update : (number page slot : ℕ) (value : List ℕ) (budget : ℕ)
+  step-update : sound (m .core) ≡ true → (number page slot : ℕ) (value : List ℕ) (budget : ℕ)
       → CallKeeps (update number page slot value budget) puts m r
   unfolding updateRows
-  step-update number page slot value budget =
+  step-update s number page slot value budget =
       call-keeps (update number page slot value budget) puts m r h
-      (λ v f. serving (update-serves (served h (row-one whenServing (m .core) _ v)) number page slot value budget 0 v))
-      (λ v f. update-cut (served h (row-one whenServing (m .core) _ v)) number page slot value budget v f)
+      (λ v f. serving (update-serves (served h (row-one whenServing (m .core) _ v)) s number page slot value budget 0 v))
+      (λ v f. update-cut (served h (row-one whenServing (m .core) _ v)) s number page slot value budget v f)
 
-  step-commit : (number budget : ℕ) → CallKeeps (commit number budget) puts m r
+  step-commit : sound (m .core) ≡ true → (number budget : ℕ) → CallKeeps (commit number budget) puts m r
   unfolding commitRows
-  step-commit number budget =
+  step-commit s number budget =
       call-keeps (commit number budget) puts m r h
-      (λ v f. serving (commit-serves (served h (row-one whenServing (m .core) _ v)) number budget 0 v))
-      (λ v f. commit-cut (served h (row-one whenServing (m .core) _ v)) number budget v f)
+      (λ v f. serving (commit-serves (served h (row-one whenServing (m .core) _ v)) s number budget 0 v))
+      (λ v f. commit-cut (served h (row-one whenServing (m .core) _ v)) s number budget v f)
 
-  step-abort : (number budget : ℕ) → CallKeeps (abort number budget) puts m r
+  step-abort : sound (m .core) ≡ true → (number budget : ℕ) → CallKeeps (abort number budget) puts m r
   unfolding abortRows
-  step-abort number budget =
+  step-abort s number budget =
       call-keeps (abort number budget) puts m r h
-      (λ v f. serving (abort-serves (served h (row-one whenServing (m .core) _ v)) number budget 0 v))
-      (λ v f. abort-cut (served h (row-one whenServing (m .core) _ v)) number budget v f)
+      (λ v f. serving (abort-serves (served h (row-one whenServing (m .core) _ v)) s number budget 0 v))
+      (λ v f. abort-cut (served h (row-one whenServing (m .core) _ v)) s number budget v f)
 
   step-checkpoint-begin : CallKeeps checkpointBegin puts m r
   unfolding checkpointBeginRows checkpointBeginTask perform
@@ -112,11 +112,11 @@ module _ (puts : Told) (m : Machine) (r : Reference) (h : Holding puts m r) wher
       (λ v f. puts-none (serving (checkpoint-begin-serves (served h (open-serving (m .core) (row-one whenOpen (m .core) _ v))) v)))
       (λ v f. never-cut checkpointBegin m refl f)
 
-  step-checkpoint-step : (budget : ℕ) → CallKeeps (checkpointStep budget) puts m r
+  step-checkpoint-step : sound (m .core) ≡ true → (budget : ℕ) → CallKeeps (checkpointStep budget) puts m r
   unfolding checkpointStepRows
-  step-checkpoint-step budget =
+  step-checkpoint-step s budget =
       call-keeps (checkpointStep budget) puts m r h
-      (λ v f. puts-none (serving (checkpoint-step-serves (served h (copying-serving (m .core) (row-one whenCopying (m .core) _ v))) v)))
+      (λ v f. puts-none (serving (checkpoint-step-serves (served h (copying-serving (m .core) (row-one whenCopying (m .core) _ v))) s v)))
       (λ v f. kept-lost (checkpoint-step-cut budget (served h (copying-serving (m .core) (row-one whenCopying (m .core) _ v))) v (holding-kept h) f) [])
 
   step-checkpoint-end : (budget : ℕ) → CallKeeps (checkpointEnd budget) puts m r
@@ -158,12 +158,12 @@ module _ (puts : Told) (m : Machine) (r : Reference) (h : Holding puts m r) wher
       (m .core) (m .world) h))
       (λ v f. never-cut (restartRun source most) m refl f)
 
-  step-restart-end : (budget : ℕ) → CallKeeps (restartEnd budget) puts m r
+  step-restart-end : sound (m .core) ≡ true → (budget : ℕ) → CallKeeps (restartEnd budget) puts m r
   unfolding restartEndRows
-  step-restart-end budget =
+  step-restart-end passes budget =
       call-keeps (restartEnd budget) puts m r h
-      (λ v f. serving (restart-end-serves (at-end (replayed h (row-one whenReplaying (m .core) _ v)) (accepted-taken (restartEnd budget) m v f)) v))
-      (λ v f. let s = replayed h (row-one whenReplaying (m .core) _ v) in kept-lost (restart-end-cut (m .core) (m .world) budget (s .kept) (s .progress .sizes) (s .progress .epoch) v f) [])
+      (λ v f. serving (restart-end-serves (at-end (replayed h (row-one whenReplaying (m .core) _ v)) (accepted-taken (restartEnd budget) m v f)) passes v))
+      (λ v f. let s = replayed h (row-one whenReplaying (m .core) _ v) in kept-lost (restart-end-cut (m .core) (m .world) budget (s .kept) (s .progress .sizes) (s .progress .epoch) passes v f) [])
     where
       at-end : Restarting puts m r → outcomeOf (resultOf (restartEnd budget) (m .core) (m .world) .answer) ≡ taken → AtEnd (m .core) (m .world) r
       at-end s o =
@@ -186,20 +186,20 @@ module _ (puts : Told) (m : Machine) (r : Reference) (h : Holding puts m r) wher
       (λ v f. true-false e (accepted-goes (format s budget) m v true f))
       (λ v f. true-false e (accepted-goes (format s budget) m v false f))
 
--- every call that is allowed
-pub step-call : (k : Call) (puts : Told) (m : Machine) (r : Reference) → Holding puts m r → allowedCall m k ≡ true
+-- every call that is allowed, of a state that is within its bounds
+pub step-call : (k : Call) (puts : Told) (m : Machine) (r : Reference) → Holding puts m r → sound (m .core) ≡ true → allowedCall m k ≡ true
     → CallKeeps k puts m r
-step-call (format s budget) puts m r h e = step-format puts m r h s budget e
-step-call begin puts m r h e = step-begin puts m r h
-step-call (update number page slot value budget) puts m r h e = step-update puts m r h number page slot value budget
-step-call (look q) puts m r h e = step-look puts m r h q
-step-call (commit number budget) puts m r h e = step-commit puts m r h number budget
-step-call (abort number budget) puts m r h e = step-abort puts m r h number budget
-step-call checkpointBegin puts m r h e = step-checkpoint-begin puts m r h
-step-call (checkpointStep budget) puts m r h e = step-checkpoint-step puts m r h budget
-step-call (checkpointEnd budget) puts m r h e = step-checkpoint-end puts m r h budget
-step-call restartBegin puts m r h e = step-restart-begin puts m r h
-step-call (restartStep source) puts m r h e = step-restart-step puts m r h source
-step-call (restartRun source most) puts m r h e = step-restart-run puts m r h source most
-step-call (restartEnd budget) puts m r h e = step-restart-end puts m r h budget
-step-call newState puts m r h e = step-new puts m r h
+step-call (format z budget) puts m r h s e = step-format puts m r h z budget e
+step-call begin puts m r h s e = step-begin puts m r h
+step-call (update number page slot value budget) puts m r h s e = step-update puts m r h s number page slot value budget
+step-call (look q) puts m r h s e = step-look puts m r h q
+step-call (commit number budget) puts m r h s e = step-commit puts m r h s number budget
+step-call (abort number budget) puts m r h s e = step-abort puts m r h s number budget
+step-call checkpointBegin puts m r h s e = step-checkpoint-begin puts m r h
+step-call (checkpointStep budget) puts m r h s e = step-checkpoint-step puts m r h s budget
+step-call (checkpointEnd budget) puts m r h s e = step-checkpoint-end puts m r h budget
+step-call restartBegin puts m r h s e = step-restart-begin puts m r h
+step-call (restartStep source) puts m r h s e = step-restart-step puts m r h source
+step-call (restartRun source most) puts m r h s e = step-restart-run puts m r h source most
+step-call (restartEnd budget) puts m r h s e = step-restart-end puts m r h s budget
+step-call newState puts m r h s e = step-new puts m r h

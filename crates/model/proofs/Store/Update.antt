@@ -12,7 +12,7 @@ use Rattle.model.specs.Sizes.{widthIn, slotBase, ringOf}
 use Rattle.model.specs.Record.{Record, encode, wordsOf}
 use Rattle.model.specs.World.{World, Action, write, pages, work, cost, act, perform, stores, run, finishes, each}
 use Rattle.model.specs.Memory.{ownerAt, ownerOf}
-use Rattle.model.specs.State.{limit, keptOf, endOf, withLog, isOpen, placeOf, firstAt, reservedAt, hasUpdate, withPlace, servingSound}
+use Rattle.model.specs.State.{limit, keptOf, endOf, withLog, isOpen, placeOf, firstAt, reservedAt, hasUpdate, withPlace, servingSound, sound}
 use Rattle.model.specs.Refusal.{accepted, verdict}
 use Rattle.model.specs.Causes.{locked}
 use Rattle.model.specs.Append.{Appended, append}
@@ -36,9 +36,9 @@ use Rattle.model.proofs.Store.Accepted.{small-buffers, open-entry, open
 use Rattle.model.proofs.Store.Steady.{kept-lost}
 
 -- What its rows say.
-module _ {c : Core} {w : World} {number page slot : ℕ} {value : List ℕ} (a : Updating c w number page slot value) where
+module _ {c : Core} {w : World} {number page slot : ℕ} {value : List ℕ} (s : sound c ≡ true) (a : Updating c w number page slot value) where
   within-bounds : servingSound c ≡ true
-  within-bounds = serving-sound c (a .serving) (a .sound)
+  within-bounds = serving-sound c (a .serving) s
 
   not-others : (u : ℕ) → isOpen (c .table) u ≡ true → (u ≡ number → ⊥) → u ≡ ownerOf (c .sizes) (w .work) page slot → ⊥
   unfolding locked isOpen
@@ -73,9 +73,9 @@ cut-short budget l m none h = omega (arith, leb-false (stores (l ++ m)) budget h
 
 -- An update is the flush that makes room, and an update with room.
 module _ {home : ℕ → ℕ} {puts : Told} {c : Core} {w : World} {r : Reference} {F B : List Entry} (g : Serving 0 home puts c w r F B)
-    (number page slot : ℕ) (value : List ℕ) (ok : verdict (updateRows c w number page slot value) ≡ accepted) where
+    (s : sound c ≡ true) (number page slot : ℕ) (value : List ℕ) (ok : verdict (updateRows c w number page slot value) ≡ accepted) where
   may : Allowed c w number page slot value
-  may = update-allowed (update-accepted c w number page slot value ok)
+  may = update-allowed s (update-accepted c w number page slot value ok)
 
   abbrev d : ℕ
   d = diskOf c number
@@ -92,7 +92,7 @@ module _ {home : ℕ → ℕ} {puts : Told} {c : Core} {w : World} {r : Referenc
 
   y : Ready 0 home puts c w r d (length words)
   y =
-      ready g d (length words) (may .disk) (update-small (update-accepted c w number page slot value ok))
+      ready g d (length words) (may .disk) (update-small s (update-accepted c w number page slot value ok))
       (omega (arith, size, g .safe .devices .bounds .used page (may .page-lt) .width-max))
 
   -- the state and the world between the two
@@ -161,7 +161,7 @@ module _ {home : ℕ → ℕ} {puts : Told} {c : Core} {w : World} {r : Referenc
   after : After (recordOf (updateEntry c' v number page slot value)) (tableOf (length (encode (recordOf (updateEntry c' v number page slot value)))))
   unfolding withLog diskOf sizeOf
   after =
-      let h = update-room (update-accepted c w number page slot value ok) in
+      let h = update-room s (update-accepted c w number page slot value ok) in
       serving-updated (y .serving) number page slot value may' (y .small) (omega (arith, size', y .room))
       (omega (arith, size, size', h .0, y .kept d, y .ends)) (omega (arith, size, size', h .1, y .ends))
 
@@ -195,17 +195,17 @@ module _ {home : ℕ → ℕ} {puts : Told} {c : Core} {w : World} {r : Referenc
       short : finishes budget (y .flushing ++ rest) ≡ false → budget < stores (y .flushing)
       short h = cut-short budget (y .flushing) rest stores-rest h
 
-module _ {puts : Told} {c : Core} {w : World} {r : Reference} (g : Served puts c w r) where
+module _ {puts : Told} {c : Core} {w : World} {r : Reference} (g : Served puts c w r) (s : sound c ≡ true) where
   -- finished, it leaves an open store whose reference has noted its write
   pub update-serves : (number page slot : ℕ) (value : List ℕ) (budget n : ℕ) → verdict (updateRows c w number page slot value) ≡ accepted
       → Served (also puts (putBy (update number page slot value budget) (runAt c w r) puts)) (updateTask c w number page slot value .core) (perform (updateTask c w number page slot value .actions) w)
       (afterTaken (update number page slot value budget) n r)
   update-serves number page slot value budget n ok =
       let may = update-accepted c w number page slot value ok in
-      rw (update-told (g .serving) number page slot value (may .page-lt) (may .slot-lt)) (update-served (g .serving) number page slot value ok)
+      rw (update-told (g .serving) number page slot value (may .page-lt) (may .slot-lt)) (update-served (g .serving) s number page slot value ok)
 
   -- cut, it leaves devices that restart to what was committed
   pub update-cut : (number page slot : ℕ) (value : List ℕ) (budget : ℕ) → verdict (updateRows c w number page slot value) ≡ accepted
       → finishes budget (updateTask c w number page slot value .actions) ≡ false
       → Kept (also puts (putBy (update number page slot value budget) (runAt c w r) puts)) (run budget (updateTask c w number page slot value .actions) w) r
-  update-cut number page slot value budget ok h = kept-lost (update-kept (g .serving) number page slot value ok budget h) _
+  update-cut number page slot value budget ok h = kept-lost (update-kept (g .serving) s number page slot value ok budget h) _

@@ -13,7 +13,7 @@ use Rattle.model.specs.declared.Sizes.{Sizes}
 use Rattle.model.specs.declared.Core.{Core}
 use Rattle.model.specs.Sizes.{tailWord}
 use Rattle.model.specs.World.{World, Action, store, write, anchor, backups, logs, pages, work, cost, act, perform, covered, run, finishes}
-use Rattle.model.specs.State.{endOf}
+use Rattle.model.specs.State.{endOf, sound}
 use Rattle.model.specs.Refusal.{Result, verdict, accepted}
 use Rattle.model.specs.Causes.{whenServing, lengthsWrong, tailOn, tailIn}
 use Rattle.model.specs.Transaction.{diskOf, commitRows, commitTask}
@@ -22,6 +22,7 @@ use Rattle.model.specs.Reference.{taken, interrupted, outcomeOf}
 use Rattle.model.specs.Machine.{Machine, result}
 use Rattle.model.specs.Promise.{coversCommit, CommitPoint, CommitPoints}
 use Rattle.model.specs.LogPromise.{Truth, StateTrue}
+use Rattle.model.specs.Answers.{StatesMade}
 use Rattle.model.specs.Trace.{followInCode, formattedInCode, AlwaysInCode, CommitPointsInCode}
 use Rattle.model.proofs.Members.{Every}
 use Rattle.model.proofs.Booleans.{cond-all}
@@ -32,6 +33,7 @@ use Rattle.model.proofs.Ring.{disk-within, tail-here}
 use Rattle.model.proofs.Store.Rows.{serving-sound}
 use Rattle.model.proofs.Store.Accepted.{open-below, commit-accepted}
 use Rattle.model.proofs.Store.Cases.{call-cases}
+use Rattle.model.proofs.Sound.Made.{made-passes, states-made}
 use Rattle.model.proofs.PowerLoss.{state-true}
 use Rattle.model.proofs.CommitPoint.{commit-point, commit-cut-before}
 use Rattle.model.proofs.Trace.Events.{in-code}
@@ -95,14 +97,14 @@ module _ (c : Core) (w : World) (t : ℕ) (k : CommitPoint c w t) where
   cut-tail budget f low = rw (commit-cut-before k budget f) (run-low (c .sizes) (diskOf c t) _ budget (k .before) w (k .uncovered) low)
 
 -- what an accepted commit finds: a disk whose tail word is there, at the log's end or below
-module _ (m : Machine) (t : ℕ) (ok : verdict (commitRows (m .core) (m .world) t) ≡ accepted) where
+module _ (m : Machine) (t : ℕ) (s : sound (m .core) ≡ true) (ok : verdict (commitRows (m .core) (m .world) t) ≡ accepted) where
   abbrev disk : ℕ
   disk = diskOf (m .core) t
 
   disk-below : disk < m .core .sizes .disks
   disk-below =
       let a = commit-accepted (m .core) (m .world) t ok in
-      open-below (m .core) t (serving-sound (m .core) (a .serving) (a .sound)) (a .opened)
+      open-below (m .core) t (serving-sound (m .core) (a .serving) s) (a .opened)
 
   tail-there : tailWord (m .core .sizes) disk < length (m .world .logs)
   unfolding commitRows lengthsWrong tailWord
@@ -124,27 +126,28 @@ module _ (m : Machine) (t : ℕ) where
       (outcomeOf (r .answer) ≡ taken → tailOn (m .core .sizes) (r .world) (diskOf (m .core) t) ≡ endOf (m .core .logs) (diskOf (m .core) t) + 2)
       × (outcomeOf (r .answer) ≡ interrupted → tailOn (m .core .sizes) (r .world) (diskOf (m .core) t) ≤ endOf (m .core .logs) (diskOf (m .core) t))
 
-  commit-leaves : (budget : ℕ) → (verdict (commitRows (m .core) (m .world) t) ≡ accepted → CommitPoint (m .core) (m .world) t)
+  commit-leaves : (budget : ℕ) → sound (m .core) ≡ true → (verdict (commitRows (m .core) (m .world) t) ≡ accepted → CommitPoint (m .core) (m .world) t)
       → (whenServing (m .core .stage) ≡ true → Truth m) → Leaves (result m (commit t budget))
   unfolding result
-  commit-leaves budget point truth =
+  commit-leaves budget s point truth =
       call-cases Leaves (commit t budget) (m .core) (m .world)
       (λ number first second v.
       (λ e. let z : _≡_ {A = ℕ} 0 1 = cc in absurd (omega arith), λ e. let z : _≡_ {A = ℕ} 0 1 = cc in absurd (omega arith)))
       (λ v f. (
-        λ e. rw (finished-run budget _ (m .world) f) (whole-tail (m .core) (m .world) t (point v) (tail-there m t v)),
+        λ e. rw (finished-run budget _ (m .world) f) (whole-tail (m .core) (m .world) t (point v) (tail-there m t s v)),
         λ e. let z : _≡_ {A = ℕ} 0 1 = cc in absurd (omega arith),
       ))
       (λ v f. (
         λ e. let z : _≡_ {A = ℕ} 0 1 = cc in absurd (omega arith),
-        λ e. cut-tail (m .core) (m .world) t (point v) budget f (tail-low m t v truth),
+        λ e. cut-tail (m .core) (m .world) t (point v) budget f (tail-low m t s v truth),
       ))
 
 -- The commit point, seen after a commit of the code: see specs/Trace.antt.
 pub commit-points-in-code : CommitPointsInCode
-unfolding CommitPointsInCode AlwaysInCode CommitPoints StateTrue
+unfolding CommitPointsInCode AlwaysInCode CommitPoints StateTrue StatesMade
 commit-points-in-code o s f steps l c t budget is on =
     let m = followInCode steps (formattedInCode o s) .machine in
     let points = in-code _ commit-point o s f steps l in
     let truth = in-code _ state-true o s f steps l in
-    subst (Leaves m t) (sym (gave m c (commit t budget) is on)) (commit-leaves m t budget (points t) truth)
+    let passes = made-passes (in-code _ states-made o s f steps l) .1 in
+    subst (Leaves m t) (sym (gave m c (commit t budget) is on)) (commit-leaves m t budget passes (points t) truth)
