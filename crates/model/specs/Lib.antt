@@ -46,4 +46,5 @@ pub mod LogPromise
 pub mod Answers
 -- The promises for traces of the code's own calls.
 pub mod Trace
+pub mod LogPromiseInCode
 pub mod AnswersInCode

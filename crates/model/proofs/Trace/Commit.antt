@@ -23,7 +23,8 @@ use Rattle.model.specs.Machine.{Machine, result}
 use Rattle.model.specs.Promise.{coversCommit, CommitPoint, CommitPoints}
 use Rattle.model.specs.LogPromise.{Truth, StateTrue}
 use Rattle.model.specs.Answers.{StatesMade}
-use Rattle.model.specs.Trace.{followInCode, formattedInCode, AlwaysInCode, CommitPointsInCode}
+use Rattle.model.specs.Trace.{followInCode, formattedInCode, AlwaysInCode}
+use Rattle.model.specs.LogPromiseInCode.{CommitPointsInCode}
 use Rattle.model.proofs.Members.{Every}
 use Rattle.model.proofs.Booleans.{cond-all}
 use Rattle.model.proofs.Verdict.{row-passed}
@@ -142,7 +143,7 @@ module _ (m : Machine) (t : ℕ) where
         λ e. cut-tail (m .core) (m .world) t (point v) budget f (tail-low m t s v truth),
       ))
 
--- The commit point, seen after a commit of the code: see specs/Trace.antt.
+-- The commit point, seen after a commit of the code: see specs/LogPromiseInCode.antt.
 pub commit-points-in-code : CommitPointsInCode
 unfolding CommitPointsInCode AlwaysInCode CommitPoints StateTrue StatesMade
 commit-points-in-code o s f steps l c t budget is on =

@@ -17,7 +17,8 @@ use Rattle.model.specs.Reference.{taken, refused, outcomeOf, Reference, 
 use Rattle.model.specs.Machine.{Machine, Event, call, lent, scramble, result, outcome, isRefused, allowedCall, allowed, after, referred, Run, follow, allowedAll, formatted}
 use Rattle.model.specs.History.{Told, nothingTold, told, history}
 use Rattle.model.specs.Promise.{Always}
-use Rattle.model.specs.Trace.{Observed, KeepsContract, seen, EventInCode, callInCode, lentInCode, scrambleInCode, On, Beside, FormatRefused, AllowedInCode, afterInCode, followInCode, AllowedAllInCode, Formats, formattedInCode, toldInCode, historyInCode, AlwaysInCode}
+use Rattle.model.specs.Trace.{Observed, KeepsContract, seen, EventInCode, callInCode, lentInCode, scrambleInCode, On, Beside, FormatRefused, AllowedInCode, afterInCode, followInCode, AllowedAllInCode, Formats, formattedInCode, AlwaysInCode}
+use Rattle.model.specs.LogPromiseInCode.{toldInCode, historyInCode}
 use Rattle.model.proofs.Verdict.{answer-refused, refused-leaves}
 
 -- a refused call leaves all as it was

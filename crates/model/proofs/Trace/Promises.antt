@@ -1,4 +1,4 @@
--- The promises of specs/Trace.antt, each from the machine's.
+-- The promises of specs/Trace.antt and specs/LogPromiseInCode.antt, each from the machine's.
 use mathlib.Core.Path.{_≡_, refl, sym, ap, subst, _∙_}
 use mathlib.Core.List.{List, [], _∷_, _++_}
 use mathlib.Core.Bool.{true}
@@ -13,7 +13,8 @@ use Rattle.model.specs.Reference.{outcomeOf, Reference, hear}
 use Rattle.model.specs.Machine.{Machine, result, outcome, Run}
 use Rattle.model.specs.Promise.{Always, PowerLoss, RestartAccepted, RestartFinishes, RunMakes, RunIsSteps}
 use Rattle.model.specs.LogPromise.{LogKept, StateTrue, NeverMalformed, ClosingFits, LogOf, BackupSteps}
-use Rattle.model.specs.Trace.{Observed, seen, EventInCode, callInCode, On, afterInCode, followInCode, AllowedAllInCode, formattedInCode, AlwaysInCode, PowerLossInCode, EachRestartEnd, RestartAcceptedInCode, RestartFinishesInCode, RunIsStepsInCode, LogKeptInCode, StateTrueInCode, NeverMalformedInCode, ClosingFitsInCode, BackupStepsInCode}
+use Rattle.model.specs.Trace.{Observed, seen, EventInCode, callInCode, On, afterInCode, followInCode, AllowedAllInCode, formattedInCode, AlwaysInCode, PowerLossInCode, EachRestartEnd, RestartAcceptedInCode, RestartFinishesInCode, RunIsStepsInCode}
+use Rattle.model.specs.LogPromiseInCode.{LogKeptInCode, StateTrueInCode, NeverMalformedInCode, ClosingFitsInCode, BackupStepsInCode}
 use Rattle.model.proofs.PowerLoss.{power-loss, restart-accepted, log-kept, state-true, never-malformed, backup-steps}
 use Rattle.model.proofs.Restart.Run.{run-is-steps}
 use Rattle.model.proofs.Finish.{restart-finishes}

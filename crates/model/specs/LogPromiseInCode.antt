@@ -1,0 +1,68 @@
+-- The promises on the logs and on what the state says of them (specs/LogPromise.antt), and the commit point (specs/Promise.antt), for
+-- traces of the code's own calls (specs/Trace.antt).
+use mathlib.Core.Path.{_≡_}
+use Prim.Native.Nat.{ℕ, _+_, _≤_, _<_}
+use mathlib.Core.List.{List, [], _∷_}
+use mathlib.Core.Bool.{true}
+use Rattle.model.specs.declared.Stage.the-variants.{Replaying}
+use Rattle.model.specs.declared.Sizes.{Sizes}
+use Rattle.model.specs.Anchor.{sizesOn}
+use Rattle.model.specs.State.{endOf, isOpen}
+use Rattle.model.specs.Refusal.{numberOf}
+use Rattle.model.specs.Causes.{whenServing, tailOn}
+use Rattle.model.specs.Transaction.{diskOf}
+use Rattle.model.specs.Call.{commit, restartBegin}
+use Rattle.model.specs.Reference.{taken, interrupted}
+use Rattle.model.specs.Machine.{Machine, Run}
+use Rattle.model.specs.History.{Told, nothingTold, toldBy}
+use Rattle.model.specs.LogPromise.{LogOf, Truth, Closable, BackupStep}
+use Rattle.model.specs.Trace.{Observed, seen, EventInCode, callInCode, lentInCode, scrambleInCode, On, afterInCode, followInCode, AllowedAllInCode, Formats, formattedInCode, AlwaysInCode}
+
+-- what the observed calls put into the logs (specs/History.antt), told by what each of them answered and by the run before it; a call
+-- that was lent other slices is refused and puts nothing
+abbrev pub toldInCode : EventInCode → Run → Told → Told
+toldInCode (callInCode o) x t = toldBy (seen o) (o .call) x t
+toldInCode (lentInCode o) x t = t
+toldInCode (scrambleInCode pages work) x t = t
+
+unfoldable pub historyInCode : List EventInCode → Run → Told → Told
+historyInCode [] x t = t
+historyInCode (e ∷ es) x t = historyInCode es (afterInCode e x) (toldInCode e x t)
+
+-- The log: as LogKept, for the words that the code's calls left and the records that they put.
+unfoldable pub LogKeptInCode : Type 0
+LogKeptInCode =
+    (o : Observed) (s : Sizes) → Formats o s
+    → (events : List EventInCode) → AllowedAllInCode events (formattedInCode o s)
+    → let n : Machine = followInCode events (formattedInCode o s) .machine in
+    let t : Told = historyInCode events (formattedInCode o s) nothingTold in
+    (disk : ℕ) → disk < sizesOn (n .world .anchor) .disks → LogOf n t disk
+
+-- A restart begin of the code hands back the backup's first page as the next; a backup step, on the state and the words that the code's
+-- calls left.
+unfoldable pub BackupStepsInCode : Type 0
+BackupStepsInCode =
+    AlwaysInCode λ m r. ((o : Observed) → o .call ≡ restartBegin → On m o → seen o ≡ taken → o .reply .core .replay .page ≡ 0)
+    × (m .core .stage ≡ Replaying → m .core .replay .page < m .core .sizes .pages → BackupStep (m .core) (m .world) (m .core .replay .page))
+
+-- The state that the code hands back says what is true of the words that it left.
+unfoldable pub StateTrueInCode : Type 0
+StateTrueInCode = AlwaysInCode λ m r. whenServing (m .core .stage) ≡ true → Truth m
+
+-- No call of the code on the slices as they were left answers 7.
+unfoldable pub NeverMalformedInCode : Type 0
+NeverMalformedInCode = AlwaysInCode λ m r. (o : Observed) → On m o → numberOf (o .reply .answer) ≡ 7 → ⊥
+
+-- Commit and abort always fit, by the state that the code hands back.
+unfoldable pub ClosingFitsInCode : Type 0
+ClosingFitsInCode =
+    AlwaysInCode λ m r. whenServing (m .core .stage) ≡ true → (t : ℕ) → isOpen (m .core .table) t ≡ true → Closable (m .core) t
+
+-- The commit point. The commit record goes to position p, the end of the log of the transaction's disk. A commit of the code that is
+-- taken leaves that disk's tail word at p + 2, behind the record; one that is cut, at whichever store, leaves it at p or below.
+unfoldable pub CommitPointsInCode : Type 0
+CommitPointsInCode =
+    AlwaysInCode λ m r. (o : Observed) (t budget : ℕ) → o .call ≡ commit t budget → On m o
+    → let p : ℕ = endOf (m .core .logs) (diskOf (m .core) t) in
+    let tail : ℕ = tailOn (m .core .sizes) (o .exit) (diskOf (m .core) t) in
+    (seen o ≡ taken → tail ≡ p + 2) × (seen o ≡ interrupted → tail ≤ p)
