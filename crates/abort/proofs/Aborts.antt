@@ -18,7 +18,7 @@ use Rattle.model.specs.Transaction.{diskOf}
 use Rattle.model.specs.Abort.{abortScan, updatesLeft, abortFault}
 use Rattle.model.proofs.Reading.{ending}
 use Rattle.model.proofs.Faults.{fault-end, fault-own, fault-rest}
-use Rattle.model.proofs.RingThenBuffer.{sound-as-one, parts-end}
+use Rattle.model.proofs.RingThenBuffer.{parts-as-one, parts-end}
 use Rattle.model.proofs.Growth.{tail-end, kept-le}
 use Rattle.model.proofs.Updates.{abort-words}
 use Rattle.model.proofs.Store.Rows.{sizes-sound, disk-sound}
@@ -93,7 +93,7 @@ module _ (c : Core) (number : ℕ) (opened : isOpen (c .table) number ≡ true) 
   as-one : ending parts ≡ end → parts ≡ sc
   unfolding partsFrom logFrom
   as-one sound =
-      sound-as-one (c .sizes) (reader (c .sizes) (c .logs) (at .disk) (w .logs) (w .work)) (tailOf (c .logs) (at .disk)) (endOf (c .logs) (at .disk))
+      parts-as-one (c .sizes) (reader (c .sizes) (c .logs) (at .disk) (w .logs) (w .work)) (tailOf (c .logs) (at .disk)) (endOf (c .logs) (at .disk))
       (tail-end (c .logs) (at .disk)) (at .from) sound
 
   -- the fault that an abort answers

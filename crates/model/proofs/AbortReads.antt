@@ -54,14 +54,14 @@ unfolding opens
 taken-so-far = refl
 
 -- 7 with the disk and that record's position, and all is left as it was
-turned-away : verdict (abortRows (torn .core) (torn .world) 1) ≡ rejected 7 0 4
+torn-verdict : verdict (abortRows (torn .core) (torn .world) 1) ≡ rejected 7 0 4
 unfolding opens
-turned-away = refl
+torn-verdict = refl
 
 pub torn-refused : resultOf (abort 1 plenty) (torn .core) (torn .world)
     ≡ record { answer = Refused 7 0 4; budget = plenty; core = torn .core; world = torn .world }
 unfolding resultOf
-torn-refused = rw turned-away refl
+torn-refused = rw torn-verdict refl
 
 -- as one log nothing in it is malformed, and the update at 6 is not found: an abort would take back two of three
 pub one-misses : faultIn 0 asOne NoFault ≡ NoFault

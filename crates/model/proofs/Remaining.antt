@@ -22,7 +22,7 @@ use Rattle.model.proofs.Decode.{found-change, found-close}
 use Rattle.model.proofs.Restart.Progress.{Progress}
 use Rattle.model.proofs.Restart.Steps.{remaining-log, remaining-backup, step-source, task-progress}
 use Rattle.model.proofs.Restart.Run.{run-keeps, did, task-makes}
-use Rattle.model.proofs.Store.Checks.{record-sound}
+use Rattle.model.proofs.Store.Checks.{record-well}
 
 -- where something is left there is a source
 remaining-source : (c : Core) (source : ℕ) → c .sizes .disks < source → remaining c source ≡ 0
@@ -59,7 +59,7 @@ module _ (c : Core) (w : World) (m : Progress c w) where
       let at = found-close (c .sizes) (readDisk c w d) (tailOf (c .logs) d) e in
       rw (moved-own c d next h (m .room)) (omega (arith, remaining-log c d h, at .next-eq, at .next-le))
   record-less d h some Malformed e =
-      let f = record-sound c w m d h (omega (arith, remaining-log c d h)) Malformed e in
+      let f = record-well c w m d h (omega (arith, remaining-log c d h)) Malformed e in
       let z : _≡_ {A = ℕ} 0 1 = cc in
       absurd (omega arith)
 

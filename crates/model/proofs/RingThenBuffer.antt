@@ -67,10 +67,10 @@ module _ (s : Sizes) (read : ℕ → ℕ) (tail stop : ℕ) (within : tail ≤ s
   through : (n p : ℕ) → tail - p ≤ n → p ≤ tail → ending (scan s read tail p) ≡ end
       → andThen (scan s read tail p) (scan s read stop tail) ≡ scan s read stop p
   unfolding andThen ending
-  through zero p few low sound =
+  through zero p few low well =
       let here : p ≡ tail = omega arith in
       rw (scan-end s read tail p (omega arith), here) refl
-  through (suc n) p few low sound =
+  through (suc n) p few low well =
       go (decLt p tail) (decodeAt s read tail p) refl (λ q more l. through n q (omega arith) l)
     where
       whole : Scan
@@ -88,33 +88,33 @@ module _ (s : Sizes) (read : ℕ → ℕ) (tail stop : ℕ) (within : tail ≤ s
           let same = decode-further p (λ x. let z : _≡_ {A = ℕ} 0 1 = cc in omega arith) ∙ e in
           rw (first, scan-change s read stop (omega arith) same)
           (ap (item p (change kind page slot number copy (span read (p + 3) width)))
-          (later next (omega (arith, f .next-eq)) (f .next-le) (rw first at sound)))
+          (later next (omega (arith, f .next-eq)) (f .next-le) (rw first at well)))
       go (yes k) (Close kind number next) e later =
           let f = found-close s read tail e in
           let first = scan-close s read tail k e in
           let same = decode-further p (λ x. let z : _≡_ {A = ℕ} 0 1 = cc in omega arith) ∙ e in
           rw (first, scan-close s read stop (omega arith) same)
-          (ap (item p (close kind number)) (later next (omega (arith, f .next-eq)) (f .next-le) (rw first at sound)))
+          (ap (item p (close kind number)) (later next (omega (arith, f .next-eq)) (f .next-le) (rw first at well)))
       go (yes k) Malformed e later =
-          let broken = sym sound ∙ ap ending (scan-bad s read tail k e) in
+          let broken = sym well ∙ ap ending (scan-bad s read tail k e) in
           let z : _≡_ {A = ℕ} 0 1 = cc in
           absurd (omega arith)
 
   pub read-as-one : (p : ℕ) → ending (scan s read tail p) ≡ end → ringThenBuffer s read tail stop p ≡ scan s read stop p
   unfolding ringThenBuffer andThen
-  read-as-one p sound = go (decLt p tail)
+  read-as-one p well = go (decLt p tail)
     where
       go : Dec (p < tail) → andThen (scan s read tail p) (scan s read stop (max tail p)) ≡ scan s read stop p
       go (yes k) =
           let from : max tail p ≡ tail = omega arith in
-          rw from (through (tail - p) p (omega arith) (omega arith) sound)
+          rw from (through (tail - p) p (omega arith) (omega arith) well)
       go (no k) =
           let from : max tail p ≡ p = omega arith in
           rw (scan-end s read tail p (omega arith), from) refl
 
-  pub sound-as-one : (p : ℕ) → ending (ringThenBuffer s read tail stop p) ≡ end → ringThenBuffer s read tail stop p ≡ scan s read stop p
+  pub parts-as-one : (p : ℕ) → ending (ringThenBuffer s read tail stop p) ≡ end → ringThenBuffer s read tail stop p ≡ scan s read stop p
   unfolding ringThenBuffer
-  sound-as-one p sound = read-as-one p (then-ending (scan s read tail p) (scan s read stop (max tail p)) sound)
+  parts-as-one p well = read-as-one p (then-ending (scan s read tail p) (scan s read stop (max tail p)) well)
 
   pub parts-end : (p : ℕ) → stop ≤ p → ringThenBuffer s read tail stop p ≡ end
   unfolding ending

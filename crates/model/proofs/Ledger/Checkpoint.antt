@@ -52,15 +52,15 @@ module _ {x size : ℕ} {a : Ledger} (inPage : ℕ → Bool) (before : (w : ℕ)
 
 -- ---- the last store
 -- what its caller has shown
-pub record MaySwitch (size : ℕ) (a : Ledger) (kept : Entry → Bool) : Type 0 where
+pub record MaySwitch (size : ℕ) (a : Ledger) (retains : Entry → Bool) : Type 0 where
   -- all is flushed and copied
   pub none-buffered : a .buffered ≡ []
   pub all-copied : (w : ℕ) → w < size → a .epoch < a .copies w
   -- what goes is in the new backup, and of finished transactions
-  pub old : (w : ℕ) → w < size → All (λ r. mask (leb (a .epoch + 1) (r .copy)) (adds w r) ≡ 0) (pick (λ r. not (kept r)) (a .flushed))
-  pub closed : All (λ r. closedIn (a .flushed) (r .number) ≡ true) (pick (λ r. not (kept r)) (a .flushed))
+  pub old : (w : ℕ) → w < size → All (λ r. mask (leb (a .epoch + 1) (r .copy)) (adds w r) ≡ 0) (pick (λ r. not (retains r)) (a .flushed))
+  pub closed : All (λ r. closedIn (a .flushed) (r .number) ≡ true) (pick (λ r. not (retains r)) (a .flushed))
   -- where a closing record goes, its transaction has nothing in what stays
-  pub last : (t : ℕ) → closedIn (a .flushed) t ≡ true → closedIn (pick kept (a .flushed)) t ≡ false → All (λ r. eqb (r .number) t ≡ false) (pick kept (a .flushed))
+  pub last : (t : ℕ) → closedIn (a .flushed) t ≡ true → closedIn (pick retains (a .flushed)) t ≡ false → All (λ r. eqb (r .number) t ≡ false) (pick retains (a .flushed))
 
 closed-split : (p : Entry → Bool) (l : List Entry) (t : ℕ) → closedIn (pick (λ r. not (p r)) l ++ pick p l) t ≡ closedIn l t
 unfolding closedIn
@@ -74,18 +74,18 @@ mask-mono m n k y h e = go (leb n k) refl
     go true d = sym (rw (le-leb m k (omega (arith, leb-true n k d)))) ∙ e
     go false d = refl
 
-module _ {size : ℕ} {a : Ledger} {kept : Entry → Bool} (g : Good 0 size a) (may : MaySwitch size a kept) where
+module _ {size : ℕ} {a : Ledger} {retains : Entry → Bool} (g : Good 0 size a) (may : MaySwitch size a retains) where
   D : List Entry
-  D = pick (λ r. not (kept r)) (a .flushed)
+  D = pick (λ r. not (retains r)) (a .flushed)
 
   R : List Entry
-  R = pick kept (a .flushed)
+  R = pick retains (a .flushed)
 
   perm : (f : Entry → ℕ) → sum f ((D ++ R) ++ []) ≡ sum f (a .flushed ++ a .buffered)
   unfolding D R
   perm f =
       rw (may .none-buffered, append-nil (D ++ R), append-nil (a .flushed))
-      (sum-append f D R ∙ ⊕-comm (sum f D) (sum f R) ∙ sum-pick kept f (a .flushed))
+      (sum-append f D R ∙ ⊕-comm (sum f D) (sum f R) ∙ sum-pick retains f (a .flushed))
 
   -- a sum that has nothing of what goes
   shed : (f : Entry → ℕ) → All (λ r. f r ≡ 0) D → sum f (R ++ []) ≡ sum f (a .flushed ++ a .buffered)
@@ -101,8 +101,8 @@ module _ {size : ℕ} {a : Ledger} {kept : Entry → Bool} (g : Good 0 size a) (
   whole w i =
       flush-keeps w (a .epoch) (a .current w) (a .pages w) (a .committed w) (a .committed w) (a .flushed) (a .buffered) (D ++ R) [] (a .opened) (a .opened)
       (g .words w i) perm tt tt
-      (λ t o. closed-split kept (a .flushed) t ∙ g .words w i .loose t o)
-      (λ t h. sym (closed-split kept (a .flushed) t) ∙ h) (λ t h o. o) (g .words w i .book)
+      (λ t o. closed-split retains (a .flushed) t ∙ g .words w i .loose t o)
+      (λ t h. sym (closed-split retains (a .flushed) t) ∙ h) (λ t h o. o) (g .words w i .book)
 
   word : (w : ℕ) → w < size → Inv w (a .epoch + 1) (a .other w) (a .pages w) (a .committed w) R [] (a .opened)
   unfolding D R
@@ -111,9 +111,9 @@ module _ {size : ℕ} {a : Ledger} {kept : Entry → Bool} (g : Good 0 size a) (
       (switch-keeps w (a .epoch) (a .epoch + 1) (a .current w) (a .other w) (a .pages w) (a .committed w) (D ++ R) (a .opened) (whole w i)
       (record { page = g .copied w i (may .all-copied w i) .page ∙ ap (λ (y : ℕ). a .other w ⊕ y) (sym (perm _)) }))
       (may .old w i)
-      (all-map (λ r h. closed-split kept (a .flushed) (r .number) ∙ h) D (may .closed))
-      (λ t h. closed-pick kept (a .flushed) t (sym (closed-split kept (a .flushed) t) ∙ h))
-      (λ t h k. may .last t (sym (closed-split kept (a .flushed) t) ∙ h) k)
+      (all-map (λ r h. closed-split retains (a .flushed) (r .number) ∙ h) D (may .closed))
+      (λ t h. closed-pick retains (a .flushed) t (sym (closed-split retains (a .flushed) t) ∙ h))
+      (λ t h k. may .last t (sym (closed-split retains (a .flushed) t) ∙ h) k)
 
   -- a transaction that is not closed has nothing in what goes
   not-there : (w t : ℕ) → closedIn (a .flushed) t ≡ false → (r : Entry) → closedIn (a .flushed) (r .number) ≡ true → mask (eqb (r .number) t) (adds w r) ≡ 0
@@ -121,9 +121,9 @@ module _ {size : ℕ} {a : Ledger} {kept : Entry → Bool} (g : Good 0 size a) (
 
   flat : (t : ℕ) → closedIn (a .flushed ++ a .buffered) t ≡ false → closedIn (R ++ []) t ≡ false
   unfolding R
-  flat t h = rw (append-nil R) (closed-pick kept (a .flushed) t (neither (a .flushed) (a .buffered) t h .0))
+  flat t h = rw (append-nil R) (closed-pick retains (a .flushed) t (neither (a .flushed) (a .buffered) t h .0))
 
-  pub switch-good : Good 0 size (switched a kept)
+  pub switch-good : Good 0 size (switched a retains)
   unfolding switched R D
   switch-good = record {
     words = word;

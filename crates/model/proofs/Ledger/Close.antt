@@ -11,7 +11,7 @@ use Rattle.model.proofs.Ledger.Entry.{sum, some, mask, All, pick, Entry
 use Rattle.model.proofs.Ledger.State.{Ledger, except, abortedBy, committedBy}
 use Rattle.model.proofs.Ledger.Sums.{mask-zero, sum-append, all-zip, all-right}
 use Rattle.model.proofs.Ledger.Picks.{sum-pick, all-pick, closed-append, closed-pick}
-use Rattle.model.proofs.Ledger.Word.{Inv, ofTxn, append-keeps, abort-keeps, flush-keeps, sum-snoc, kept-open}
+use Rattle.model.proofs.Ledger.Word.{Inv, ofTxn, append-keeps, abort-keeps, flush-keeps, sum-snoc, except-open}
 use Rattle.model.proofs.Ledger.WriteSets.{Sheets, sheets-same, commit-sheets, commit-others, not-shut}
 use Rattle.model.proofs.Ledger.Good.{Good}
 use Rattle.model.proofs.Ledger.Flush.{neither, elsewhere, stays}
@@ -61,13 +61,13 @@ module _ {size : ℕ} {a : Ledger} (r : Entry) (g : Good (r .number) size a) (op
       → Sheets 0 w (a .committed w) (a .flushed ++ (a .buffered ++ r ∷ [])) (except (a .opened) (r .number)) (a .writes) (a .owners w)
   accounts w i = record {
     adds-up = λ u k o.
-        let p : (a .opened u ≡ true) × (u ≡ r .number → ⊥) = kept-open (a .opened) (r .number) u o in
+        let p : (a .opened u ≡ true) × (u ≡ r .number → ⊥) = except-open (a .opened) (r .number) u o in
         g .sheets w i .adds-up u (p .1) (p .0) ∙ ap (λ (y : ℕ). a .committed w ⊕ y) (sym (sums w (λ q. eqb (q .number) u)));
     no-record = λ u k o n.
-        let p : (a .opened u ≡ true) × (u ≡ r .number → ⊥) = kept-open (a .opened) (r .number) u o in
+        let p : (a .opened u ≡ true) × (u ≡ r .number → ⊥) = except-open (a .opened) (r .number) u o in
         sums w (λ q. eqb (q .number) u) ∙ g .sheets w i .no-record u (p .1) (p .0) n;
     no-entry = λ u k o n.
-        let p : (a .opened u ≡ true) × (u ≡ r .number → ⊥) = kept-open (a .opened) (r .number) u o in
+        let p : (a .opened u ≡ true) × (u ≡ r .number → ⊥) = except-open (a .opened) (r .number) u o in
         g .sheets w i .no-entry u (p .1) (p .0) n;
   }
 
@@ -82,7 +82,7 @@ module _ {size : ℕ} {a : Ledger} (r : Entry) (g : Good (r .number) size a) (op
       page = g .copied w i h .page ∙ ap (λ (y : ℕ). a .other w ⊕ y) (sym (sums w (λ q. leb (a .epoch + 1) (q .copy))));
     };
     numbers = g .numbers;
-    unclosed = λ u o. still u (kept-open (a .opened) (r .number) u o .1) (g .unclosed u (kept-open (a .opened) (r .number) u o .0));
+    unclosed = λ u o. still u (except-open (a .opened) (r .number) u o .1) (g .unclosed u (except-open (a .opened) (r .number) u o .0));
     unused = λ u h. (still u (λ e. true-false opened (rw (sym e) (g .unused u h .1))) (g .unused u h .0), rw (g .unused u h .1));
     unlogged = λ w u i h. sums w (λ q. eqb (q .number) u) ∙ g .unlogged w u i h;
     older = λ w i h. sums w (λ q. leb (a .epoch + 1) (q .copy)) ∙ g .older w i h;
@@ -148,7 +148,7 @@ module _ {size : ℕ} {a : Ledger} (home : ℕ → ℕ) (r : Entry) (homed : All
 
   still-open : (u : ℕ) → except (a .opened) (r .number) u ≡ true → (closedIn log u ≡ false) × (closedIn (log ++ rest) u ≡ false)
   still-open u o =
-      let p : (a .opened u ≡ true) × (u ≡ r .number → ⊥) = kept-open (a .opened) (r .number) u o in
+      let p : (a .opened u ≡ true) × (u ≡ r .number → ⊥) = except-open (a .opened) (r .number) u o in
       unclosed-log u (p .1) (g .unclosed u (p .0))
 
   parts : (u : ℕ) → closedIn log u ≡ false → (closedIn (a .flushed) u ≡ false) × (eqb (r .number) u ≡ false)

@@ -170,9 +170,9 @@ module _ (d : ℕ) (F B : List Entry) where
     on-other-flushed =
         pick-append (onDisk e) F (pick (onDisk d) B) ∙ rw (pick-none (onDisk d) (onDisk e) other B) (append-nil (pick (onDisk e) F))
 
-    pub on-other-kept : on e (pick (λ r. not (onDisk d r)) B) ≡ on e B
+    pub on-other-left : on e (pick (λ r. not (onDisk d r)) B) ≡ on e B
     unfolding on
-    on-other-kept = pick-keeps (λ r. not (onDisk d r)) (onDisk e) another B
+    on-other-left = pick-keeps (λ r. not (onDisk d r)) (onDisk e) another B
 
   -- each disk has the same entries, flushed and buffered together
   pub on-flush : (e : ℕ) → on e (F ++ on d B) ++ on e (pick (λ r. not (onDisk d r)) B) ≡ on e F ++ on e B
@@ -180,7 +180,7 @@ module _ (d : ℕ) (F B : List Entry) where
     where
       go : Dec (e ≡ d) → on e (F ++ on d B) ++ on e (pick (λ r. not (onDisk d r)) B) ≡ on e F ++ on e B
       go (yes same) = rw (same, on-flushed, on-emptied) (append-nil (on d F ++ on d B))
-      go (no ne) = rw (on-other-flushed e ne, on-other-kept e ne)
+      go (no ne) = rw (on-other-flushed e ne, on-other-left e ne)
 
 -- The words of entries.
 pub words-append : (l m : List Entry) → wordsOf (l ++ m) ≡ wordsOf l ++ wordsOf m

@@ -121,8 +121,8 @@ pub ordered-commit : {disks : ℕ} {start home : ℕ → ℕ} {F : List Entry} (
 ordered-commit B r o = rw (on-more (r .disk) B r refl, off-more (r .disk) B r refl) at (ordered-flush o (r .disk))
 
 -- an entry from its disk's start on
-abbrev pub keptFrom : (ℕ → ℕ) → Entry → Bool
-keptFrom start r = leb (start (r .disk)) (r .position)
+abbrev pub fromStart : (ℕ → ℕ) → Entry → Bool
+fromStart start r = leb (start (r .disk)) (r .position)
 
 -- what holds of each disk's entries holds of all
 each-disk : (n : ℕ) (P : Entry → Type 0) (l : List Entry) → All (λ r. r .disk < n) l → ((d : ℕ) → d < n → All (λ r. r .disk ≡ d → P r) l) → All P l
@@ -131,24 +131,24 @@ each-disk n P (r ∷ l) inside h = (h (r .disk) (inside .0) .0 refl, each-disk n
 
 -- Later starts, each a boundary of its disk's flushed entries: what lies before them goes, and what is buffered stays.
 module _ {disks : ℕ} {start home : ℕ → ℕ} {F B : List Entry} (o : Ordered disks start home F B) (start' : ℕ → ℕ) where
-  on-kept : (d : ℕ) → on d (pick (keptFrom start') F) ≡ pick (λ r. leb (start' d) (r .position)) (on d F)
+  on-from-start : (d : ℕ) → on d (pick (fromStart start') F) ≡ pick (λ r. leb (start' d) (r .position)) (on d F)
   unfolding on onDisk
-  on-kept d = pick-swap (onDisk d) (keptFrom start') (λ r. leb (start' d) (r .position)) (λ r x. rw (eqb-true (r .disk) d x)) F
+  on-from-start d = pick-swap (onDisk d) (fromStart start') (λ r. leb (start' d) (r .position)) (λ r x. rw (eqb-true (r .disk) d x)) F
 
-  pub all-kept : (P : Entry → Type 0) → All P (F ++ B) → All P (pick (keptFrom start') F ++ B)
-  all-kept P h = all-append P (pick (keptFrom start') F) B (all-pick P (keptFrom start') F (all-left P F B h)) (all-right P F B h)
+  pub all-from-start : (P : Entry → Type 0) → All P (F ++ B) → All P (pick (fromStart start') F ++ B)
+  all-from-start P h = all-append P (pick (fromStart start') F) B (all-pick P (fromStart start') F (all-left P F B h)) (all-right P F B h)
 
   -- One disk.
   module _ (d : ℕ) (h : d < disks) (cut : boundary (start' d) (start d) (on d F) ≡ true) where
     -- its flushed entries and their words are what is left from the start on
-    pub switch-suffix : Suffix (start d) (start' d) (on d F) (on d (pick (keptFrom start') F))
-    switch-suffix = rw (on-kept d) (boundary-suffix (start d) (start' d) (on d F) (laid-append (start d) (on d F) (on d B) (o .laid d h) .0) cut)
+    pub switch-suffix : Suffix (start d) (start' d) (on d F) (on d (pick (fromStart start') F))
+    switch-suffix = rw (on-from-start d) (boundary-suffix (start d) (start' d) (on d F) (laid-append (start d) (on d F) (on d B) (o .laid d h) .0) cut)
 
     -- they end where they did
-    same-end : start' d + length (wordsOf (on d (pick (keptFrom start') F))) ≡ start d + length (wordsOf (on d F))
+    same-end : start' d + length (wordsOf (on d (pick (fromStart start') F))) ≡ start d + length (wordsOf (on d F))
     same-end =
         let k = switch-suffix in
-        omega (arith, k .cut, ap length (k .words) ∙ length-append (k .front) (wordsOf (on d (pick (keptFrom start') F))))
+        omega (arith, k .cut, ap length (k .words) ∙ length-append (k .front) (wordsOf (on d (pick (fromStart start') F))))
 
     -- so what is buffered lies after the start
     buffer-after : All (λ r. start' d ≤ r .position) (on d B)
@@ -156,34 +156,34 @@ module _ {disks : ℕ} {start home : ℕ → ℕ} {F B : List Entry} (o : Ordere
         all-map (λ r x. omega (arith, same-end)) (on d B)
         (laid-from (start d + length (wordsOf (on d F))) (on d B) (laid-append (start d) (on d F) (on d B) (o .laid d h) .1))
 
-    pub laid-switch : Laid (start' d) (on d (pick (keptFrom start') F) ++ on d B)
+    pub laid-switch : Laid (start' d) (on d (pick (fromStart start') F) ++ on d B)
     laid-switch =
-        append-laid (start' d) (on d (pick (keptFrom start') F)) (on d B) (switch-suffix .laid)
+        append-laid (start' d) (on d (pick (fromStart start') F)) (on d B) (switch-suffix .laid)
         (rw same-end (laid-append (start d) (on d F) (on d B) (o .laid d h) .1))
 
     -- the entries from the start on
-    pub on-switch : on d (pick (keptFrom start') F) ++ on d B ≡ pick (λ r. leb (start' d) (r .position)) (on d F ++ on d B)
+    pub on-switch : on d (pick (fromStart start') F) ++ on d B ≡ pick (λ r. leb (start' d) (r .position)) (on d F ++ on d B)
     on-switch =
-        rw (on-kept d, pick-append, pick-whole (λ r. leb (start' d) (r .position)) (on d B) (all-map (λ r x. le-leb (start' d) (r .position) x) (on d B) buffer-after))
+        rw (on-from-start d, pick-append, pick-whole (λ r. leb (start' d) (r .position)) (on d B) (all-map (λ r x. le-leb (start' d) (r .position) x) (on d B) buffer-after))
 
   -- All disks.
   module _ (cut : (d : ℕ) → d < disks → boundary (start' d) (start d) (on d F) ≡ true) where
-    buffer-stays : All (λ r. keptFrom start' r ≡ true) B
+    buffer-stays : All (λ r. fromStart start' r ≡ true) B
     unfolding on onDisk
     buffer-stays = each-disk disks _ B (all-right _ F B (o .inside)) one
       where
-        one : (d : ℕ) → d < disks → All (λ r. r .disk ≡ d → keptFrom start' r ≡ true) B
+        one : (d : ℕ) → d < disks → All (λ r. r .disk ≡ d → fromStart start' r ≡ true) B
         one d h =
             all-map (λ r x same. rw same (le-leb (start' d) (r .position) (x (eq-eqb (r .disk) d same)))) B
             (pick-only (λ r. start' d ≤ r .position) (onDisk d) B (buffer-after d h (cut d h)))
 
-    pub kept-switch : pick (keptFrom start') (F ++ B) ≡ pick (keptFrom start') F ++ B
-    kept-switch = rw (pick-append, pick-whole (keptFrom start') B buffer-stays)
+    pub switch-from-start : pick (fromStart start') (F ++ B) ≡ pick (fromStart start') F ++ B
+    switch-from-start = rw (pick-append, pick-whole (fromStart start') B buffer-stays)
 
-    pub ordered-switch : Ordered disks start' home (pick (keptFrom start') F) B
+    pub ordered-switch : Ordered disks start' home (pick (fromStart start') F) B
     ordered-switch = record {
       laid = λ d h. laid-switch d h (cut d h);
-      inside = all-kept _ (o .inside);
-      homed = all-kept _ (o .homed);
-      last = all-kept _ (all-map (λ r h. all-kept _ h) (F ++ B) (o .last));
+      inside = all-from-start _ (o .inside);
+      homed = all-from-start _ (o .homed);
+      last = all-from-start _ (all-map (λ r h. all-from-start _ h) (F ++ B) (o .last));
     }

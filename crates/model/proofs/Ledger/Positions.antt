@@ -111,10 +111,10 @@ boundary-left q p (r ∷ l) m low h = go (eqb q p) h (boundary-left q (p + sizeO
     go false x ih = ih x
 
 -- The entries from q on, of those from p on: they are laid from q on, and their words are the last ones.
-pub record Suffix (p q : ℕ) (l kept : List Entry) : Type 0 where
-  pub laid : Laid q kept
+pub record Suffix (p q : ℕ) (l later : List Entry) : Type 0 where
+  pub laid : Laid q later
   pub front : List ℕ
-  pub words : wordsOf l ≡ front ++ wordsOf kept
+  pub words : wordsOf l ≡ front ++ wordsOf later
   pub cut : length front + p ≡ q
 
 suffix-whole : (p : ℕ) (l : List Entry) → Laid p l → Suffix p p l (pick (λ r. leb p (r .position)) l)

@@ -156,9 +156,9 @@ copied a inPage =
       buffered = a .buffered;
     }
 
--- the checkpoint's last store: the other backup counts, and the log is what `kept` says
+-- the checkpoint's last store: the other backup counts, and the log is what `retains` says
 unfoldable pub switched : Ledger → (Entry → Bool) → Ledger
-switched a kept =
+switched a retains =
     record {
       epoch = a .epoch + 1;
       next = a .next;
@@ -170,7 +170,7 @@ switched a kept =
       committed = a .committed;
       writes = a .writes;
       opened = a .opened;
-      flushed = pick kept (a .flushed);
+      flushed = pick retains (a .flushed);
       buffered = [];
     }
 

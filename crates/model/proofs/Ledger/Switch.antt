@@ -12,7 +12,7 @@ use Rattle.model.proofs.Ledger.Order.{on, boundary, Ordered}
 use Rattle.model.proofs.Ledger.Sums.{all-map, all-zip, mask-zero}
 use Rattle.model.proofs.Ledger.Picks.{all-pick, pick-all}
 use Rattle.model.proofs.Ledger.Lists.{all-left, some-pick}
-use Rattle.model.proofs.Ledger.Ordered.{Before, closes-number, keptFrom, all-kept, kept-switch}
+use Rattle.model.proofs.Ledger.Ordered.{Before, closes-number, fromStart, all-from-start, switch-from-start}
 use Rattle.model.proofs.Booleans.{true-false}
 use Rattle.model.proofs.Ledger.Close.{adds-close}
 
@@ -24,17 +24,17 @@ pub record Placed (O : ℕ → Bool) (first marks : ℕ → ℕ) (c : ℕ) (F B 
   pub early : All (λ r. r .position < marks (r .disk) → isClose r ≡ false → r .copy ≤ c) (F ++ B)
 
 -- Entries, each transaction's on one disk and its closing record last: it is kept with any other.
-closed-kept : (home start' : ℕ → ℕ) (l : List Entry) → All (λ r. r .disk ≡ home (r .number)) l → All (λ r. All (Before r) l) l
-    → All (λ r. closedIn (pick (keptFrom start') l) (r .number) ≡ closedIn l (r .number)) (pick (keptFrom start') l)
+closed-from-start : (home start' : ℕ → ℕ) (l : List Entry) → All (λ r. r .disk ≡ home (r .number)) l → All (λ r. All (Before r) l) l
+    → All (λ r. closedIn (pick (fromStart start') l) (r .number) ≡ closedIn l (r .number)) (pick (fromStart start') l)
 unfolding closedIn
-closed-kept home start' l homed last = all-zip one (pick (keptFrom start') l) (pick-all (keptFrom start') l)
-    (all-pick _ (keptFrom start') l (all-zip (λ r a b. (a, b)) l homed last))
+closed-from-start home start' l homed last = all-zip one (pick (fromStart start') l) (pick-all (fromStart start') l)
+    (all-pick _ (fromStart start') l (all-zip (λ r a b. (a, b)) l homed last))
   where
-    one : (r : Entry) → keptFrom start' r ≡ true → (r .disk ≡ home (r .number)) × All (Before r) l
-        → closedIn (pick (keptFrom start') l) (r .number) ≡ closedIn l (r .number)
-    one r k h = some-pick _ (keptFrom start') l (all-zip too l homed (h .1))
+    one : (r : Entry) → fromStart start' r ≡ true → (r .disk ≡ home (r .number)) × All (Before r) l
+        → closedIn (pick (fromStart start') l) (r .number) ≡ closedIn l (r .number)
+    one r k h = some-pick _ (fromStart start') l (all-zip too l homed (h .1))
       where
-        too : (q : Entry) → q .disk ≡ home (q .number) → Before r q → isClose q && eqb (q .number) (r .number) ≡ true → keptFrom start' q ≡ true
+        too : (q : Entry) → q .disk ≡ home (q .number) → Before r q → isClose q && eqb (q .number) (r .number) ≡ true → fromStart start' q ≡ true
         too q e b c =
             let same : start' (q .disk) ≡ start' (r .disk) = ap start' (e ∙ ap home (closes-number q (r .number) c) ∙ sym (h .0)) in
             le-leb (start' (q .disk)) (q .position) (omega (arith, leb-true (start' (r .disk)) (r .position) k, b c))
@@ -42,42 +42,42 @@ closed-kept home start' l homed last = all-zip one (pick (keptFrom start') l) (p
 -- Any later starts.
 module _ {disks : ℕ} {start home : ℕ → ℕ} {F B : List Entry} (o : Ordered disks start home F B) (start' : ℕ → ℕ) where
   -- the flushed entries
-  pub kept-closed : All (λ r. closedIn (pick (keptFrom start') F) (r .number) ≡ closedIn F (r .number)) (pick (keptFrom start') F)
-  kept-closed = closed-kept home start' F (all-left _ F B (o .homed)) (all-map (λ r h. all-left (Before r) F B h) F (all-left _ F B (o .last)))
+  pub from-start-closed : All (λ r. closedIn (pick (fromStart start') F) (r .number) ≡ closedIn F (r .number)) (pick (fromStart start') F)
+  from-start-closed = closed-from-start home start' F (all-left _ F B (o .homed)) (all-map (λ r h. all-left (Before r) F B h) F (all-left _ F B (o .last)))
 
   -- so a transaction whose closing record goes has no entry left
-  pub switch-last : (t : ℕ) → closedIn F t ≡ true → closedIn (pick (keptFrom start') F) t ≡ false
-      → All (λ r. eqb (r .number) t ≡ false) (pick (keptFrom start') F)
-  switch-last t x y = all-map one (pick (keptFrom start') F) kept-closed
+  pub switch-last : (t : ℕ) → closedIn F t ≡ true → closedIn (pick (fromStart start') F) t ≡ false
+      → All (λ r. eqb (r .number) t ≡ false) (pick (fromStart start') F)
+  switch-last t x y = all-map one (pick (fromStart start') F) from-start-closed
     where
-      one : (r : Entry) → closedIn (pick (keptFrom start') F) (r .number) ≡ closedIn F (r .number) → eqb (r .number) t ≡ false
+      one : (r : Entry) → closedIn (pick (fromStart start') F) (r .number) ≡ closedIn F (r .number) → eqb (r .number) t ≡ false
       one r h = ne-eqb (r .number) t (λ e. true-false x (sym (rw e at h) ∙ y))
 
   -- those and the buffered ones, all of which stay
-  pub kept-closed-all : ((d : ℕ) → d < disks → boundary (start' d) (start d) (on d F) ≡ true)
-      → All (λ r. closedIn (pick (keptFrom start') F ++ B) (r .number) ≡ closedIn (F ++ B) (r .number)) (pick (keptFrom start') F ++ B)
-  kept-closed-all cut = rw (kept-switch o start' cut) at (closed-kept home start' (F ++ B) (o .homed) (o .last))
+  pub from-start-closed-all : ((d : ℕ) → d < disks → boundary (start' d) (start d) (on d F) ≡ true)
+      → All (λ r. closedIn (pick (fromStart start') F ++ B) (r .number) ≡ closedIn (F ++ B) (r .number)) (pick (fromStart start') F ++ B)
+  from-start-closed-all cut = rw (switch-from-start o start' cut) at (closed-from-start home start' (F ++ B) (o .homed) (o .last))
 
   -- The starts that a checkpoint takes.
   module _ {O : ℕ → Bool} {first marks : ℕ → ℕ} {c : ℕ} (p : Placed O first marks c F B) where
     -- what is kept is placed as before
-    pub placed-kept : ((d : ℕ) → d < disks → boundary (start' d) (start d) (on d F) ≡ true) → Placed O first marks c (pick (keptFrom start') F) B
-    placed-kept cut = record {
-      opened = all-kept o start' _ (p .opened);
-      settled = all-zip (λ r same h no. same ∙ h no) (pick (keptFrom start') F ++ B) (kept-closed-all cut) (all-kept o start' _ (p .settled));
-      early = all-kept o start' _ (p .early);
+    pub placed-from-start : ((d : ℕ) → d < disks → boundary (start' d) (start d) (on d F) ≡ true) → Placed O first marks c (pick (fromStart start') F) B
+    placed-from-start cut = record {
+      opened = all-from-start o start' _ (p .opened);
+      settled = all-zip (λ r same h no. same ∙ h no) (pick (fromStart start') F ++ B) (from-start-closed-all cut) (all-from-start o start' _ (p .settled));
+      early = all-from-start o start' _ (p .early);
     }
 
-    before : (r : Entry) → not (keptFrom start' r) ≡ true → r .position < start' (r .disk)
-    before r x = leb-false (start' (r .disk)) (r .position) (not-true (keptFrom start' r) x)
+    before : (r : Entry) → not (fromStart start' r) ≡ true → r .position < start' (r .disk)
+    before r x = leb-false (start' (r .disk)) (r .position) (not-true (fromStart start' r) x)
 
     -- what goes is in the backup that now counts
     pub switch-old : ((d : ℕ) → d < disks → start' d ≤ marks d) → (w : ℕ)
-        → All (λ r. mask (leb (c + 1) (r .copy)) (adds w r) ≡ 0) (pick (λ r. not (keptFrom start' r)) F)
-    switch-old low w = all-zip one (pick (λ r. not (keptFrom start' r)) F) (pick-all _ F)
-        (all-pick _ (λ r. not (keptFrom start' r)) F (all-zip (λ r a b. (a, b)) F (all-left _ F B (o .inside)) (all-left _ F B (p .early))))
+        → All (λ r. mask (leb (c + 1) (r .copy)) (adds w r) ≡ 0) (pick (λ r. not (fromStart start' r)) F)
+    switch-old low w = all-zip one (pick (λ r. not (fromStart start' r)) F) (pick-all _ F)
+        (all-pick _ (λ r. not (fromStart start' r)) F (all-zip (λ r a b. (a, b)) F (all-left _ F B (o .inside)) (all-left _ F B (p .early))))
       where
-        one : (r : Entry) → not (keptFrom start' r) ≡ true → (r .disk < disks) × (r .position < marks (r .disk) → isClose r ≡ false → r .copy ≤ c)
+        one : (r : Entry) → not (fromStart start' r) ≡ true → (r .disk < disks) × (r .position < marks (r .disk) → isClose r ≡ false → r .copy ≤ c)
             → mask (leb (c + 1) (r .copy)) (adds w r) ≡ 0
         one r x h = go (isClose r) refl
           where
@@ -89,11 +89,11 @@ module _ {disks : ℕ} {start home : ℕ → ℕ} {F B : List Entry} (o : Ordere
 
     -- and of closed transactions; where something is buffered, the closing record may be in the buffer
     pub switch-closed : All (λ r. O (r .number) ≡ true → start' (r .disk) ≤ first (r .number)) F
-        → All (λ r. closedIn (F ++ B) (r .number) ≡ true) (pick (λ r. not (keptFrom start' r)) F)
-    switch-closed reach = all-zip one (pick (λ r. not (keptFrom start' r)) F) (pick-all _ F)
-        (all-pick _ (λ r. not (keptFrom start' r)) F (all-zip (λ r a b. (a, b)) F (all-zip (λ r a b. (a, b)) F reach (all-left _ F B (p .opened))) (all-left _ F B (p .settled))))
+        → All (λ r. closedIn (F ++ B) (r .number) ≡ true) (pick (λ r. not (fromStart start' r)) F)
+    switch-closed reach = all-zip one (pick (λ r. not (fromStart start' r)) F) (pick-all _ F)
+        (all-pick _ (λ r. not (fromStart start' r)) F (all-zip (λ r a b. (a, b)) F (all-zip (λ r a b. (a, b)) F reach (all-left _ F B (p .opened))) (all-left _ F B (p .settled))))
       where
-        one : (r : Entry) → not (keptFrom start' r) ≡ true
+        one : (r : Entry) → not (fromStart start' r) ≡ true
             → ((O (r .number) ≡ true → start' (r .disk) ≤ first (r .number)) × (O (r .number) ≡ true → first (r .number) ≤ r .position))
             × (O (r .number) ≡ false → closedIn (F ++ B) (r .number) ≡ true)
             → closedIn (F ++ B) (r .number) ≡ true

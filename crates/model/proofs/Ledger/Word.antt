@@ -90,8 +90,8 @@ append-keeps w c b v res F B O r h new open? = record {
 }
 
 -- an open one that remains was open, and is another
-pub kept-open : (O : ℕ → Bool) (t u : ℕ) → except O t u ≡ true → (O u ≡ true) × (u ≡ t → ⊥)
-kept-open O t u x = go (O u) (eqb u t) refl refl x
+pub except-open : (O : ℕ → Bool) (t u : ℕ) → except O t u ≡ true → (O u ≡ true) × (u ≡ t → ⊥)
+except-open O t u x = go (O u) (eqb u t) refl refl x
   where
     go : (a b : Bool) → O u ≡ a → eqb u t ≡ b → a && not b ≡ true → (O u ≡ true) × (u ≡ t → ⊥)
     go true true p q z = true-false z refl
@@ -125,7 +125,7 @@ abort-keeps w c b v res F B O t h open? zero? = record {
   page = h .page;
   late = h .late;
   apart = h .apart;
-  loose = λ s x. h .loose s (kept-open O t s x .0);
+  loose = λ s x. h .loose s (except-open O t s x .0);
   cancel = λ s x y. except-cases O t s y (O s) (eqb s t) refl refl _ (h .cancel s x) (λ e. rw e zero?);
   book = h .book ∙ ap (λ (x : ℕ). v ⊕ x) (split-open w O t (F ++ B) open? ∙ rw zero? (⊕-zero-r _));
 }

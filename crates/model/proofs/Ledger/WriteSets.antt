@@ -11,7 +11,7 @@ use Rattle.model.proofs.Ledger.Entry.{mask, Entry, adds, Patch, patch, 
 use Rattle.model.proofs.Ledger.State.{except}
 use Rattle.model.proofs.Ledger.Sums.{mask-zero}
 use Rattle.model.proofs.Ledger.Groups.{sum-by-key}
-use Rattle.model.proofs.Ledger.Word.{ofTxn, ofOpen, split-open, sum-snoc, kept-open}
+use Rattle.model.proofs.Ledger.Word.{ofTxn, ofOpen, split-open, sum-snoc, except-open}
 use Rattle.model.proofs.Booleans.{true-false}
 
 pub patched-snoc : (w : ℕ) (es : List Patch) (e : Patch) (x : ℕ) → patched w (es ++ e ∷ []) x ≡ patch w e (patched w es x)
@@ -57,7 +57,7 @@ pub open-one : (w : ℕ) (O : ℕ → Bool) (t : ℕ) (L : List Entry) → O t �
 open-one w O t L open? h = split-open w O t L open? ∙ rw (sum-by-key (λ r. r .number) (adds w) (except O t) L each) (⊕-zero-l _)
   where
     each : (s : ℕ) → except O t s ≡ true → ofTxn w s L ≡ 0
-    each s e = h s (kept-open O t s e .0) (kept-open O t s e .1)
+    each s e = h s (except-open O t s e .0) (except-open O t s e .1)
 
 -- a commit: the writes are put over the committed word
 pub commit-sheets : (x w v res : ℕ) (L : List Entry) (O : ℕ → Bool) (writes : ℕ → List Patch) (owner t : ℕ) → Sheets x w res L O writes owner
@@ -74,9 +74,9 @@ pub commit-others : (x w res : ℕ) (L : List Entry) (O : ℕ → Bool) (writes 
     → (t ≡ x → ⊥) → O t ≡ true
     → Sheets x w (patched w (writes t) res) L (except O t) writes owner
 commit-others x w res L O writes owner t h m open? = record {
-  adds-up = λ s n o. others s n (kept-open O t s o .0) (kept-open O t s o .1) (eqb t owner) refl;
-  no-record = λ s n o. h .no-record s n (kept-open O t s o .0);
-  no-entry = λ s n o. h .no-entry s n (kept-open O t s o .0);
+  adds-up = λ s n o. others s n (except-open O t s o .0) (except-open O t s o .1) (eqb t owner) refl;
+  no-record = λ s n o. h .no-record s n (except-open O t s o .0);
+  no-entry = λ s n o. h .no-entry s n (except-open O t s o .0);
 }
   where
     others : (s : ℕ) → (s ≡ x → ⊥) → O s ≡ true → (s ≡ t → ⊥) → (d : Bool) → eqb t owner ≡ d

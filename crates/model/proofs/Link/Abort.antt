@@ -73,9 +73,9 @@ module _ {s : Sizes} {l : Logs} {w : World} {F B : List Entry} (k : Link s l w F
         (all-append (Fit s) (on d F) (on d B) flushed-fit (fit-on s d B (all-right (Fit s) F B fit))) laid log-holds (log-end k d below) edge
 
     -- no flushed entry ends past the tail
-    ring-sound : ending (scan s reader (tailOf l d) first) ≡ end
+    ring-well : ending (scan s reader (tailOf l d) first) ≡ end
     unfolding ending
-    ring-sound = go (decLt first (tailOf l d))
+    ring-well = go (decLt first (tailOf l d))
       where
         go : Dec (first < tailOf l d) → ending (scan s reader (tailOf l d) first) ≡ end
         go (yes low) =
@@ -88,7 +88,7 @@ module _ {s : Sizes} {l : Logs} {w : World} {F B : List Entry} (k : Link s l w F
     -- so up to the tail and then on it is read as one
     pub parts-from : ringThenBuffer s reader (tailOf l d) (endOf l d) first
         ≡ entriesScan (pick (λ r. leb first (r .position)) (on d F ++ on d B))
-    parts-from = read-as-one s reader (tailOf l d) (endOf l d) (tail-end l d) first ring-sound ∙ scan-from
+    parts-from = read-as-one s reader (tailOf l d) (endOf l d) (tail-end l d) first ring-well ∙ scan-from
 
 -- so is what an abort reads, from its transaction's first record on
 pub abort-scan : (c : Core) (w : World) {F B : List Entry} (number d first : ℕ) → Link (c .sizes) (c .logs) w F B

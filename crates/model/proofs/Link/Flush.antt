@@ -23,7 +23,7 @@ use Rattle.model.proofs.Ring.{disk-within, lay-keeps, lay-keeps-rings, 
 use Rattle.model.proofs.Flush.{OnlyLogs, flush-only-logs, flush-keeps-rings, flush-keeps-tails, flush-tail, flush-holds, lay-only}
 use Rattle.model.proofs.Ledger.Entry.{Entry, pick, onDisk}
 use Rattle.model.proofs.Ledger.Order.{wordsOf, on}
-use Rattle.model.proofs.Ledger.Lists.{on-flushed, on-emptied, on-other-flushed, on-other-kept, words-append, words-none, length-words-append}
+use Rattle.model.proofs.Ledger.Lists.{on-flushed, on-emptied, on-other-flushed, on-other-left, words-append, words-none, length-words-append}
 use Rattle.model.proofs.Link.Words.{Arrays, Link, ring-positive, below-eight}
 use Rattle.model.proofs.Growth.{tail-flushed, fill-flushed, tail-flushed-other, fill-flushed-other}
 
@@ -129,14 +129,14 @@ module _ {s : Sizes} {l : Logs} {w : World} {F B : List Entry} (k : Link s l w F
     where
       go : Dec (e ≡ d) → bufferOf s (w .work) e (fillOf (afterFlush l d) e) ≡ wordsOf (on e (pick (λ r. not (onDisk d r)) B))
       go (yes same) = rw (same, fill-flushed l d (a .sized) (below-eight a below), on-emptied d F B) (sym words-none)
-      go (no ne) = rw (on-other-kept d F B e ne, fill-flushed-other l d e ne) (k .buffer e h)
+      go (no ne) = rw (on-other-left d F B e ne, fill-flushed-other l d e ne) (k .buffer e h)
 
   fill-after : (e : ℕ) → e < s .disks → fillOf (afterFlush l d) e ≡ length (wordsOf (on e (pick (λ r. not (onDisk d r)) B)))
   fill-after e h = go (ℕ-discrete e d)
     where
       go : Dec (e ≡ d) → fillOf (afterFlush l d) e ≡ length (wordsOf (on e (pick (λ r. not (onDisk d r)) B)))
       go (yes same) = rw (same, fill-flushed l d (a .sized) (below-eight a below), on-emptied d F B, words-none)
-      go (no ne) = rw (on-other-kept d F B e ne, fill-flushed-other l d e ne) (k .fill e h)
+      go (no ne) = rw (on-other-left d F B e ne, fill-flushed-other l d e ne) (k .fill e h)
 
   -- the buffered entries of the disk are flushed ones after it
   pub flush-link : Link s (afterFlush l d) (perform (flush s l (w .work) d) w) (F ++ on d B) (pick (λ r. not (onDisk d r)) B)

@@ -19,7 +19,7 @@ use Rattle.model.proofs.Below.{first-before}
 use Rattle.model.proofs.PerDisk.{per-disk-cong}
 use Rattle.model.proofs.Run.{perform-append, stores-append, run-append, run-cut, perform-lengths}
 use Rattle.model.proofs.Ledger.Entry.{pick}
-use Rattle.model.proofs.Ledger.Ordered.{keptFrom}
+use Rattle.model.proofs.Ledger.Ordered.{fromStart}
 use Rattle.model.proofs.Store.View.{Kept, Serving, Served}
 use Rattle.model.proofs.Store.Rows.{stage-row, copying-not-open}
 use Rattle.model.proofs.Store.Crash.{kept}
@@ -96,7 +96,7 @@ module _ {puts : Told} {c : Core} {w : World} {r : Reference} (g : Served puts c
   abbrev started : Told
   started = startedFrom (startPut puts (r .writeSets)) puts
 
-  switched : Serving 0 (g .home) started (switchedCore full) (perform last mid) r (pick (keptFrom (newStart full)) (emptied .flushed)) []
+  switched : Serving 0 (g .home) started (switchedCore full) (perform last mid) r (pick (fromStart (newStart full)) (emptied .flushed)) []
   unfolding withLog
   switched =
       switch-serving settled (copying-not-open c (found .stage))
@@ -111,7 +111,7 @@ module _ {puts : Told} {c : Core} {w : World} {r : Reference} (g : Served puts c
   pub checkpoint-end-serves : Served started (checkpointEndTask c w .core) (perform (checkpointEndTask c w .actions) w) r
   checkpoint-end-serves =
       rw (parts, perform-append flushing last w, ← same-core)
-      (record { home = g .home; flushed = pick (keptFrom (newStart full)) (emptied .flushed); buffered = []; serving = switched })
+      (record { home = g .home; flushed = pick (fromStart (newStart full)) (emptied .flushed); buffered = []; serving = switched })
 
   -- the call cut: a restart still gives what is committed
   pub checkpoint-end-cut : (budget : ℕ) → finishes budget (checkpointEndTask c w .actions) ≡ false

@@ -57,25 +57,25 @@ restart-begin-answers c w e h =
     only false number first second f = let z : _≡_ {A = ℕ} 0 1 = cc in absurd (omega arith)
 
 -- A restart step: the record that it takes is well formed, and so is all that it reads to learn its transaction's fate.
-fate-sound : (disk number : ℕ) (sc : Scan) → ending sc ≡ end → fateFault disk (fateIn number sc) ≡ NoFault
+fate-well : (disk number : ℕ) (sc : Scan) → ending sc ≡ end → fateFault disk (fateIn number sc) ≡ NoFault
 unfolding ending fateIn
-fate-sound disk number end e = refl
-fate-sound disk number (bad p) e = let z : _≡_ {A = ℕ} 0 1 = cc in absurd (omega arith)
-fate-sound disk number (item p (change kind page slot n copy diff) rest) e = fate-sound disk number rest e
-fate-sound disk number (item p (close kind n) rest) e = go (eqb n number) (fate-sound disk number rest e)
+fate-well disk number end e = refl
+fate-well disk number (bad p) e = let z : _≡_ {A = ℕ} 0 1 = cc in absurd (omega arith)
+fate-well disk number (item p (change kind page slot n copy diff) rest) e = fate-well disk number rest e
+fate-well disk number (item p (close kind n) rest) e = go (eqb n number) (fate-well disk number rest e)
   where
     go : (b : Bool) → fateFault disk (fateIn number rest) ≡ NoFault → fateFault disk (cond b Closed (fateIn number rest)) ≡ NoFault
     go true f = refl
     go false f = f
 
 module _ (c : Core) (w : World) (m : Progress c w) where
-  pub record-sound : (d : ℕ) → d < c .sizes .disks → positionOf c d < tailOf (c .logs) d → (r : Decoded) → nextRecord c w d ≡ r
+  pub record-well : (d : ℕ) → d < c .sizes .disks → positionOf c d < tailOf (c .logs) d → (r : Decoded) → nextRecord c w d ≡ r
       → recordFault c w d r ≡ NoFault
   unfolding nextRecord fateFrom logLeft ending
-  record-sound d h k (Change kind page slot number copy width next) e =
-      fate-sound d number (scan (c .sizes) (readDisk c w d) (tailOf (c .logs) d) next) (change-well c w m d h k e)
-  record-sound d h k (Close kind number next) e = refl
-  record-sound d h k Malformed e =
+  record-well d h k (Change kind page slot number copy width next) e =
+      fate-well d number (scan (c .sizes) (readDisk c w d) (tailOf (c .logs) d) next) (change-well c w m d h k e)
+  record-well d h k (Close kind number next) e = refl
+  record-well d h k Malformed e =
       let f = rw (scan-bad (c .sizes) (readDisk c w d) (tailOf (c .logs) d) k e) at (m .clean d h) in
       let z : _≡_ {A = ℕ} 0 1 = cc in
       absurd (omega arith)
@@ -90,7 +90,7 @@ module _ (c : Core) (w : World) (m : Progress c w) where
           let both = and-eq-true-iff (ltb source (c .sizes .disks)) (ltb 0 (remaining c source)) .0 e in
           let l = ltb-true source (c .sizes .disks) (both .0) in
           let some = ltb-true 0 (remaining c source) (both .1) in
-          record-sound source l (omega (arith, remaining-log c source l)) (nextRecord c w source) refl
+          record-well source l (omega (arith, remaining-log c source l)) (nextRecord c w source) refl
       go false e = refl
 
 -- a row with this number applies

@@ -24,7 +24,7 @@ use Rattle.model.proofs.Ledger.Entry.{Entry, recordOf, isClose, closedI
 use Rattle.model.proofs.Ledger.State.{abortedBy, Same}
 use Rattle.model.proofs.Ledger.Order.{sizeOf}
 use Rattle.model.proofs.Ledger.Picks.{closed-append}
-use Rattle.model.proofs.Ledger.Word.{ofTxn, kept-open}
+use Rattle.model.proofs.Ledger.Word.{ofTxn, except-open}
 use Rattle.model.proofs.Ledger.Good.{Good, good-same}
 use Rattle.model.proofs.Ledger.Close.{abort-good, closes-one}
 use Rattle.model.proofs.Link.Buffered.{InBuffer, owners-same, copies-same}
@@ -108,7 +108,7 @@ module _ {t : ℕ} {home : ℕ → ℕ} {puts : Told} {c : Core} {w : World} {r 
         owners = λ i h. sym (owners-same buffer (slotStart s i) (slot-in s i h .start-lt));
         committed = λ i h. refl;
         writes =
-            λ u o. ap (map (patchOf s)) (sym (writes-removed-other t (r .writeSets) u (kept-open (isOpen (c .table)) t u o .1)));
+            λ u o. ap (map (patchOf s)) (sym (writes-removed-other t (r .writeSets) u (except-open (isOpen (c .table)) t u o .1)));
         opened = λ u. sym (close-open (c .table) (g .accounts .tabled) t opened u);
         flushed = refl;
         buffered = refl;

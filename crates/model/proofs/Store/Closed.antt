@@ -25,7 +25,7 @@ use Rattle.model.proofs.Ledger.Entry.{Entry, recordOf, isClose, some, A
 use Rattle.model.proofs.Ledger.Order.{on, boundary}
 use Rattle.model.proofs.Ledger.Sums.{all-map}
 use Rattle.model.proofs.Ledger.Picks.{some-append, closed-append}
-use Rattle.model.proofs.Ledger.Word.{kept-open}
+use Rattle.model.proofs.Ledger.Word.{except-open}
 use Rattle.model.proofs.Ledger.Lists.{all-flush, some-halves, closed-flush, on-flush, on-more, off-more}
 use Rattle.model.proofs.Ledger.Close.{closes-one}
 use Rattle.model.proofs.Store.View.{wordsFor, Accounts, Sets, Owners, Since}
@@ -60,7 +60,7 @@ module _ (t : Table) (ok : Tabled t) (n : ℕ) (opened : isOpen t n ≡ true) (u
 -- one that is open after the close was open before it, and is another
 pub was-open : (t : Table) → Tabled t → (n : ℕ) → isOpen t n ≡ true → (u : ℕ) → isOpen (without t n) u ≡ true
     → (isOpen t u ≡ true) × (u ≡ n → ⊥)
-was-open t ok n opened u o = kept-open (isOpen t) n u (sym (close-open t ok n opened u) ∙ o)
+was-open t ok n opened u o = except-open (isOpen t) n u (sym (close-open t ok n opened u) ∙ o)
 
 -- A property of all the write sets: of those without one, and of the writes of each.
 pub all-removed : (P : WriteSet → Type 0) (n : ℕ) (sets : List WriteSet) → All P sets → All P (removed n sets)

@@ -28,7 +28,7 @@ use Rattle.model.proofs.Places.{open-place, close-open}
 use Rattle.model.proofs.Ledger.Entry.{Entry, recordOf, isClose, patched}
 use Rattle.model.proofs.Ledger.State.{committedBy, Same}
 use Rattle.model.proofs.Ledger.Order.{Ordered, sizeOf, on}
-use Rattle.model.proofs.Ledger.Word.{kept-open}
+use Rattle.model.proofs.Ledger.Word.{except-open}
 use Rattle.model.proofs.Ledger.Ordered.{ordered-commit}
 use Rattle.model.proofs.Ledger.Good.{Good, good-same}
 use Rattle.model.proofs.Ledger.Close.{commit-good}
@@ -162,7 +162,7 @@ module _ {home : ℕ → ℕ} {puts : Told} {c : Core} {w : World} {r : Referenc
         committed = λ i h. sym (words-committed i);
         writes =
             λ u o. ap (map (patchOf (c .sizes)))
-            (sym (writes-removed-other (e .number) (r .writeSets) u (kept-open (isOpen (c .table)) (e .number) u o .1)));
+            (sym (writes-removed-other (e .number) (r .writeSets) u (except-open (isOpen (c .table)) (e .number) u o .1)));
         opened = λ u. sym (close-open (c .table) (g .accounts .tabled) (e .number) opened u);
         flushed = refl;
         buffered = refl;

@@ -19,7 +19,7 @@ use Rattle.model.proofs.Run.{perform-append, stores-append, run-append,
 use Rattle.model.proofs.Ledger.Entry.{Entry, All, pick, onDisk}
 use Rattle.model.proofs.Ledger.Order.{on}
 use Rattle.model.proofs.Ledger.Sums.{all-right}
-use Rattle.model.proofs.Ledger.Lists.{on-emptied, on-other-kept}
+use Rattle.model.proofs.Ledger.Lists.{on-emptied, on-other-left}
 use Rattle.model.proofs.Link.Words.{Arrays, below-eight}
 use Rattle.model.proofs.Link.Flush.{flush-only}
 use Rattle.model.proofs.Store.View.{Kept, Serving}
@@ -129,7 +129,7 @@ module _ {x : ℕ} {home : ℕ → ℕ} {puts : Told} {c : Core} {w : World} {r 
     none-more : (d : ℕ) → d < suc n → on d (left n (e .buffered)) ≡ []
     none-more =
         below-suc (λ (d : ℕ). on d (left n (e .buffered)) ≡ []) n
-        (λ d h. on-other-kept n (e .flushed) (e .buffered) d (λ z. omega arith) ∙ e .none d h)
+        (λ d h. on-other-left n (e .flushed) (e .buffered) d (λ z. omega arith) ∙ e .none d h)
         (on-emptied n (e .flushed) (e .buffered))
 
     step : Emptied x home puts c w r (suc n)

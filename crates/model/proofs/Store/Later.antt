@@ -15,7 +15,7 @@ use Rattle.model.proofs.Ledger.Lists.{all-left, pick-swap, pick-whole, 
 use Rattle.model.proofs.Ledger.Picks.{all-pick, pick-all}
 use Rattle.model.proofs.RoundTrip.{encode-append, updates-append}
 use Rattle.model.proofs.Ledger.Positions.{size-ge, laid-append, laid-from, boundary-from}
-use Rattle.model.proofs.Ledger.Ordered.{keptFrom}
+use Rattle.model.proofs.Ledger.Ordered.{fromStart}
 use Rattle.model.proofs.Store.View.{Since, before}
 use Rattle.model.proofs.Booleans.{true-false}
 use Rattle.model.proofs.Store.Told.{updates-none}
@@ -61,7 +61,7 @@ module _ {disks : ℕ} {start home : ℕ → ℕ} {F B : List Entry} (o : Ordere
   split : Split (start d) (start' d) (on d F)
   split = split-at (start d) (start' d) (on d F) (laid-append (start d) (on d F) (on d B) (o .laid d h) .0) edge
 
-  others-gone : (t : ℕ) → All (λ e. e .number ≡ t → keptFrom start' e ≡ true) F → All (λ e. eqb (e .number) t ≡ false) (split .gone)
+  others-gone : (t : ℕ) → All (λ e. e .number ≡ t → fromStart start' e ≡ true) F → All (λ e. eqb (e .number) t ≡ false) (split .gone)
   unfolding on onDisk
   others-gone t k =
       all-zip (λ e f early. ne-eqb (e .number) t (λ same. true-false (f same) early)) (split .gone)
@@ -71,15 +71,15 @@ module _ {disks : ℕ} {start home : ℕ → ℕ} {F B : List Entry} (o : Ordere
       here = all-zip (λ e f there same. rw (eqb-true (e .disk) d there) at (f same)) (on d F) (all-pick _ (onDisk d) F k) (pick-all (onDisk d) F)
 
   pub since-later : {b was now n : ℕ} {live : ℕ → Bool} {puts : List Record}
-      → ((t : ℕ) → (t < n → live t ≡ true) → All (λ e. e .number ≡ t → keptFrom start' e ≡ true) F)
-      → Since b (start d) was n live puts (on d F ++ on d B) → start' d ≡ now → Since b (start' d) now n live puts (on d (pick (keptFrom start') F) ++ on d B)
+      → ((t : ℕ) → (t < n → live t ≡ true) → All (λ e. e .number ≡ t → fromStart start' e ≡ true) F)
+      → Since b (start d) was n live puts (on d F ++ on d B) → start' d ≡ now → Since b (start' d) now n live puts (on d (pick (fromStart start') F) ++ on d B)
   unfolding on onDisk wordsOf
   since-later {b} stay k same =
       let m : List Entry = pick (λ e. leb (start' d) (e .position)) (on d F) in
       let old = k .old in
       let gone = map recordOf (split .gone) in
       let long = ap length (encode-append old gone) ∙ length-append (encodeAll old) (encodeAll gone) in
-      rw (pick-swap (onDisk d) (keptFrom start') (λ e. leb (start' d) (e .position)) (λ e x. rw (eqb-true (e .disk) d x)) F)
+      rw (pick-swap (onDisk d) (fromStart start') (λ e. leb (start' d) (e .position)) (λ e x. rw (eqb-true (e .disk) d x)) F)
       (record {
         old = old ++ gone;
         all =

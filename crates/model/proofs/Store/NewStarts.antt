@@ -26,7 +26,7 @@ use Rattle.model.proofs.Ledger.Order.{Ordered, sizeOf, on, Laid, bounda
 use Rattle.model.proofs.Ledger.Sums.{all-map, all-zip}
 use Rattle.model.proofs.Ledger.Lists.{all-left, pick-whole, some-pick}
 use Rattle.model.proofs.Ledger.Positions.{size-ge, laid-append, laid-from, boundary-more, boundary-from}
-use Rattle.model.proofs.Ledger.Ordered.{keptFrom, on-switch}
+use Rattle.model.proofs.Ledger.Ordered.{fromStart, on-switch}
 use Rattle.model.proofs.Ledger.Checkpoint.{MaySwitch}
 use Rattle.model.proofs.Ledger.Switch.{Placed, switch-old, switch-closed, switch-last}
 use Rattle.model.proofs.Store.View.{view, Own, wordsFor, Serving, before}
@@ -56,7 +56,7 @@ boundary-kept p s q (r ∷ l) h b k m = go (eqb s p) refl b (boundary-kept (p + 
 -- so it is one of what is kept of a disk's log, the buffered entries among it
 pub boundary-later : {disks : ℕ} {start home : ℕ → ℕ} {F B : List Entry} → Ordered disks start home F B → (start' : ℕ → ℕ) (d q : ℕ)
     → d < disks → boundary (start' d) (start d) (on d F) ≡ true → boundary q (start d) (on d F ++ on d B) ≡ true → start' d ≤ q
-    → boundary q (start' d) (on d (pick (keptFrom start') F) ++ on d B) ≡ true
+    → boundary q (start' d) (on d (pick (fromStart start') F) ++ on d B) ≡ true
 boundary-later {start = start} {F = F} {B = B} o start' d q h cut b m =
     rw (on-switch o start' d h cut)
     (boundary-kept (start d) (start' d) q (on d F ++ on d B) (o .laid d h) (boundary-more (start' d) (start d) (on d F) (on d B) cut) b m)
@@ -68,8 +68,8 @@ open-entries O P [] h = tt
 open-entries O P (e ∷ l) h = ((λ o. h (e .number) o .0 refl), open-entries O P l (λ t o. h t o .1))
 
 -- where an open transaction's first record lies, and the end of a disk that the checkpoint's begin remembered
-abbrev pub firstOf : Core → ℕ → ℕ
-firstOf c t = firstAt (c .table) (placeOf (c .table) t)
+abbrev pub firstPosition : Core → ℕ → ℕ
+firstPosition c t = firstAt (c .table) (placeOf (c .table) t)
 
 abbrev pub markOf : Core → ℕ → ℕ
 markOf c d = getD (c .checkpoint .ends) d 0
@@ -85,7 +85,7 @@ module _ {home : ℕ → ℕ} {puts : Told} {c : Core} {w : World} {r : Referenc
 
   -- an open transaction's first record begins at a boundary of its disk's log
   first-boundary : (t : ℕ) → isOpen (c .table) t ≡ true → hasUpdate (c .table) (placeOf (c .table) t) ≡ true
-      → boundary (firstOf c t) (keptOf (c .logs) (diskOf c t)) (on (diskOf c t) F) ≡ true
+      → boundary (firstPosition c t) (keptOf (c .logs) (diskOf c t)) (on (diskOf c t) F) ≡ true
   first-boundary t o h = rw (flat-on (diskOf c t)) at (g .accounts .firsts t o h)
 
   -- and so a new start is one: it is such a first position or a remembered end
@@ -110,7 +110,7 @@ module _ {home : ℕ → ℕ} {puts : Told} {c : Core} {w : World} {r : Referenc
 
   -- the new start of a disk is no later than the first record of an open transaction there
   pub start-early : (t : ℕ) → isOpen (c .table) t ≡ true → hasUpdate (c .table) (placeOf (c .table) t) ≡ true
-      → newStart c (diskOf c t) ≤ firstOf c t
+      → newStart c (diskOf c t) ≤ firstPosition c t
   unfolding diskOf
   start-early t o h =
       let at = open-place (c .table) t o in
@@ -118,47 +118,47 @@ module _ {home : ℕ → ℕ} {puts : Told} {c : Core} {w : World} {r : Referenc
       new-start c (diskOf c t) .at-most-first (placeOf (c .table) t) (at .1)
       (served-here (c .table) (diskOf c t) (placeOf (c .table) t) (λ z. at .0 (sym there ∙ z)) refl, h)
 
-  reach : All (λ e. isOpen (c .table) (e .number) ≡ true → newStart c (e .disk) ≤ firstOf c (e .number)) F
+  reach : All (λ e. isOpen (c .table) (e .number) ≡ true → newStart c (e .disk) ≤ firstPosition c (e .number)) F
   reach = all-zip one F own-entries (flat _ (g .safe .ordered .homed))
     where
       one : (e : Entry) → (isOpen (c .table) (e .number) ≡ true → Own 0 c (e .number) e) → e .disk ≡ home (e .number)
-          → isOpen (c .table) (e .number) ≡ true → newStart c (e .disk) ≤ firstOf c (e .number)
+          → isOpen (c .table) (e .number) ≡ true → newStart c (e .disk) ≤ firstPosition c (e .number)
       one e own at o = rw (at ∙ g .accounts .homes (e .number) o) (start-early (e .number) o (own o .has))
 
   -- so the entries of an open transaction are all kept
-  kept-open : All (λ e. isOpen (c .table) (e .number) ≡ true → keptFrom (newStart c) e ≡ true) F
-  kept-open = all-zip one F own-entries reach
+  except-open : All (λ e. isOpen (c .table) (e .number) ≡ true → fromStart (newStart c) e ≡ true) F
+  except-open = all-zip one F own-entries reach
     where
       one : (e : Entry) → (isOpen (c .table) (e .number) ≡ true → Own 0 c (e .number) e)
-          → (isOpen (c .table) (e .number) ≡ true → newStart c (e .disk) ≤ firstOf c (e .number))
-          → isOpen (c .table) (e .number) ≡ true → keptFrom (newStart c) e ≡ true
+          → (isOpen (c .table) (e .number) ≡ true → newStart c (e .disk) ≤ firstPosition c (e .number))
+          → isOpen (c .table) (e .number) ≡ true → fromStart (newStart c) e ≡ true
       one e own low here = le-leb (newStart c (e .disk)) (e .position) (omega (arith, own here .first, low here))
 
   -- and a transaction to come has none
-  pub live-kept : (t : ℕ) → (t < c .next → isOpen (c .table) t ≡ true) → All (λ e. e .number ≡ t → keptFrom (newStart c) e ≡ true) F
-  live-kept t o =
-      all-zip (λ e k used same. k (rw same (o (omega (arith, same))))) F kept-open (flat _ (g .accounts .numbered))
+  pub live-from-start : (t : ℕ) → (t < c .next → isOpen (c .table) t ≡ true) → All (λ e. e .number ≡ t → fromStart (newStart c) e ≡ true) F
+  live-from-start t o =
+      all-zip (λ e k used same. k (rw same (o (omega (arith, same))))) F except-open (flat _ (g .accounts .numbered))
 
-  open-kept : (t : ℕ) → isOpen (c .table) t ≡ true → All (λ e. e .number ≡ t → keptFrom (newStart c) e ≡ true) F
-  open-kept t o = live-kept t (λ l. o)
+  open-kept : (t : ℕ) → isOpen (c .table) t ≡ true → All (λ e. e .number ≡ t → fromStart (newStart c) e ≡ true) F
+  open-kept t o = live-from-start t (λ l. o)
 
   -- its first one among them, and as many words as are reserved
   pub first-stays : (t : ℕ) → isOpen (c .table) t ≡ true → hasUpdate (c .table) (placeOf (c .table) t) ≡ true
-      → some (λ e. eqb (e .number) t && eqb (e .position) (firstOf c t)) (pick (keptFrom (newStart c)) F ++ []) ≡ true
+      → some (λ e. eqb (e .number) t && eqb (e .position) (firstPosition c t)) (pick (fromStart (newStart c)) F ++ []) ≡ true
   first-stays t o h =
-      rw (append-nil (pick (keptFrom (newStart c)) F))
-      (some-pick _ (keptFrom (newStart c)) F
+      rw (append-nil (pick (fromStart (newStart c)) F))
+      (some-pick _ (fromStart (newStart c)) F
       (all-map (λ e k both. k (eqb-true (e .number) t (and-eq-true-iff _ _ .0 both .0))) F (open-kept t o))
       ∙ (rw (append-nil F) at (g .accounts .started t o h)))
 
   pub reserved-stays : (t : ℕ) → isOpen (c .table) t ≡ true → (t ≡ 0 → ⊥)
-      → reservedAt (c .table) (placeOf (c .table) t) ≡ 2 + wordsFor t (pick (keptFrom (newStart c)) F ++ [])
+      → reservedAt (c .table) (placeOf (c .table) t) ≡ 2 + wordsFor t (pick (fromStart (newStart c)) F ++ [])
   reserved-stays t o ne =
-      rw (append-nil (pick (keptFrom (newStart c)) F), words-for-picked t (keptFrom (newStart c)) F (all-map (λ e h f. ne-eqb (e .number) t (λ z. true-false (h z) f)) F (open-kept t o)))
+      rw (append-nil (pick (fromStart (newStart c)) F), words-for-picked t (fromStart (newStart c)) F (all-map (λ e h f. ne-eqb (e .number) t (λ z. true-false (h z) f)) F (open-kept t o)))
       (rw (append-nil F) at (g .accounts .reserved t o ne))
 
   -- where the entries lie at the checkpoint's end
-  pub placed : Placed (isOpen (c .table)) (firstOf c) (markOf c) (c .epoch) F []
+  pub placed : Placed (isOpen (c .table)) (firstPosition c) (markOf c) (c .epoch) F []
   unfolding before
   placed =
       record {
@@ -172,7 +172,7 @@ module _ {home : ℕ → ℕ} {puts : Told} {c : Core} {w : World} {r : Referenc
   page-copied p h = rw (lt-ltb p (c .checkpoint .copied) (omega arith)) at (g .copies .pages p h)
 
   -- the last store may be made
-  pub may : MaySwitch (total (c .sizes)) (view c w r F []) (keptFrom (newStart c))
+  pub may : MaySwitch (total (c .sizes)) (view c w r F []) (fromStart (newStart c))
   unfolding view
   may =
       record {

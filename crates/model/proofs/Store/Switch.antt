@@ -27,15 +27,15 @@ use Rattle.model.proofs.Ledger.Order.{Ordered, wordsOf, on, boundary}
 use Rattle.model.proofs.Ledger.Sums.{all-map}
 use Rattle.model.proofs.Ledger.Lists.{words-none}
 use Rattle.model.proofs.Ledger.Positions.{Suffix, boundary-from}
-use Rattle.model.proofs.Ledger.Ordered.{keptFrom, all-kept, switch-suffix, ordered-switch}
+use Rattle.model.proofs.Ledger.Ordered.{fromStart, all-from-start, switch-suffix, ordered-switch}
 use Rattle.model.proofs.Ledger.Good.{good-same}
 use Rattle.model.proofs.Ledger.Checkpoint.{switch-good}
-use Rattle.model.proofs.Ledger.Switch.{placed-kept}
+use Rattle.model.proofs.Ledger.Switch.{placed-from-start}
 use Rattle.model.proofs.Link.Words.{Link}
 use Rattle.model.proofs.Store.View.{view, Devices, Safe, Accounts, Copies, SinceOn, Serving, before}
 use Rattle.model.proofs.Store.Same.{sets-same, owners-same}
 use Rattle.model.proofs.Store.Flush.{lengths-same}
-use Rattle.model.proofs.Store.NewStarts.{firstOf, boundary-later, new-boundary, start-early, first-stays, reserved-stays, placed, page-copied, may, live-kept}
+use Rattle.model.proofs.Store.NewStarts.{firstPosition, boundary-later, new-boundary, start-early, first-stays, reserved-stays, placed, page-copied, may, live-from-start}
 use Rattle.model.proofs.Store.ToldStarts.{new-start-told}
 use Rattle.model.proofs.Store.Later.{since-later}
 use Rattle.model.proofs.Store.Starts.{Moved, backup-back}
@@ -50,8 +50,8 @@ switchedCore c =
 
 module _ {home : ℕ → ℕ} {puts : Told} {c : Core} {w : World} {r : Reference} {F : List Entry} (g : Serving 0 home puts c w r F [])
     (copying : whenOpen (c .stage) ≡ false) (copied : c .sizes .pages ≤ c .checkpoint .copied) where
-  abbrev kept : Entry → Bool
-  kept = keptFrom (newStart c)
+  abbrev retains : Entry → Bool
+  retains = fromStart (newStart c)
 
   cut : (d : ℕ) → d < c .sizes .disks → boundary (newStart c d) (keptOf (c .logs) d) (on d F) ≡ true
   cut = new-boundary g copying copied
@@ -82,7 +82,7 @@ module _ {home : ℕ → ℕ} {puts : Told} {c : Core} {w : World} {r : Referenc
         let empty : fillOf (c .logs) d ≡ 0 = g .safe .link .fill d h ∙ ap length words-none in
         getD-per-disk (c .sizes) (endOf (c .logs)) d eight h ∙ omega arith
 
-    suffix : (d : ℕ) → d < c .sizes .disks → Suffix (keptOf (c .logs) d) (newStart c d) (on d F) (on d (pick kept F))
+    suffix : (d : ℕ) → d < c .sizes .disks → Suffix (keptOf (c .logs) d) (newStart c d) (on d F) (on d (pick retains F))
     suffix d h = switch-suffix (g .safe .ordered) (newStart c) d h (cut d h)
 
     devices : Devices now v
@@ -107,7 +107,7 @@ module _ {home : ℕ → ℕ} {puts : Told} {c : Core} {w : World} {r : Referenc
               };
         }
 
-    same : Same (total (c .sizes)) (switched (view c w r F []) kept) (view now v r (pick kept F) [])
+    same : Same (total (c .sizes)) (switched (view c w r F []) retains) (view now v r (pick retains F) [])
     unfolding view switched copyOf
     same =
         record {
@@ -125,36 +125,36 @@ module _ {home : ℕ → ℕ} {puts : Told} {c : Core} {w : World} {r : Referenc
           buffered = refl;
         }
 
-    -- the words from the new start on are those of the entries that are kept
+    -- the words from the new start on are those of the entries that it retains
     held : (d : ℕ) → d < c .sizes .disks
-        → Holds (λ q. getD (v .logs) (ringWord (c .sizes) d q) 0) (newStart c d) (wordsOf (on d (pick kept F)))
+        → Holds (λ q. getD (v .logs) (ringWord (c .sizes) d q) 0) (newStart c d) (wordsOf (on d (pick retains F)))
     held d h =
         let k = suffix d h in
         let at : keptOf (c .logs) d + length (k .front) ≡ newStart c d = omega (arith, k .cut) in
         rw (moved .logs-same) (rw at at (holds-append _ (keptOf (c .logs) d) (k .front) _ (rw (k .words) at (g .safe .link .held d h)) .1))
 
-    link : Link (c .sizes) (now .logs) v (pick kept F) []
+    link : Link (c .sizes) (now .logs) v (pick retains F) []
     unfolding tailIn bufferOf part on pick
     link =
         record {
           held = λ d h. rw (kept-now d h) (held d h);
           tail = λ d h.
               let k = suffix d h in
-              let both = ap length (k .words) ∙ length-append (k .front) (wordsOf (on d (pick kept F))) in
+              let both = ap length (k .words) ∙ length-append (k .front) (wordsOf (on d (pick retains F))) in
               omega (arith, kept-now d h, tail-now d h, g .safe .link .tail d h, k .cut);
           stored = λ d h. rw (moved .logs-same) (g .safe .link .stored d h ∙ sym (tail-now d h));
           buffer = λ d h. rw (fill-now d h) (sym words-none);
           fill = λ d h. rw words-none (fill-now d h);
         }
 
-    ordered : Ordered (c .sizes .disks) (keptOf (now .logs)) home (pick kept F) []
+    ordered : Ordered (c .sizes .disks) (keptOf (now .logs)) home (pick retains F) []
     ordered =
         let o = ordered-switch (g .safe .ordered) (newStart c) cut in
         record { laid = λ d h. rw (kept-now d h) (o .laid d h); inside = o .inside; homed = o .homed; last = o .last }
 
-    -- what holds of all entries holds of those that are kept
-    thin : (P : Entry → Type 0) → All P (F ++ []) → All P (pick kept F ++ [])
-    thin P h = all-kept (g .safe .ordered) (newStart c) P h
+    -- what holds of all entries holds of those that it retains
+    thin : (P : Entry → Type 0) → All P (F ++ []) → All P (pick retains F ++ [])
+    thin P h = all-from-start (g .safe .ordered) (newStart c) P h
 
     -- a log ends where it did, and it begins no earlier
     ends : (d : ℕ) → d < c .sizes .disks
@@ -166,7 +166,7 @@ module _ {home : ℕ → ℕ} {puts : Told} {c : Core} {w : World} {r : Referenc
         let old = g .safe .ends d h in
         (omega (arith, kept-now d h), omega arith)
 
-    safe : Safe 0 home now v r (pick kept F) []
+    safe : Safe 0 home now v r (pick retains F) []
     safe =
         record {
           devices = devices;
@@ -180,15 +180,15 @@ module _ {home : ℕ → ℕ} {puts : Told} {c : Core} {w : World} {r : Referenc
         }
 
     first-kept : (t : ℕ) → isOpen (c .table) t ≡ true → hasUpdate (c .table) (placeOf (c .table) t) ≡ true
-        → boundary (firstOf c t) (keptOf (now .logs) (diskOf c t)) (on (diskOf c t) (pick kept F) ++ on (diskOf c t) []) ≡ true
+        → boundary (firstPosition c t) (keptOf (now .logs) (diskOf c t)) (on (diskOf c t) (pick retains F) ++ on (diskOf c t) []) ≡ true
     first-kept t o h =
         let d : ℕ = diskOf c t in
         let below : d < c .sizes .disks = g .accounts .disks t o in
         rw (kept-now d below)
-        (boundary-later (g .safe .ordered) (newStart c) d (firstOf c t) below (cut d below)
+        (boundary-later (g .safe .ordered) (newStart c) d (firstPosition c t) below (cut d below)
         (g .accounts .firsts t o h) (start-early g copying copied t o h))
 
-    accounts : Accounts 0 home now (pick kept F) []
+    accounts : Accounts 0 home now (pick retains F) []
     unfolding diskOf
     accounts =
         record {
@@ -202,11 +202,11 @@ module _ {home : ℕ → ℕ} {puts : Told} {c : Core} {w : World} {r : Referenc
           disks = g .accounts .disks;
           started = first-stays g copying copied;
           reserved = reserved-stays g copying copied;
-          settled = placed-kept (g .safe .ordered) (newStart c) (placed g copying copied) cut .settled;
+          settled = placed-from-start (g .safe .ordered) (newStart c) (placed g copying copied) cut .settled;
           numbered = thin _ (g .accounts .numbered);
         }
 
-    copies : Copies now v (pick kept F) []
+    copies : Copies now v (pick retains F) []
     unfolding copyOf before
     copies =
         record {
@@ -222,13 +222,13 @@ module _ {home : ℕ → ℕ} {puts : Told} {c : Core} {w : World} {r : Referenc
     started = startedFrom (startPut puts (r .writeSets)) puts
 
     -- what goes is the older part of what was put
-    told : (d : ℕ) → d < c .sizes .disks → SinceOn started now d (on d (pick kept F) ++ on d [])
+    told : (d : ℕ) → d < c .sizes .disks → SinceOn started now d (on d (pick retains F) ++ on d [])
     told d h =
         rw (kept-now d h)
-        (since-later (g .safe .ordered) (newStart c) d h (cut d h) (live-kept g copying copied) (g .told d h) (new-start-told g d h copying))
+        (since-later (g .safe .ordered) (newStart c) d h (cut d h) (live-from-start g copying copied) (g .told d h) (new-start-told g d h copying))
 
     -- the store is open, with the other backup current
-    pub switch-serving : Serving 0 home started now v r (pick kept F) []
+    pub switch-serving : Serving 0 home started now v r (pick retains F) []
     switch-serving =
         record {
           stage = refl;
