@@ -22,6 +22,7 @@ ghost use lib.ListN.{length};
 ghost use Rattle.model.specs.declared.Fault.the-variants.{NoFault};
 ghost use Rattle.model.specs.Sizes.{total};
 ghost use Rattle.model.specs.World.{worldOf};
+ghost use Rattle.model.specs.Moments.{old, new, oldWorld};
 ghost use Rattle.model.specs.State.{isOpen};
 ghost use Rattle.model.specs.Abort.{abortFault};
 ghost use Rattle.model.specs.Call.{abort, Gives};
@@ -76,7 +77,8 @@ pub fn abort(
     work: &mut [u64],
     budget: &mut u64,
 ) -> Reply
-    ensures { λ r. ⌜ Gives (abort number (now (budget .entry))) core (worldOf (now (anchor .entry)) (now (pages .entry)) (now (backups .entry)) (now (logs .entry)) (now (work .entry))) r (now (budget .exit)) (worldOf (now (anchor .entry)) (now (pages .exit)) (now (backups .entry)) (now (logs .exit)) (now (work .exit))) ⌝ }
+    ensures { λ r. ⌜ Gives (abort number (old budget)) core (oldWorld anchor pages backups logs work)
+        r (new budget) (worldOf (old anchor) (new pages) (old backups) (new logs) (new work)) ⌝ }
 {
     let stage = core.stage;
     let allowed = is_serving(stage);

@@ -1,6 +1,7 @@
 -- A slot that is there: its page, its words and its owner lie within their memories.
 use mathlib.Core.Path.{_≡_, sym, _∙_}
 use mathlib.Core.Bool.{Bool, true, false}
+use mathlib.Core.List.{List}
 use Prim.Native.Nat.{ℕ, _+_, _≤_, _<_}
 use native.Mathlib.Omega.{arith}
 use lib.Dec.{leb}
@@ -9,15 +10,13 @@ use borrow.Author.Tests.{leb-false}
 use Rattle.model.specs.declared.Sizes.{Sizes}
 use Rattle.model.specs.declared.Core.{Core}
 use Rattle.model.specs.Sizes.{slotsIn, widthIn, slotBase, total, sizesInBounds}
-use Rattle.model.specs.World.{World}
 use Rattle.model.specs.Memory.{bufferAt, copyAt, workWords}
-use Rattle.model.specs.Causes.{whenServing, slotMissing}
+use Rattle.model.specs.Causes.{slotMissing}
 use Rattle.model.proofs.Booleans.{or-none}
 use Rattle.model.proofs.Bounds.{bounded}
 use Rattle.model.proofs.Geometry.{slot-end-total}
-use Rattle.model.proofs.Lengths.{lengths-right}
-use Rattle.frame.proofs.Passing.{sound-sizes, serving-not-shut}
-use Rattle.frame.proofs.Verdicts.{Passed}
+use Rattle.model.proofs.Store.Rows.{sizes-sound}
+use Rattle.frame.specs.Home.{Serves}
 
 pub record There (s : Sizes) (page slot : ℕ) : Type 0 where
   pub page-lt : page < s .pages
@@ -46,14 +45,11 @@ slot-there s page slot ok here =
       end = slot-end-total s page slot p l;
     }
 
--- after the first checks
-module _ (c : Core) (w : World) (passed : Passed whenServing c w) where
-  pub passed-sizes : sizesInBounds (c .sizes) ≡ true
-  passed-sizes = sound-sizes c (serving-not-shut (c .stage) (passed .stage)) (passed .state)
+-- after the common checks
+module _ {c : Core} {logs work : List ℕ} (serves : Serves c logs work) where
+  pub served-slot : (page slot : ℕ) → slotMissing (c .sizes) page slot ≡ false → There (c .sizes) page slot
+  served-slot page slot here = slot-there (c .sizes) page slot (sizes-sound c (serves .state)) here
 
-  pub passed-slot : (page slot : ℕ) → slotMissing (c .sizes) page slot ≡ false → There (c .sizes) page slot
-  passed-slot page slot here = slot-there (c .sizes) page slot passed-sizes here
-
-  pub owner-fits : (page slot : ℕ) → There (c .sizes) page slot → slotBase (c .sizes) page slot < length (w .work)
+  pub owner-fits : (page slot : ℕ) → There (c .sizes) page slot → slotBase (c .sizes) page slot < length work
   unfolding workWords copyAt bufferAt
-  owner-fits page slot there = omega (arith, lengths-right (c .sizes) w (passed .lengths) .work, there .end, there .width-min)
+  owner-fits page slot there = omega (arith, serves .work-words, there .end, there .width-min)

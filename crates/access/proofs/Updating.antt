@@ -1,4 +1,4 @@
--- Update: its rows by the tests of the code, and its task.
+-- Update: its rows by the tests of the code, its task, and what it gives.
 use mathlib.Core.Path.{_≡_, refl, sym, ap, _∙_}
 use mathlib.Core.List.{List, [], _∷_}
 use mathlib.Core.Bool.{Bool, true, false, not, _&&_}
@@ -7,7 +7,6 @@ use native.Mathlib.Omega.{arith}
 use lib.Dec.{eqb}
 use lib.ListN.{length}
 use borrow.Author.Tests.{eq-eqb, ne-eqb, eqb-true, not-false}
-use Rattle.model.specs.declared.Logs.{Logs}
 use Rattle.model.specs.declared.Table.{Table}
 use Rattle.model.specs.declared.Core.{Core}
 use Rattle.model.specs.declared.Reply.{Reply}
@@ -18,10 +17,11 @@ use Rattle.model.specs.World.{World}
 use Rattle.model.specs.Memory.{ownerAt, ownerOf, bufferAt, copyAt, workWords, copyOf}
 use Rattle.model.specs.State.{limit, endOf, inTable, isOpen, placeOf, reservedAt, servingSound, withLog}
 use Rattle.model.specs.Room.{hasRoom}
-use Rattle.model.specs.Refusal.{Row, row, verdict, accepted, rejected}
+use Rattle.model.specs.Refusal.{Row, row, verdict, accepted}
 use Rattle.model.specs.Causes.{whenServing, lengthsWrong, slotMissing, notOpen, valueWrong, locked}
 use Rattle.model.specs.Append.{append}
 use Rattle.model.specs.Transaction.{diskOf, slotWords, updateRecord, updated, slotRows, updateRows, updateTask}
+use Rattle.model.specs.Call.{update, Gives}
 use Rattle.model.proofs.Lengths.{lengths-right}
 use Rattle.model.proofs.Verdict.{row-passed}
 use Rattle.model.proofs.Store.Rows.{serving-sound, sizes-sound, disk-sound}
@@ -30,14 +30,15 @@ use Rattle.log.specs.declared.write.Head.{Head}
 use Rattle.log.specs.declared.write.Logged.{Logged}
 use Rattle.log.specs.Write.{Encodable}
 use Rattle.log.proofs.Words.{change-length}
-use Rattle.frame.specs.Checks.{firstRefusal, verdictOf}
+use Rattle.frame.specs.Checks.{verdictOf, CommonRefusal}
 use Rattle.log.specs.declared.write.Home.{Home}
 use Rattle.frame.specs.Home.{Serves, homeOf, withDisk}
-use Rattle.frame.specs.Settle.{settled, Concludes}
-use Rattle.frame.proofs.Verdicts.{first-row, first-refused, first-accepted, task-settled}
+use Rattle.frame.specs.Settle.{settled, refusedWith}
+use Rattle.frame.proofs.Verdicts.{first-row}
+use Rattle.frame.proofs.Given.{common-decided, given-refused, given-settled}
 use Rattle.device.specs.Ran.{Ran}
 use Rattle.access.specs.Tasks.{grown, replacing, Replaced}
-use Rattle.access.proofs.Reading.{taken-number}
+use Rattle.access.proofs.Reading.{taken-number, refused-number}
 use Rattle.access.proofs.SlotBounds.{There, slot-there}
 use Rattle.access.proofs.Differences.{difference-length}
 
@@ -75,23 +76,8 @@ module _ (c : Core) (w : World) (number page slot : ℕ) (value : List ℕ) wher
   unfolding notOpen valueWrong locked
   slot-verdict e8 e9 e10 e11 e14 = rw (e8, e9, e10, e11, e14) refl
 
-  module _ {a : Bool} {r : ℕ} (stage : a ≡ whenServing (c .stage))
-      (first : r ≡ firstRefusal a c (length (w .anchor)) (length (w .pages)) (length (w .backups)) (length (w .logs)) (length (w .work)))
-    where
-      pub update-refused : (r ≡ 0 → ⊥) → verdict (updateRows c w number page slot value) ≡ rejected r 0 0
-      unfolding updateRows
-      update-refused some = first-refused whenServing c w stage first some (slotRows c w number page slot value)
-
-      pub update-passed : r ≡ 0 → verdict (updateRows c w number page slot value) ≡ verdict (slotRows c w number page slot value)
-      unfolding updateRows
-      update-passed none = first-accepted whenServing c w stage first none (slotRows c w number page slot value)
-
-      pub update-accepted : r ≡ 0 → {later : ℕ} → verdict (slotRows c w number page slot value) ≡ verdictOf later → later ≡ 0
-          → verdict (updateRows c w number page slot value) ≡ accepted
-      update-accepted none e zero = taken-number (update-passed none ∙ e) zero
-
   -- what the rows leave to the work when none applies
-  pub update-taken : verdict (updateRows c w number page slot value) ≡ accepted → Changes c number page slot value (w .pages) (w .logs) (w .work)
+  update-taken : verdict (updateRows c w number page slot value) ≡ accepted → Changes c number page slot value (w .pages) (w .logs) (w .work)
   unfolding updateRows lengthsWrong notOpen valueWrong
   update-taken ok =
       let r1 = row-passed _ _ ok in
@@ -173,14 +159,28 @@ change-task c w v number page slot value {r} wide fits home head at did =
           (ap (λ (n : ℕ). withLog c (append (c .sizes) (c .logs) (w .work) (diskOf c number) (encode (updateRecord c w number page slot value)) .logs) (updated c number n)) (rw wide at words));
     }
 
--- The reply of an update whose record is logged and whose slot is set, or that is cut before.
-pub update-concluded : (c : Core) (w v : World) (number page slot : ℕ) (value : List ℕ) {h : Home} {head : Head} {at budget rest : ℕ} {r : Logged} {reply : Reply}
-    → Changes c number page slot value (w .pages) (w .logs) (w .work) → h ≡ homeOf (c .sizes) (c .logs) (diskOf c number)
-    → head ≡ record { kind = updateKind; page = page; slot = slot; number = number; copy = copyOf (c .sizes) (w .work) page }
-    → at ≡ slotBase (c .sizes) page slot → Replaced budget rest (c .sizes) (c .logs) (h .disk) head at value w v r
-    → reply ≡ settled (r .finished) budget rest 0 (withLog c (withDisk (c .logs) (diskOf c number) (r .tail) (r .fill)) (updated c number (3 + length value)))
-    → Concludes budget rest (updateTask c w number page slot value) w v reply
-unfolding updateTask
-update-concluded c w v number page slot value ok home head at replaced reply =
-    let did = change-task c w v number page slot value (ok .width) (changes-pages ok) home head at replaced in
-    task-settled (updateTask c w number page slot value) (did .ran) reply (λ finished. sym (did .state finished))
+-- What an update gives, after the common checks; `later` is the number of the first of its other rows that applies.
+module _ {c : Core} {w : World} {r : ℕ} (checks : CommonRefusal whenServing c w r) (none : r ≡ 0) (number page slot : ℕ) (value : List ℕ)
+    {later : ℕ} (slots : verdict (slotRows c w number page slot value) ≡ verdictOf later) where
+  pub update-refused : (budget : ℕ) → (later ≡ 0 → ⊥) → {reply : Reply} → reply ≡ refusedWith c later 0 0
+      → Gives (update number page slot value budget) c w reply budget w
+  unfolding updateRows
+  update-refused budget some e = given-refused checks (update number page slot value budget) refl none (refused-number slots some) e
+
+  pub update-changes : later ≡ 0 → Changes c number page slot value (w .pages) (w .logs) (w .work)
+  unfolding updateRows
+  update-changes zero = update-taken c w number page slot value (common-decided checks none (slotRows c w number page slot value) ∙ taken-number slots zero)
+
+  -- its record is logged and its slot set, or it is cut before
+  pub update-given : later ≡ 0 → {h : Home} {head : Head} {at budget rest : ℕ} {v : World} {added : Logged}
+      → h ≡ homeOf (c .sizes) (c .logs) (diskOf c number)
+      → head ≡ record { kind = updateKind; page = page; slot = slot; number = number; copy = copyOf (c .sizes) (w .work) page }
+      → at ≡ slotBase (c .sizes) page slot → Replaced budget rest (c .sizes) (c .logs) (h .disk) head at value w v added
+      → {core : Core} → core ≡ withLog c (withDisk (c .logs) (diskOf c number) (added .tail) (added .fill)) (updated c number (3 + length value))
+      → {reply : Reply} → reply ≡ settled (added .finished) budget rest 0 core → Gives (update number page slot value budget) c w reply rest v
+  unfolding updateRows updateTask
+  update-given zero {budget = budget} {v = v} home head at replaced same e =
+      let ok = update-changes zero in
+      let did = change-task c w v number page slot value (ok .width) (changes-pages ok) home head at replaced in
+      given-settled checks (update number page slot value budget) refl none (taken-number slots zero) (did .ran)
+      (λ finished. same ∙ sym (did .state finished)) e

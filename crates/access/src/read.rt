@@ -3,12 +3,12 @@ use crate::slots::is_locked;
 use crate::slots::reader_missing;
 use crate::slots::slot_missing;
 use crate::slots::slot_part;
-use frame::checks::first_refusal;
-use frame::stages::is_serving;
+use frame::checks::common_refusal;
+use frame::stages::When;
 use model::Answer;
 use model::Core;
 ghost use mathlib.Core.Path.{_≡_};
-ghost use Rattle.model.specs.World.{worldOf};
+ghost use Rattle.model.specs.Moments.{oldWorld};
 ghost use Rattle.model.specs.Refusal.{verdict};
 ghost use Rattle.model.specs.Transaction.{readRows, readWords};
 ghost use Rattle.model.specs.Call.{read, look, Gives};
@@ -26,11 +26,9 @@ fn read_refusal(
     logs: &[u64],
     work: &[u64],
 ) -> u64
-    ensures { λ r. ⌜ verdict (readRows core (worldOf (now (anchor .entry)) (now (pages .entry)) (now (backups .entry)) (now (logs .entry)) (now (work .entry))) reader page slot) ≡ verdictOf r ⌝ }
+    ensures { λ r. ⌜ verdict (readRows core (oldWorld anchor pages backups logs work) reader page slot) ≡ verdictOf r ⌝ }
 {
-    let stage = core.stage;
-    let allowed = is_serving(stage);
-    let refusal = first_refusal(allowed, core, anchor, pages, backups, logs, work);
+    let refusal = common_refusal(When::Serving, core, anchor, pages, backups, logs, work);
     if refusal != 0 {
         return refusal;
     }
@@ -57,7 +55,8 @@ pub fn read_answer(
     logs: &[u64],
     work: &[u64],
 ) -> Answer
-    ensures { λ r. ⌜ Gives (look (read reader page slot)) core (worldOf (now (anchor .entry)) (now (pages .entry)) (now (backups .entry)) (now (logs .entry)) (now (work .entry))) (record { answer = r; core = core }) 0 (worldOf (now (anchor .entry)) (now (pages .entry)) (now (backups .entry)) (now (logs .entry)) (now (work .entry))) ⌝ }
+    ensures { λ r. ⌜ Gives (look (read reader page slot)) core (oldWorld anchor pages backups logs work)
+        (record { answer = r; core = core }) 0 (oldWorld anchor pages backups logs work) ⌝ }
 {
     let number = read_refusal(core, reader, page, slot, anchor, pages, backups, logs, work);
     if number != 0 {
@@ -85,7 +84,7 @@ pub fn read<'a>(
     logs: &[u64],
     work: &[u64],
 ) -> &'a [u64]
-    ensures { λ r. ⌜ now r ≡ readWords core (worldOf (now (anchor .entry)) (now (pages .entry)) (now (backups .entry)) (now (logs .entry)) (now (work .entry))) reader page slot ⌝ }
+    ensures { λ r. ⌜ now r ≡ readWords core (oldWorld anchor pages backups logs work) reader page slot ⌝ }
 {
     let number = read_refusal(core, reader, page, slot, anchor, pages, backups, logs, work);
     if number != 0 {

@@ -5,11 +5,11 @@ use crate::change::log_and_set;
 use crate::slots::is_locked;
 use crate::slots::slot_missing;
 use crate::slots::slot_width;
-use frame::checks::first_refusal;
+use frame::checks::common_refusal;
 use frame::home::home_of_transaction;
 use frame::settle::refuse;
 use frame::settle::settle;
-use frame::stages::is_serving;
+use frame::stages::When;
 use layout::places::slot_base;
 use model::Core;
 use model::Reply;
@@ -23,6 +23,7 @@ ghost use lib.ListN.{length};
 ghost use Rattle.model.specs.Sizes.{widthIn};
 ghost use Rattle.model.specs.Record.{wordsOf, updateKind};
 ghost use Rattle.model.specs.World.{World, worldOf};
+ghost use Rattle.model.specs.Moments.{old, new, oldWorld};
 ghost use Rattle.model.specs.Memory.{workWords};
 ghost use Rattle.model.specs.State.{isOpen, servingSound};
 ghost use Rattle.model.specs.Room.{hasRoom};
@@ -79,11 +80,10 @@ pub fn update(
     work: &mut [u64],
     budget: &mut u64,
 ) -> Reply
-    ensures { λ r. ⌜ Gives (update number page slot (now (value .entry)) (now (budget .entry))) core (worldOf (now (anchor .entry)) (now (pages .entry)) (now (backups .entry)) (now (logs .entry)) (now (work .entry))) r (now (budget .exit)) (worldOf (now (anchor .entry)) (now (pages .exit)) (now (backups .entry)) (now (logs .exit)) (now (work .exit))) ⌝ }
+    ensures { λ r. ⌜ Gives (update number page slot (old value) (old budget)) core (oldWorld anchor pages backups logs work)
+        r (new budget) (worldOf (old anchor) (new pages) (old backups) (new logs) (new work)) ⌝ }
 {
-    let stage = core.stage;
-    let allowed = is_serving(stage);
-    let refusal = first_refusal(allowed, core, anchor, pages, backups, logs, work);
+    let refusal = common_refusal(When::Serving, core, anchor, pages, backups, logs, work);
     if refusal != 0 {
         return refuse(core, refusal);
     }
@@ -96,9 +96,6 @@ pub fn update(
     let head = head_of(core, number, page, slot, work);
     let at = slot_base(core.sizes, page, slot) as usize;
     let added = log_and_set(home, head, at, value, pages, logs, work, budget);
-    if !added.finished {
-        return settle(false, before, *budget, 0, core);
-    }
     let next = changed_core(core, number, home, added, value.len());
-    settle(true, before, *budget, 0, next)
+    settle(added.finished, before, *budget, 0, next)
 }

@@ -1,25 +1,25 @@
 -- The pages that wait to be copied: row 15 of a step and of an end, and what an accepted one may rely on.
 use mathlib.Core.Path.{_≡_, refl, _∙_}
-use mathlib.Core.List.{List, [], _∷_}
 use mathlib.Core.Bool.{Bool, true, false}
 use Prim.Native.Nat.{ℕ, _+_, _≤_, _<_}
 use native.Mathlib.Omega.{arith}
 use lib.Dec.{leb, ltb}
-use lib.ListN.{length}
 use borrow.Author.Tests.{le-leb, lt-leb, lt-ltb, le-ltb, ltb-true, ltb-false}
 use Rattle.model.specs.declared.Core.{Core}
 use Rattle.model.specs.declared.Reply.{Reply}
 use Rattle.model.specs.World.{World}
-use Rattle.model.specs.Refusal.{Row, row, verdict, accepted, rejected}
+use Rattle.model.specs.Refusal.{verdict}
 use Rattle.model.specs.Causes.{whenCopying}
-use Rattle.model.specs.Checkpoint.{toCopy, lowestToCopy, copyPage, checkpointStepRows, checkpointStepTask, checkpointEndRows}
+use Rattle.model.specs.Checkpoint.{toCopy, lowestToCopy, copyPage, checkpointStepRows, checkpointStepTask, checkpointEndRows, checkpointEndTask}
+use Rattle.model.specs.Call.{checkpointStep, checkpointEnd, Gives}
 use Rattle.model.proofs.Below.{first-unique, first-none}
 use Rattle.model.proofs.Lengths.{lengths-right}
 use Rattle.model.proofs.Store.Rows.{copying-serving, serving-sound, sizes-sound, checkpoint-sound}
 use Rattle.device.specs.Ran.{Ran}
-use Rattle.frame.specs.Checks.{firstRefusal}
-use Rattle.frame.specs.Settle.{settled, Concludes}
-use Rattle.frame.proofs.Verdicts.{Passed, first-refused, first-accepted, first-passed, task-settled}
+use Rattle.frame.specs.Checks.{CommonRefusal}
+use Rattle.frame.specs.Settle.{refusedWith, settled, Concludes}
+use Rattle.frame.proofs.Verdicts.{Passed, task-settled}
+use Rattle.frame.proofs.Given.{common-passed, given-refused, given-task}
 use Rattle.checkpoint.specs.Lent.{pageCopied, Steppable, Endable}
 
 -- pages are copied in order, so the lowest that waits is the number of those copied
@@ -51,71 +51,59 @@ unfolding checkpointStepTask
 step-settled c w {whole} most ran e =
     task-settled {whole = whole} (checkpointStepTask c w) (rw (← copy-same c w most) ran) e (λ _. refl)
 
-module _ (c : Core) (w : World) {a : Bool} {r : ℕ} (stage : a ≡ whenCopying (c .stage))
-    (first : r ≡ firstRefusal a c (length (w .anchor)) (length (w .pages)) (length (w .backups)) (length (w .logs)) (length (w .work)))
-  where
-    pub step-refused : (r ≡ 0 → ⊥) → verdict (checkpointStepRows c w) ≡ rejected r 0 0
-    unfolding checkpointStepRows
-    step-refused some = first-refused whenCopying c w stage first some _
+-- What a step and an end give after the common checks, and what an accepted one may rely on.
+module _ {c : Core} {w : World} {r : ℕ} (checks : CommonRefusal whenCopying c w r) (none : r ≡ 0) where
+  passed : Passed whenCopying c w
+  passed = common-passed checks none
 
-    pub end-refused : (r ≡ 0 → ⊥) → verdict (checkpointEndRows c w) ≡ rejected r 0 0
-    unfolding checkpointEndRows
-    end-refused some = first-refused whenCopying c w stage first some _
+  lowest : lowestToCopy c ≡ c .checkpoint .copied
+  lowest = lowest-waits c (checkpoint-sound c (passed .stage) (passed .state) .copied)
 
-    module _ (none : r ≡ 0) where
-      passed : Passed whenCopying c w
-      passed = first-passed whenCopying c w stage first none
+  pub step-none : (budget : ℕ) → c .sizes .pages ≤ c .checkpoint .copied → {reply : Reply} → reply ≡ refusedWith c 15 0 0
+      → Gives (checkpointStep budget) c w reply budget w
+  unfolding checkpointStepRows verdict
+  step-none budget h e = given-refused checks (checkpointStep budget) refl none (rw (lowest, le-leb _ _ h) refl) e
 
-      lowest : lowestToCopy c ≡ c .checkpoint .copied
-      lowest = lowest-waits c (checkpoint-sound c (passed .stage) (passed .state) .copied)
+  pub step-given : (budget : ℕ) → c .checkpoint .copied < c .sizes .pages → (v : World) (rest : ℕ) (reply : Reply)
+      → Concludes budget rest (checkpointStepTask c w) w v reply → Gives (checkpointStep budget) c w reply rest v
+  unfolding checkpointStepRows verdict
+  step-given budget h = given-task checks (checkpointStep budget) refl none (rw (lowest, lt-leb _ _ h) refl)
 
-      abbrev stepRow : List Row
-      stepRow = row 15 (leb (c .sizes .pages) (lowestToCopy c)) ∷ []
+  pub end-early : (budget : ℕ) → c .checkpoint .copied < c .sizes .pages → {reply : Reply} → reply ≡ refusedWith c 15 0 0
+      → Gives (checkpointEnd budget) c w reply budget w
+  unfolding checkpointEndRows verdict
+  end-early budget h e = given-refused checks (checkpointEnd budget) refl none (rw (lowest, lt-ltb _ _ h) refl) e
 
-      abbrev endRow : List Row
-      endRow = row 15 (ltb (lowestToCopy c) (c .sizes .pages)) ∷ []
+  pub end-given : (budget : ℕ) → c .sizes .pages ≤ c .checkpoint .copied → (v : World) (rest : ℕ) (reply : Reply)
+      → Concludes budget rest (checkpointEndTask c w) w v reply → Gives (checkpointEnd budget) c w reply rest v
+  unfolding checkpointEndRows verdict
+  end-given budget h = given-task checks (checkpointEnd budget) refl none (rw (lowest, le-ltb _ _ h) refl)
 
-      pub step-none : c .sizes .pages ≤ c .checkpoint .copied → verdict (checkpointStepRows c w) ≡ rejected 15 0 0
-      unfolding checkpointStepRows verdict
-      step-none h = first-accepted whenCopying c w stage first none stepRow ∙ rw (lowest, le-leb _ _ h) refl
+  pub steppable : c .checkpoint .copied < c .sizes .pages → Steppable c (w .pages) (w .backups) (w .work)
+  steppable h =
+      let long = lengths-right (c .sizes) w (passed .lengths) in
+      record {
+        bounded = checkpoint-sound c (passed .stage) (passed .state) .epoch;
+        next =
+            record {
+              sizes = sizes-sound c (serving-sound c (copying-serving c (passed .stage)) (passed .state));
+              page-below = h;
+              page-words = long .pages;
+              backup-words = long .backups;
+              work-words = long .work;
+            };
+      }
 
-      pub step-accepted : c .checkpoint .copied < c .sizes .pages → verdict (checkpointStepRows c w) ≡ accepted
-      unfolding checkpointStepRows verdict
-      step-accepted h = first-accepted whenCopying c w stage first none stepRow ∙ rw (lowest, lt-leb _ _ h) refl
-
-      pub end-early : c .checkpoint .copied < c .sizes .pages → verdict (checkpointEndRows c w) ≡ rejected 15 0 0
-      unfolding checkpointEndRows verdict
-      end-early h = first-accepted whenCopying c w stage first none endRow ∙ rw (lowest, lt-ltb _ _ h) refl
-
-      pub end-accepted : c .sizes .pages ≤ c .checkpoint .copied → verdict (checkpointEndRows c w) ≡ accepted
-      unfolding checkpointEndRows verdict
-      end-accepted h = first-accepted whenCopying c w stage first none endRow ∙ rw (lowest, le-ltb _ _ h) refl
-
-      pub steppable : c .checkpoint .copied < c .sizes .pages → Steppable c (w .pages) (w .backups) (w .work)
-      steppable h =
-          let long = lengths-right (c .sizes) w (passed .lengths) in
-          record {
-            bounded = checkpoint-sound c (passed .stage) (passed .state) .epoch;
-            next =
-                record {
-                  sizes = sizes-sound c (serving-sound c (copying-serving c (passed .stage)) (passed .state));
-                  page-below = h;
-                  page-words = long .pages;
-                  backup-words = long .backups;
-                  work-words = long .work;
-                };
-          }
-
-      pub endable : Endable c (w .anchor) (w .logs) (w .work)
-      endable =
-          let long = lengths-right (c .sizes) w (passed .lengths) in
-          record {
-            bounded = checkpoint-sound c (passed .stage) (passed .state) .epoch;
-            anchor-words = passed .anchor;
-            serves =
-                record {
-                  state = serving-sound c (copying-serving c (passed .stage)) (passed .state);
-                  log-words = long .logs;
-                  work-words = long .work;
-                };
-          }
+  pub endable : Endable c (w .anchor) (w .logs) (w .work)
+  endable =
+      let long = lengths-right (c .sizes) w (passed .lengths) in
+      record {
+        bounded = checkpoint-sound c (passed .stage) (passed .state) .epoch;
+        anchor-words = passed .anchor;
+        serves =
+            record {
+              state = serving-sound c (copying-serving c (passed .stage)) (passed .state);
+              log-words = long .logs;
+              work-words = long .work;
+            };
+      }

@@ -1,9 +1,9 @@
 // Checkpoint begin: each disk's end is remembered, and no page is copied yet.
 use crate::ends::ends_of;
-use frame::checks::first_refusal;
+use frame::checks::common_refusal;
+use frame::settle::finish;
 use frame::settle::refuse;
-use frame::stages::is_open;
-use model::Answer;
+use frame::stages::When;
 use model::Checkpoint;
 use model::Core;
 use model::Reply;
@@ -11,7 +11,8 @@ use model::Stage;
 use table::room::LIMIT;
 ghost use mathlib.Core.Path.{_≡_};
 ghost use mathlib.Core.Bool.{true};
-ghost use Rattle.model.specs.World.{World, worldOf};
+ghost use Rattle.model.specs.World.{World};
+ghost use Rattle.model.specs.Moments.{oldWorld};
 ghost use Rattle.model.specs.State.{servingSound};
 ghost use Rattle.model.specs.Checkpoint.{checkpointBeginTask};
 ghost use Rattle.model.specs.Call.{checkpointBegin, Gives};
@@ -37,22 +38,15 @@ pub fn begin(
     logs: &[u64],
     work: &[u64],
 ) -> Reply
-    ensures { λ r. ⌜ Gives checkpointBegin core (worldOf (now (anchor .entry)) (now (pages .entry)) (now (backups .entry)) (now (logs .entry)) (now (work .entry))) r 0 (worldOf (now (anchor .entry)) (now (pages .entry)) (now (backups .entry)) (now (logs .entry)) (now (work .entry))) ⌝ }
+    ensures { λ r. ⌜ Gives checkpointBegin core (oldWorld anchor pages backups logs work)
+        r 0 (oldWorld anchor pages backups logs work) ⌝ }
 {
-    let stage = core.stage;
-    let allowed = is_open(stage);
-    let refusal = first_refusal(allowed, core, anchor, pages, backups, logs, work);
+    let refusal = common_refusal(When::Open, core, anchor, pages, backups, logs, work);
     if refusal != 0 {
         return refuse(core, refusal);
     }
     if core.epoch >= LIMIT {
         return refuse(core, 13);
     }
-    Reply {
-        answer: Answer::Finished {
-            stores: 0,
-            value: 0,
-        },
-        core: marked(core),
-    }
+    finish(marked(core), 0)
 }

@@ -3,10 +3,10 @@ use crate::ends::ends_of;
 use crate::flush::flush_all;
 use crate::starts::new_starts;
 use crate::switch::switch_to;
-use frame::checks::first_refusal;
+use frame::checks::common_refusal;
 use frame::settle::refuse;
 use frame::settle::settle;
-use frame::stages::is_copying;
+use frame::stages::When;
 use frame::states::no_checkpoint;
 use model::Core;
 use model::Logs;
@@ -17,6 +17,7 @@ ghost use mathlib.Core.Bool.{true};
 ghost use mathlib.Core.List.{List};
 ghost use Prim.Native.Nat.{ℕ, _<_};
 ghost use Rattle.model.specs.World.{World, worldOf};
+ghost use Rattle.model.specs.Moments.{old, new, oldWorld};
 ghost use Rattle.model.specs.State.{limit, servingSound};
 ghost use Rattle.model.specs.Checkpoint.{perDisk, newStart, checkpointEndTask};
 ghost use Rattle.model.specs.Call.{checkpointEnd, Gives};
@@ -64,7 +65,14 @@ fn store_end(
     switch_to(anchor, core.epoch + 1, core.sizes.disks, starts, budget)
 }
 
-fn finish(core: Core, anchor: &mut [u64], logs: &mut [u64], work: &[u64], budget: &mut u64) -> Reply
+// The new starts, the stores, and the reply.
+fn flush_and_switch(
+    core: Core,
+    anchor: &mut [u64],
+    logs: &mut [u64],
+    work: &[u64],
+    budget: &mut u64,
+) -> Reply
     requires { ⌜ Endable core (now anchor) (now logs) (now work) ⌝ }
     ensures { λ r. ⌜ ((pages backups : List ℕ) → Concludes (now (budget .entry)) (now (budget .exit))
         (checkpointEndTask core (worldOf (now (anchor .entry)) pages backups (now (logs .entry)) (now (work .entry))))
@@ -86,11 +94,10 @@ pub fn end(
     work: &[u64],
     budget: &mut u64,
 ) -> Reply
-    ensures { λ r. ⌜ Gives (checkpointEnd (now (budget .entry))) core (worldOf (now (anchor .entry)) (now (pages .entry)) (now (backups .entry)) (now (logs .entry)) (now (work .entry))) r (now (budget .exit)) (worldOf (now (anchor .exit)) (now (pages .entry)) (now (backups .entry)) (now (logs .exit)) (now (work .entry))) ⌝ }
+    ensures { λ r. ⌜ Gives (checkpointEnd (old budget)) core (oldWorld anchor pages backups logs work)
+        r (new budget) (worldOf (new anchor) (old pages) (old backups) (new logs) (old work)) ⌝ }
 {
-    let stage = core.stage;
-    let allowed = is_copying(stage);
-    let refusal = first_refusal(allowed, core, anchor, pages, backups, logs, work);
+    let refusal = common_refusal(When::Copying, core, anchor, pages, backups, logs, work);
     if refusal != 0 {
         return refuse(core, refusal);
     }
@@ -98,5 +105,5 @@ pub fn end(
     if checkpoint.copied < core.sizes.pages {
         return refuse(core, 15);
     }
-    finish(core, anchor, logs, work, budget)
+    flush_and_switch(core, anchor, logs, work, budget)
 }

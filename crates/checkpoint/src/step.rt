@@ -1,15 +1,16 @@
 // Checkpoint step: the lowest page not yet copied goes whole to the other backup and takes the checkpoint's number.
 use crate::copy::copy_page;
-use frame::checks::first_refusal;
+use frame::checks::common_refusal;
 use frame::settle::refuse;
 use frame::settle::settle;
-use frame::stages::is_copying;
+use frame::stages::When;
 use model::Checkpoint;
 use model::Core;
 use model::Reply;
 ghost use mathlib.Core.List.{List};
 ghost use Prim.Native.Nat.{ℕ};
 ghost use Rattle.model.specs.World.{worldOf};
+ghost use Rattle.model.specs.Moments.{old, new, oldWorld};
 ghost use Rattle.model.specs.Checkpoint.{checkpointStepTask};
 ghost use Rattle.model.specs.Call.{checkpointStep, Gives};
 ghost use Rattle.frame.specs.Settle.{Concludes};
@@ -60,11 +61,10 @@ pub fn step(
     work: &mut [u64],
     budget: &mut u64,
 ) -> Reply
-    ensures { λ r. ⌜ Gives (checkpointStep (now (budget .entry))) core (worldOf (now (anchor .entry)) (now (pages .entry)) (now (backups .entry)) (now (logs .entry)) (now (work .entry))) r (now (budget .exit)) (worldOf (now (anchor .entry)) (now (pages .entry)) (now (backups .exit)) (now (logs .entry)) (now (work .exit))) ⌝ }
+    ensures { λ r. ⌜ Gives (checkpointStep (old budget)) core (oldWorld anchor pages backups logs work)
+        r (new budget) (worldOf (old anchor) (old pages) (new backups) (old logs) (new work)) ⌝ }
 {
-    let stage = core.stage;
-    let allowed = is_copying(stage);
-    let refusal = first_refusal(allowed, core, anchor, pages, backups, logs, work);
+    let refusal = common_refusal(When::Copying, core, anchor, pages, backups, logs, work);
     if refusal != 0 {
         return refuse(core, refusal);
     }

@@ -3,6 +3,7 @@ use crate::outcome::Done;
 use crate::outcome::settled;
 use store::State;
 ghost use Rattle.model.specs.World.{worldOf};
+ghost use Rattle.model.specs.Moments.{old, new, oldWorld};
 ghost use Rattle.lines.specs.declared.command.Command.the-variants.{Mark, Copy, Close};
 ghost use Rattle.commands.specs.Meaning.{Runs};
 
@@ -14,7 +15,8 @@ pub fn run_mark(
     logs: &[u64],
     work: &[u64],
 ) -> Done
-    ensures { λ r. ⌜ Runs Mark (state .core) (worldOf (now (anchor .entry)) (now (pages .entry)) (now (backups .entry)) (now (logs .entry)) (now (work .entry))) r (worldOf (now (anchor .entry)) (now (pages .entry)) (now (backups .entry)) (now (logs .entry)) (now (work .entry))) ⌝ }
+    ensures { λ r. ⌜ Runs Mark (state .core) (oldWorld anchor pages backups logs work)
+        r (oldWorld anchor pages backups logs work) ⌝ }
 {
     let called = store::checkpoints::checkpoint_begin(state, anchor, pages, backups, logs, work);
     settled(called, 0)
@@ -28,7 +30,8 @@ pub fn run_copy(
     logs: &[u64],
     work: &mut [u64],
 ) -> Done
-    ensures { λ r. ⌜ Runs Copy (state .core) (worldOf (now (anchor .entry)) (now (pages .entry)) (now (backups .entry)) (now (logs .entry)) (now (work .entry))) r (worldOf (now (anchor .entry)) (now (pages .entry)) (now (backups .exit)) (now (logs .entry)) (now (work .exit))) ⌝ }
+    ensures { λ r. ⌜ Runs Copy (state .core) (oldWorld anchor pages backups logs work)
+        r (worldOf (old anchor) (old pages) (new backups) (old logs) (new work)) ⌝ }
 {
     let mut budget = u64::MAX;
     let called = store::checkpoints::checkpoint_step(
@@ -51,7 +54,8 @@ pub fn run_close(
     logs: &mut [u64],
     work: &[u64],
 ) -> Done
-    ensures { λ r. ⌜ Runs Close (state .core) (worldOf (now (anchor .entry)) (now (pages .entry)) (now (backups .entry)) (now (logs .entry)) (now (work .entry))) r (worldOf (now (anchor .exit)) (now (pages .entry)) (now (backups .entry)) (now (logs .exit)) (now (work .entry))) ⌝ }
+    ensures { λ r. ⌜ Runs Close (state .core) (oldWorld anchor pages backups logs work)
+        r (worldOf (new anchor) (old pages) (old backups) (new logs) (old work)) ⌝ }
 {
     let mut budget = u64::MAX;
     let called = store::checkpoints::checkpoint_end(

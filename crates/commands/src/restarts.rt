@@ -7,6 +7,7 @@ use store::Called;
 use store::State;
 ghost use mathlib.Core.Path.{_≡_};
 ghost use Rattle.model.specs.World.{worldOf};
+ghost use Rattle.model.specs.Moments.{old, new, oldWorld};
 ghost use Rattle.lines.specs.declared.command.Command.the-variants.{Restart};
 ghost use Rattle.commands.specs.Restarting.{toEnd, replayedAll, given};
 ghost use Rattle.commands.specs.Meaning.{Runs};
@@ -21,7 +22,8 @@ fn replay(
     logs: &[u64],
     work: &[u64],
 ) -> Called
-    ensures { λ r. ⌜ given r (worldOf (now (anchor .entry)) (now (pages .exit)) (now (backups .entry)) (now (logs .entry)) (now (work .entry))) ≡ toEnd source (given begun (worldOf (now (anchor .entry)) (now (pages .entry)) (now (backups .entry)) (now (logs .entry)) (now (work .entry)))) ⌝ }
+    ensures { λ r. ⌜ given r (worldOf (old anchor) (new pages) (old backups) (old logs) (old work))
+        ≡ toEnd source (given begun (oldWorld anchor pages backups logs work)) ⌝ }
 {
     let answer = begun.answer;
     if !is_finished(answer) {
@@ -44,7 +46,8 @@ fn replay_all(
     logs: &[u64],
     work: &[u64],
 ) -> Called
-    ensures { λ r. ⌜ given r (worldOf (now (anchor .entry)) (now (pages .exit)) (now (backups .entry)) (now (logs .entry)) (now (work .entry))) ≡ replayedAll (state .core) (worldOf (now (anchor .entry)) (now (pages .entry)) (now (backups .entry)) (now (logs .entry)) (now (work .entry))) ⌝ }
+    ensures { λ r. ⌜ given r (worldOf (old anchor) (new pages) (old backups) (old logs) (old work))
+        ≡ replayedAll (state .core) (oldWorld anchor pages backups logs work) ⌝ }
 {
     let begun = store::restarts::restart_begin(state, anchor, pages, backups, logs, work);
     let first = replay(begun, 0, anchor, pages, backups, logs, work);
@@ -61,7 +64,8 @@ pub fn run_restart(
     logs: &[u64],
     work: &mut [u64],
 ) -> Done
-    ensures { λ r. ⌜ Runs Restart (state .core) (worldOf (now (anchor .entry)) (now (pages .entry)) (now (backups .entry)) (now (logs .entry)) (now (work .entry))) r (worldOf (now (anchor .exit)) (now (pages .exit)) (now (backups .exit)) (now (logs .entry)) (now (work .exit))) ⌝ }
+    ensures { λ r. ⌜ Runs Restart (state .core) (oldWorld anchor pages backups logs work)
+        r (worldOf (new anchor) (new pages) (new backups) (old logs) (new work)) ⌝ }
 {
     let replayed = replay_all(state, anchor, pages, backups, logs, work);
     let answer = replayed.answer;

@@ -15,6 +15,7 @@ use crate::transactions::run_set;
 use lines::command::Command;
 use store::State;
 ghost use Rattle.model.specs.World.{World, worldOf};
+ghost use Rattle.model.specs.Moments.{new, oldWorld};
 ghost use Rattle.lines.specs.declared.command.Command.the-variants.{Other};
 ghost use Rattle.commands.specs.Meaning.{Runs};
 
@@ -39,7 +40,8 @@ pub fn run(
     logs: &mut [u64],
     work: &mut [u64],
 ) -> Done
-    ensures { λ r. ⌜ Runs command (state .core) (worldOf (now (anchor .entry)) (now (pages .entry)) (now (backups .entry)) (now (logs .entry)) (now (work .entry))) r (worldOf (now (anchor .exit)) (now (pages .exit)) (now (backups .exit)) (now (logs .exit)) (now (work .exit))) ⌝ }
+    ensures { λ r. ⌜ Runs command (state .core) (oldWorld anchor pages backups logs work)
+        r (worldOf (new anchor) (new pages) (new backups) (new logs) (new work)) ⌝ }
 {
     match command {
         Command::Begin => run_begin(state, anchor, pages, backups, logs, work),

@@ -6,6 +6,7 @@ use crate::outcome::value_of;
 use store::State;
 ghost use mathlib.Core.Path.{_≡_};
 ghost use Rattle.model.specs.World.{worldOf};
+ghost use Rattle.model.specs.Moments.{old, new, oldWorld};
 ghost use Rattle.lines.specs.declared.command.Command.the-variants.{Begin, Set, Commit, Abort, Get};
 ghost use Rattle.commands.specs.Shown.{slotWord};
 ghost use Rattle.commands.specs.Meaning.{Runs};
@@ -18,7 +19,8 @@ pub fn run_begin(
     logs: &[u64],
     work: &[u64],
 ) -> Done
-    ensures { λ r. ⌜ Runs Begin (state .core) (worldOf (now (anchor .entry)) (now (pages .entry)) (now (backups .entry)) (now (logs .entry)) (now (work .entry))) r (worldOf (now (anchor .entry)) (now (pages .entry)) (now (backups .entry)) (now (logs .entry)) (now (work .entry))) ⌝ }
+    ensures { λ r. ⌜ Runs Begin (state .core) (oldWorld anchor pages backups logs work)
+        r (oldWorld anchor pages backups logs work) ⌝ }
 {
     let called = store::transactions::begin(state, anchor, pages, backups, logs, work);
     let answer = called.answer;
@@ -43,7 +45,7 @@ fn slot_word(
     logs: &[u64],
     work: &[u64],
 ) -> u64
-    ensures { λ r. ⌜ r ≡ slotWord (state .core) (worldOf (now (anchor .entry)) (now (pages .entry)) (now (backups .entry)) (now (logs .entry)) (now (work .entry))) (seen .number) (seen .page) (seen .slot) ⌝ }
+    ensures { λ r. ⌜ r ≡ slotWord (state .core) (oldWorld anchor pages backups logs work) (seen .number) (seen .page) (seen .slot) ⌝ }
 {
     let words = store::transactions::read(
         state,
@@ -73,7 +75,8 @@ pub fn run_set(
     logs: &mut [u64],
     work: &mut [u64],
 ) -> Done
-    ensures { λ r. ⌜ Runs (Set (seen .number) (seen .page) (seen .slot) value) (state .core) (worldOf (now (anchor .entry)) (now (pages .entry)) (now (backups .entry)) (now (logs .entry)) (now (work .entry))) r (worldOf (now (anchor .entry)) (now (pages .exit)) (now (backups .entry)) (now (logs .exit)) (now (work .exit))) ⌝ }
+    ensures { λ r. ⌜ Runs (Set (seen .number) (seen .page) (seen .slot) value) (state .core) (oldWorld anchor pages backups logs work)
+        r (worldOf (old anchor) (new pages) (old backups) (new logs) (new work)) ⌝ }
 {
     let before = slot_word(state, seen, anchor, pages, backups, logs, work);
     let after = [value];
@@ -104,7 +107,8 @@ pub fn run_commit(
     logs: &mut [u64],
     work: &mut [u64],
 ) -> Done
-    ensures { λ r. ⌜ Runs (Commit number allowance) (state .core) (worldOf (now (anchor .entry)) (now (pages .entry)) (now (backups .entry)) (now (logs .entry)) (now (work .entry))) r (worldOf (now (anchor .entry)) (now (pages .entry)) (now (backups .entry)) (now (logs .exit)) (now (work .exit))) ⌝ }
+    ensures { λ r. ⌜ Runs (Commit number allowance) (state .core) (oldWorld anchor pages backups logs work)
+        r (worldOf (old anchor) (old pages) (old backups) (new logs) (new work)) ⌝ }
 {
     let mut budget = allowance;
     let called = store::transactions::commit(
@@ -129,7 +133,8 @@ pub fn run_abort(
     logs: &mut [u64],
     work: &mut [u64],
 ) -> Done
-    ensures { λ r. ⌜ Runs (Abort number) (state .core) (worldOf (now (anchor .entry)) (now (pages .entry)) (now (backups .entry)) (now (logs .entry)) (now (work .entry))) r (worldOf (now (anchor .entry)) (now (pages .exit)) (now (backups .entry)) (now (logs .exit)) (now (work .exit))) ⌝ }
+    ensures { λ r. ⌜ Runs (Abort number) (state .core) (oldWorld anchor pages backups logs work)
+        r (worldOf (old anchor) (new pages) (old backups) (new logs) (new work)) ⌝ }
 {
     let mut budget = u64::MAX;
     let called = store::transactions::abort(
@@ -155,7 +160,8 @@ pub fn run_get(
     logs: &[u64],
     work: &[u64],
 ) -> Done
-    ensures { λ r. ⌜ Runs (Get page slot) (state .core) (worldOf (now (anchor .entry)) (now (pages .entry)) (now (backups .entry)) (now (logs .entry)) (now (work .entry))) r (worldOf (now (anchor .entry)) (now (pages .entry)) (now (backups .entry)) (now (logs .entry)) (now (work .entry))) ⌝ }
+    ensures { λ r. ⌜ Runs (Get page slot) (state .core) (oldWorld anchor pages backups logs work)
+        r (oldWorld anchor pages backups logs work) ⌝ }
 {
     let seen = Seen {
         number: 0,

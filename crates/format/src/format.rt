@@ -11,6 +11,7 @@ use layout::bounds::narrow;
 use model::Core;
 use model::Reply;
 ghost use Rattle.model.specs.World.{worldOf};
+ghost use Rattle.model.specs.Moments.{old, new, oldWorld};
 ghost use Rattle.model.specs.Call.{format, Gives};
 
 // The checks, then the stores, and the memory once all of them are made.
@@ -28,7 +29,8 @@ pub fn format(
     work: &mut [u64],
     budget: &mut u64,
 ) -> Reply
-    ensures { λ r. ⌜ Gives (format (record { pages = «pages_count»; disks = disks; ring = ring; slots = slots; widths = widths }) (now (budget .entry))) core (worldOf (now (anchor .entry)) (now (pages .entry)) (now (backups .entry)) (now (logs .entry)) (now (work .entry))) r (now (budget .exit)) (worldOf (now (anchor .exit)) (now (pages .exit)) (now (backups .exit)) (now (logs .exit)) (now (work .exit))) ⌝ }
+    ensures { λ r. ⌜ Gives (format (record { pages = «pages_count»; disks = disks; ring = ring; slots = slots; widths = widths }) (old budget))
+        core (oldWorld anchor pages backups logs work) r (new budget) (worldOf (new anchor) (new pages) (new backups) (new logs) (new work)) ⌝ }
 {
     let stage = core.stage;
     if !is_shut(stage) {

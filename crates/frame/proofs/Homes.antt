@@ -18,8 +18,10 @@ use Rattle.model.proofs.Ring.{disk-within}
 use Rattle.model.proofs.Store.Rows.{serving-sound, sizes-sound, disk-sound}
 use Rattle.log.specs.Write.{Within, Lent}
 use Rattle.log.specs.declared.write.Home.{Home}
+use Rattle.frame.specs.Checks.{CommonRefusal}
 use Rattle.frame.specs.Home.{Serves, homeOf}
 use Rattle.frame.proofs.Verdicts.{Passed}
+use Rattle.frame.proofs.Given.{common-passed}
 
 -- a buffer's place, counted from the end of the work memory
 pub buffer-from-end : (s : Sizes) (work disk : ℕ) → work ≡ workWords s → disk < s .disks
@@ -63,6 +65,9 @@ pub serves-passed : (c : Core) (w : World) → Passed whenServing c w → Serves
 serves-passed c w passed =
     let lengths = lengths-right (c .sizes) w (passed .lengths) in
     record { state = serving-sound c (passed .stage) (passed .state); log-words = lengths .logs; work-words = lengths .work }
+
+pub serves-common : {c : Core} {w : World} {r : ℕ} → CommonRefusal whenServing c w r → r ≡ 0 → Serves c (w .logs) (w .work)
+serves-common checks none = serves-passed _ _ (common-passed checks none)
 
 -- The same of a home that a function answered.
 module _ (s : Sizes) (l : Logs) (disk : ℕ) {h : Home} (e : h ≡ homeOf s l disk) where

@@ -11,6 +11,9 @@ use Rattle.model.proofs.Booleans.{true-false, both}
 use Rattle.model.proofs.Store.Rows.{sizes-sound}
 use Rattle.table.proofs.HasRoom.{and-true}
 use Rattle.table.proofs.Tests.{replay-split}
+use Rattle.frame.specs.declared.stages.When.{When}
+use Rattle.frame.specs.declared.stages.When.the-variants.{Replaying as in-replaying, Open as in-open, Copying as in-copying, Serving as in-serving}
+use Rattle.frame.specs.Checks.{allowedIn}
 
 -- the test of each stage
 pub sound-at : (c : Core) (g : Stage) → c .stage ≡ g → sound c ≡ soundIn g c
@@ -60,3 +63,15 @@ replaying-not-shut Shut h = sym h
 replaying-not-shut Replaying h = refl
 replaying-not-shut Open h = refl
 replaying-not-shut Copying h = refl
+
+pub allowed-not-shut : (a : When) (g : Stage) → allowedIn a g ≡ true → whenShut g ≡ false
+allowed-not-shut in-replaying g h = replaying-not-shut g h
+allowed-not-shut in-open Shut h = sym h
+allowed-not-shut in-open Replaying h = refl
+allowed-not-shut in-open Open h = refl
+allowed-not-shut in-open Copying h = refl
+allowed-not-shut in-copying Shut h = sym h
+allowed-not-shut in-copying Replaying h = refl
+allowed-not-shut in-copying Open h = refl
+allowed-not-shut in-copying Copying h = refl
+allowed-not-shut in-serving g h = serving-not-shut g h

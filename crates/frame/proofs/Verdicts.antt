@@ -57,7 +57,7 @@ fourRight s w =
 module _ (allowed : Stage → Bool) (c : Core) (w : World) {a : Bool} {r : ℕ} (stage : a ≡ allowed (c .stage))
     (first : r ≡ firstRefusal a c (length (w .anchor)) (length (w .pages)) (length (w .backups)) (length (w .logs)) (length (w .work)))
   where
-    first-verdict : (rest : List Row)
+    pub first-verdict : (rest : List Row)
         → verdict (row 1 (stageForbids allowed c) ∷ row 2 (anchorWrong (w .anchor)) ∷ row 5 (lengthsWrong (c .sizes) w) ∷ rest)
         ≡ cond (eqb r 0) (verdict rest) (rejected r 0 0)
     unfolding stageForbids anchorWrong lengthsWrong lengthsRight firstRefusal lengthRefusal

@@ -12,6 +12,9 @@ use Rattle.model.specs.Refusal.{Task, accepted, conclude}
 abbrev pub refusedWith : Core → ℕ → ℕ → ℕ → Reply
 refusedWith c number first second = record { answer = Refused number first second; core = c }
 
+abbrev pub finishedWith : Core → ℕ → Reply
+finishedWith c value = record { answer = Finished 0 value; core = c }
+
 -- after stores that took a budget down to `rest`
 abbrev pub settled : Bool → ℕ → ℕ → ℕ → Core → Reply
 settled true budget rest value c = record { answer = Finished (budget - rest) value; core = c }

@@ -1,5 +1,7 @@
 // The checks that every call but format and restart begin makes first: its stage with the test of the state, the anchor's length, the
 // other lengths.
+use crate::stages::When;
+use crate::stages::is_allowed;
 use crate::stages::is_open;
 use crate::stages::is_replaying;
 use crate::stages::is_shut;
@@ -16,7 +18,8 @@ ghost use lib.ListN.{length};
 ghost use Rattle.model.specs.Sizes.{sizesInBounds};
 ghost use Rattle.model.specs.State.{servingSound, replaySound, sound};
 ghost use Rattle.model.specs.Causes.{whenShut};
-ghost use Rattle.frame.specs.Checks.{lengthRefusal, firstRefusal};
+ghost use Rattle.model.specs.Moments.{oldWorld};
+ghost use Rattle.frame.specs.Checks.{lengthRefusal, firstRefusal, allowedIn, CommonRefusal};
 
 fn serving_sound(core: Core) -> bool
     ensures { λ r. ⌜ r ≡ servingSound core ⌝ }
@@ -122,4 +125,21 @@ pub fn first_refusal(
         logs.len(),
         work.len(),
     )
+}
+
+// The first lines of a call: the number of the first of rows 1, 2 and 5 that applies, 0 where none does.
+pub fn common_refusal(
+    when: When,
+    core: Core,
+    anchor: &[u64],
+    pages: &[u64],
+    backups: &[u64],
+    logs: &[u64],
+    work: &[u64],
+) -> u64
+    ensures { λ r. ⌜ CommonRefusal (allowedIn when) core (oldWorld anchor pages backups logs work) r ⌝ }
+{
+    let stage = core.stage;
+    let fits = is_allowed(when, stage);
+    first_refusal(fits, core, anchor, pages, backups, logs, work)
 }

@@ -6,7 +6,7 @@ use model::Reply;
 use words::saturating_sub;
 ghost use mathlib.Core.Path.{_≡_};
 ghost use Prim.Native.Nat.{_-_};
-ghost use Rattle.frame.specs.Settle.{refusedWith, settled};
+ghost use Rattle.frame.specs.Settle.{refusedWith, finishedWith, settled};
 
 // A refusal leaves the state as it was.
 pub fn refuse_at(core: Core, number: u64, first: u64, second: u64) -> Reply
@@ -26,6 +26,16 @@ pub fn refuse(core: Core, number: u64) -> Reply
     ensures { λ r. ⌜ r ≡ refusedWith core number 0 0 ⌝ }
 {
     refuse_at(core, number, 0, 0)
+}
+
+// A call that is finished and stored nothing.
+pub fn finish(core: Core, value: u64) -> Reply
+    ensures { λ r. ⌜ r ≡ finishedWith core value ⌝ }
+{
+    Reply {
+        answer: Answer::Finished { stores: 0, value },
+        core,
+    }
 }
 
 // A call whose stores took a budget down to `rest`: it is finished if all were made, and else cut.

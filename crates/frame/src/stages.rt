@@ -2,6 +2,15 @@
 use model::Stage;
 ghost use mathlib.Core.Path.{_≡_};
 ghost use Rattle.model.specs.Causes.{whenShut, whenReplaying, whenOpen, whenCopying, whenServing};
+ghost use Rattle.frame.specs.Checks.{allowedIn};
+
+// The stages that a call is for, if it is not for a shut state.
+pub enum When {
+    Replaying,
+    Open,
+    Copying,
+    Serving,
+}
 
 pub fn is_shut(stage: Stage) -> bool
     ensures { λ r. ⌜ r ≡ whenShut stage ⌝ }
@@ -56,5 +65,16 @@ pub fn is_serving(stage: Stage) -> bool
         Stage::Replaying => false,
         Stage::Open => true,
         Stage::Copying => true,
+    }
+}
+
+pub fn is_allowed(when: When, stage: Stage) -> bool
+    ensures { λ r. ⌜ r ≡ allowedIn when stage ⌝ }
+{
+    match when {
+        When::Replaying => is_replaying(stage),
+        When::Open => is_open(stage),
+        When::Copying => is_copying(stage),
+        When::Serving => is_serving(stage),
     }
 }

@@ -15,6 +15,7 @@ ghost use Prim.Native.Nat.{ℕ, _+_, _*_, _-_, _≤_, _<_};
 ghost use mathlib.Core.List.{List};
 ghost use lib.ListN.{length, drop};
 ghost use Rattle.model.specs.World.{worldOf};
+ghost use Rattle.model.specs.Moments.{old, new, oldWorld};
 ghost use Rattle.hall.specs.Running.{Program, lineTaken, fed, ended};
 ghost use Rattle.hall.specs.Held.{Holds, Stands};
 
@@ -41,7 +42,8 @@ pub fn take_line(
 ) -> Console
     requires { ⌜ console .fill + 84 ≤ length (now out) ⌝ }
     ensures { λ r. ⌜ r .fill ≤ console .fill + 84 ⌝ }
-    ensures { λ r. ⌜ ((handed : List ℕ) (p : Program) → Holds console (worldOf (now (anchor .entry)) (now (pages .entry)) (now (backups .entry)) (now (logs .entry)) (now (work .entry))) (now (out .entry)) handed p → Stands r (worldOf (now (anchor .exit)) (now (pages .exit)) (now (backups .exit)) (now (logs .exit)) (now (work .exit))) (now (out .exit)) handed (lineTaken p)) ⌝ }
+    ensures { λ r. ⌜ ((handed : List ℕ) (p : Program) → Holds console (oldWorld anchor pages backups logs work) (old out) handed p
+        → Stands r (worldOf (new anchor) (new pages) (new backups) (new logs) (new work)) (new out) handed (lineTaken p)) ⌝ }
 {
     let command = command_of(console.partial);
     let done = run(command, console.state, anchor, pages, backups, logs, work);
@@ -82,7 +84,9 @@ fn feed_line(
     requires { ⌜ at < length (now bytes) ⌝ }
     requires { ⌜ console .fill + 84 * (length (now bytes) - at) ≤ length (now out) ⌝ }
     ensures { λ r. ⌜ (at < r .next) × (r .next ≤ length (now (bytes .entry))) × (r .console .fill + 84 * (length (now (bytes .entry)) - r .next) ≤ length (now (out .entry))) ⌝ }
-    ensures { λ r. ⌜ ((handed : List ℕ) (p : Program) → Stands console (worldOf (now (anchor .entry)) (now (pages .entry)) (now (backups .entry)) (now (logs .entry)) (now (work .entry))) (now (out .entry)) handed p → (q : Program) × Stands (r .console) (worldOf (now (anchor .exit)) (now (pages .exit)) (now (backups .exit)) (now (logs .exit)) (now (work .exit))) (now (out .exit)) handed q × (fed q (drop (r .next) (now (bytes .entry))) ≡ fed p (drop at (now (bytes .entry))))) ⌝ }
+    ensures { λ r. ⌜ ((handed : List ℕ) (p : Program) → Stands console (oldWorld anchor pages backups logs work) (old out) handed p
+        → (q : Program) × Stands (r .console) (worldOf (new anchor) (new pages) (new backups) (new logs) (new work)) (new out) handed q
+        × (fed q (drop (r .next) (old bytes)) ≡ fed p (drop at (old bytes)))) ⌝ }
 {
     let n = line_length(&bytes[at..]);
     let end = at + n;
@@ -116,7 +120,8 @@ pub fn feed(
 ) -> Console
     requires { ⌜ console .fill + 84 * length (now bytes) ≤ length (now out) ⌝ }
     ensures { λ r. ⌜ r .fill ≤ length (now (out .entry)) ⌝ }
-    ensures { λ r. ⌜ ((handed : List ℕ) (p : Program) → Stands console (worldOf (now (anchor .entry)) (now (pages .entry)) (now (backups .entry)) (now (logs .entry)) (now (work .entry))) (now (out .entry)) handed p → Stands r (worldOf (now (anchor .exit)) (now (pages .exit)) (now (backups .exit)) (now (logs .exit)) (now (work .exit))) (now (out .exit)) handed (fed p (now (bytes .entry)))) ⌝ }
+    ensures { λ r. ⌜ ((handed : List ℕ) (p : Program) → Stands console (oldWorld anchor pages backups logs work) (old out) handed p
+        → Stands r (worldOf (new anchor) (new pages) (new backups) (new logs) (new work)) (new out) handed (fed p (old bytes))) ⌝ }
 {
     let mut c = console;
     let mut at = 0;
@@ -140,7 +145,8 @@ pub fn last_line(
 ) -> Console
     requires { ⌜ console .fill + 84 ≤ length (now out) ⌝ }
     ensures { λ r. ⌜ r .fill ≤ console .fill + 84 ⌝ }
-    ensures { λ r. ⌜ ((handed : List ℕ) (p : Program) → Stands console (worldOf (now (anchor .entry)) (now (pages .entry)) (now (backups .entry)) (now (logs .entry)) (now (work .entry))) (now (out .entry)) handed p → Stands r (worldOf (now (anchor .exit)) (now (pages .exit)) (now (backups .exit)) (now (logs .exit)) (now (work .exit))) (now (out .exit)) handed (ended p)) ⌝ }
+    ensures { λ r. ⌜ ((handed : List ℕ) (p : Program) → Stands console (oldWorld anchor pages backups logs work) (old out) handed p
+        → Stands r (worldOf (new anchor) (new pages) (new backups) (new logs) (new work)) (new out) handed (ended p)) ⌝ }
 {
     if console.begun {
         return take_line(console, anchor, pages, backups, logs, work, out);

@@ -19,6 +19,7 @@ ghost use Prim.Native.Nat.{ℕ, _+_, _≤_};
 ghost use mathlib.Core.List.{List, []};
 ghost use lib.ListN.{length};
 ghost use Rattle.model.specs.World.{World, worldOf};
+ghost use Rattle.model.specs.Moments.{old, new, oldWorld};
 ghost use Rattle.hall.specs.Running.{Program, formatting, started, fed, withTally};
 ghost use Rattle.hall.specs.Held.{Stands};
 
@@ -31,7 +32,8 @@ fn formatted(
     work: &mut [u64],
 ) -> State
     ensures { λ r. ⌜ r .core ≡ formatting (worldOf (now (anchor .entry)) (now (pages .entry)) (now (backups .entry)) (now (logs .entry)) (now (work .entry))) .core ⌝ }
-    ensures { λ r. ⌜ worldOf (now (anchor .exit)) (now (pages .exit)) (now (backups .exit)) (now (logs .exit)) (now (work .exit)) ≡ formatting (worldOf (now (anchor .entry)) (now (pages .entry)) (now (backups .entry)) (now (logs .entry)) (now (work .entry))) .world ⌝ }
+    ensures { λ r. ⌜ worldOf (new anchor) (new pages) (new backups) (new logs) (new work)
+        ≡ formatting (oldWorld anchor pages backups logs work) .world ⌝ }
 {
     let mut slots = [0u64; 64];
     let mut widths = [0u64; 64];
@@ -68,7 +70,8 @@ fn opened(
 ) -> Console
     requires { ⌜ 84 ≤ length (now out) ⌝ }
     ensures { λ r. ⌜ r .fill ≤ length (now (out .entry)) ⌝ }
-    ensures { λ r. ⌜ Stands r (worldOf (now (anchor .exit)) (now (pages .exit)) (now (backups .exit)) (now (logs .exit)) (now (work .exit))) (now (out .exit)) [] (started (worldOf (now (anchor .entry)) (now (pages .entry)) (now (backups .entry)) (now (logs .entry)) (now (work .entry)))) ⌝ }
+    ensures { λ r. ⌜ Stands r (worldOf (new anchor) (new pages) (new backups) (new logs) (new work)) (new out)
+        [] (started (oldWorld anchor pages backups logs work)) ⌝ }
 {
     let state = formatted(anchor, pages, backups, logs, work);
     let fill = add(out, 0, b"line answer stores value\n");
@@ -126,7 +129,9 @@ fn serve_some(
 ) -> Served
     requires { ⌜ (console .fill ≡ 0) × (65520 ≤ length (now out)) ⌝ }
     ensures { λ r. ⌜ r .console .fill ≡ 0 ⌝ }
-    ensures { λ r. ⌜ ((p : Program) → Stands console (worldOf (now (anchor .entry)) (now (pages .entry)) (now (backups .entry)) (now (logs .entry)) (now (work .entry))) (now (out .entry)) (p .text) p → (input : List ℕ) × (length input ≡ r .got) × Stands (r .console) (worldOf (now (anchor .exit)) (now (pages .exit)) (now (backups .exit)) (now (logs .exit)) (now (work .exit))) (now (out .exit)) (fed p input .text) (fed p input)) ⌝ }
+    ensures { λ r. ⌜ ((p : Program) → Stands console (oldWorld anchor pages backups logs work) (old out) (p .text) p
+        → (input : List ℕ) × (length input ≡ r .got)
+        × Stands (r .console) (worldOf (new anchor) (new pages) (new backups) (new logs) (new work)) (new out) (fed p input .text) (fed p input)) ⌝ }
 {
     let mut input = [0u8; 780];
     let answer = libc::read(STDIN_FILENO, &mut input);
@@ -171,7 +176,8 @@ fn serve(
     requires { ⌜ (console .fill ≡ 0) × (65520 ≤ length (now out)) ⌝ }
     ensures { λ r. ⌜ (r .got ≡ 0) ⊎ (r .failed ≡ true) ⌝ }
     ensures { λ r. ⌜ r .console .fill ≡ 0 ⌝ }
-    ensures { λ r. ⌜ ((p : Program) → Stands console (worldOf (now (anchor .entry)) (now (pages .entry)) (now (backups .entry)) (now (logs .entry)) (now (work .entry))) (now (out .entry)) (p .text) p → (input : List ℕ) × Stands (r .console) (worldOf (now (anchor .exit)) (now (pages .exit)) (now (backups .exit)) (now (logs .exit)) (now (work .exit))) (now (out .exit)) (fed p input .text) (fed p input)) ⌝ }
+    ensures { λ r. ⌜ ((p : Program) → Stands console (oldWorld anchor pages backups logs work) (old out) (p .text) p
+        → (input : List ℕ) × Stands (r .console) (worldOf (new anchor) (new pages) (new backups) (new logs) (new work)) (new out) (fed p input .text) (fed p input)) ⌝ }
 {
     let mut c = console;
     let mut turns = u64::MAX;

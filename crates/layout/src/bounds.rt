@@ -1,7 +1,7 @@
 // The bounds of the sizes, and the lengths that they give the lent slices.
 use crate::disks::disk_at;
 use crate::places::total_in_bounds;
-use crate::places::words_of;
+use crate::places::words_in_slots;
 use model::Sizes;
 ghost use mathlib.Core.Path.{_≡_};
 ghost use mathlib.Core.Bool.{true, cond, _&&_};
@@ -56,7 +56,7 @@ fn counts_in_bounds(pages: u64, disks: u64, ring: u64) -> bool
 fn used_fault(slots: u8, width: u8) -> u8
     ensures { λ r. ⌜ (r ≤ 1) × (r ≡ cond (within 1 128 slots && within 1 32 width && leb (slots * width) 128) 0 1) ⌝ }
 {
-    let words = words_of(slots, width);
+    let words = words_in_slots(slots, width);
     if words == 0 {
         return 1;
     }

@@ -12,7 +12,7 @@ pub fn word_of(byte: u8) -> u64
 }
 
 // Slots times width: the words of a page. Narrow, so that a loop over pages takes many of them at once.
-pub fn words_of(slots: u8, width: u8) -> u16
+pub fn words_in_slots(slots: u8, width: u8) -> u16
     ensures { λ r. ⌜ r ≡ slots * width ⌝ }
 {
     (slots as u16) * (width as u16)
@@ -26,7 +26,7 @@ pub fn page_words(sizes: Sizes, page: u64) -> u64
     let slots = sizes.slots;
     let widths = sizes.widths;
     let i = page as usize;
-    let words = words_of(slots[i], widths[i]);
+    let words = words_in_slots(slots[i], widths[i]);
     words as u64
 }
 
@@ -41,7 +41,7 @@ pub fn page_base(sizes: Sizes, page: u64) -> u64
     let mut sum: u32 = 0;
     let mut i: usize = 0;
     while i < end {
-        let words = words_of(slots[i], widths[i]);
+        let words = words_in_slots(slots[i], widths[i]);
         sum += words as u32;
         i += 1;
     }
@@ -66,7 +66,7 @@ pub fn total_in_bounds(sizes: Sizes) -> u16
     let mut sum: u16 = 0;
     let mut i: usize = 0;
     while i < 64 {
-        sum += words_of(slots[i], widths[i]);
+        sum += words_in_slots(slots[i], widths[i]);
         i += 1;
     }
     sum

@@ -22,6 +22,7 @@ pub mod Decode
 pub mod Scan
 -- What a call works on, and the frame of every call.
 pub mod World
+pub mod Moments
 pub mod Memory
 pub mod State
 pub mod Room

@@ -1,5 +1,5 @@
 // A record's difference XORed in out of a log's ring, and where all pages begin, found once for many records.
-use layout::places::words_of;
+use layout::places::words_in_slots;
 use model::Sizes;
 use words::xor_in;
 ghost use mathlib.Core.Path.{_≡_};
@@ -22,7 +22,7 @@ pub fn page_bases(sizes: Sizes) -> [u64; 64]
     let mut i: usize = 0;
     while i < 64 {
         bases[i] = sum;
-        let words = words_of(slots[i], widths[i]);
+        let words = words_in_slots(slots[i], widths[i]);
         sum += words as u64;
         i += 1;
     }

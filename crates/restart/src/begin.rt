@@ -24,6 +24,7 @@ ghost use lib.ListN.{length};
 ghost use Rattle.model.specs.Sizes.{total, logWords, sizesInBounds};
 ghost use Rattle.model.specs.Anchor.{anchorWords, sizesOn};
 ghost use Rattle.model.specs.World.{worldOf};
+ghost use Rattle.model.specs.Moments.{old, new, oldWorld};
 ghost use Rattle.model.specs.Call.{Gives, restartBegin};
 ghost use Rattle.restart.specs.Rest.{BeginsOn};
 
@@ -62,7 +63,8 @@ pub fn begin(
     logs: &[u64],
     work: &[u64],
 ) -> Reply
-    ensures { λ r. ⌜ Gives restartBegin core (worldOf (now (anchor .entry)) (now (pages .entry)) (now (backups .entry)) (now (logs .entry)) (now (work .entry))) r 0 (worldOf (now (anchor .entry)) (now (pages .exit)) (now (backups .entry)) (now (logs .entry)) (now (work .entry))) ⌝ }
+    ensures { λ r. ⌜ Gives restartBegin core (oldWorld anchor pages backups logs work)
+        r 0 (worldOf (old anchor) (new pages) (old backups) (old logs) (old work)) ⌝ }
 {
     let stage = core.stage;
     if !is_shut(stage) {

@@ -16,6 +16,7 @@ ghost use lib.ListN.{length};
 ghost use Rattle.model.specs.Sizes.{total};
 ghost use Rattle.model.specs.Anchor.{anchorWords};
 ghost use Rattle.model.specs.World.{worldOf};
+ghost use Rattle.model.specs.Moments.{old, new, oldWorld};
 ghost use Rattle.model.specs.Memory.{workWords};
 ghost use Rattle.model.specs.Restart.{restartEndTask};
 ghost use Rattle.model.specs.Call.{Gives, restartEnd};
@@ -56,7 +57,8 @@ pub fn end(
     work: &mut [u64],
     budget: &mut u64,
 ) -> Reply
-    ensures { λ r. ⌜ Gives (restartEnd (now (budget .entry))) core (worldOf (now (anchor .entry)) (now (pages .entry)) (now (backups .entry)) (now (logs .entry)) (now (work .entry))) r (now (budget .exit)) (worldOf (now (anchor .exit)) (now (pages .entry)) (now (backups .exit)) (now (logs .entry)) (now (work .exit))) ⌝ }
+    ensures { λ r. ⌜ Gives (restartEnd (old budget)) core (oldWorld anchor pages backups logs work)
+        r (new budget) (worldOf (new anchor) (old pages) (new backups) (old logs) (new work)) ⌝ }
 {
     let stage = core.stage;
     let allowed = is_replaying(stage);

@@ -29,6 +29,7 @@ ghost use Rattle.model.specs.declared.Sizes.{Sizes};
 ghost use Rattle.model.specs.Sizes.{total};
 ghost use Rattle.model.specs.Decode.{decodeAt};
 ghost use Rattle.model.specs.World.{worldOf};
+ghost use Rattle.model.specs.Moments.{old, new, oldWorld};
 ghost use Rattle.model.specs.Restart.{movedTo};
 ghost use Rattle.log.specs.Ring.{readRing, Ring, EntriesOf, Entries};
 ghost use Rattle.model.specs.Call.{Gives, restartRun};
@@ -260,7 +261,8 @@ pub fn run(
     logs: &[u64],
     work: &[u64],
 ) -> Reply
-    ensures { λ r. ⌜ Gives (restartRun source most) core (worldOf (now (anchor .entry)) (now (pages .entry)) (now (backups .entry)) (now (logs .entry)) (now (work .entry))) r 0 (worldOf (now (anchor .entry)) (now (pages .exit)) (now (backups .entry)) (now (logs .entry)) (now (work .entry))) ⌝ }
+    ensures { λ r. ⌜ Gives (restartRun source most) core (oldWorld anchor pages backups logs work)
+        r 0 (worldOf (old anchor) (new pages) (old backups) (old logs) (old work)) ⌝ }
 {
     let stage = core.stage;
     let allowed = is_replaying(stage);

@@ -21,6 +21,7 @@ ghost use Prim.Native.Nat.{ℕ, _*_, _<_};
 ghost use lib.ListN.{length};
 ghost use Rattle.model.specs.Sizes.{total};
 ghost use Rattle.model.specs.World.{worldOf};
+ghost use Rattle.model.specs.Moments.{old, new, oldWorld};
 ghost use Rattle.model.specs.Restart.{replays, movedTo};
 ghost use Rattle.model.specs.Call.{Gives, restartStep};
 ghost use Rattle.restart.specs.Rest.{Replays, OnLog, finished, StepsOn};
@@ -141,7 +142,8 @@ pub fn step(
     logs: &[u64],
     work: &[u64],
 ) -> Reply
-    ensures { λ r. ⌜ Gives (restartStep source) core (worldOf (now (anchor .entry)) (now (pages .entry)) (now (backups .entry)) (now (logs .entry)) (now (work .entry))) r 0 (worldOf (now (anchor .entry)) (now (pages .exit)) (now (backups .entry)) (now (logs .entry)) (now (work .entry))) ⌝ }
+    ensures { λ r. ⌜ Gives (restartStep source) core (oldWorld anchor pages backups logs work)
+        r 0 (worldOf (old anchor) (new pages) (old backups) (old logs) (old work)) ⌝ }
 {
     let stage = core.stage;
     let allowed = is_replaying(stage);

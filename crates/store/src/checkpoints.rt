@@ -6,8 +6,10 @@ use crate::hand_back;
 ghost use mathlib.Core.Path.{_≡_};
 ghost use mathlib.Core.Bool.{true};
 ghost use Rattle.model.specs.World.{worldOf};
+ghost use Rattle.model.specs.Moments.{old, new, oldWorld};
 ghost use Rattle.model.specs.State.{sound};
 ghost use Rattle.model.specs.Call.{checkpointBegin, checkpointStep, checkpointEnd, Gives};
+ghost use Rattle.store.specs.Handed.{replyOf};
 
 // Remembers each disk's end.
 pub fn checkpoint_begin(
@@ -18,7 +20,8 @@ pub fn checkpoint_begin(
     logs: &[u64],
     work: &[u64],
 ) -> Called
-    ensures { λ r. ⌜ Gives checkpointBegin (state .core) (worldOf (now (anchor .entry)) (now (pages .entry)) (now (backups .entry)) (now (logs .entry)) (now (work .entry))) (record { answer = r .answer; core = r .state .core }) 0 (worldOf (now (anchor .entry)) (now (pages .entry)) (now (backups .entry)) (now (logs .entry)) (now (work .entry))) ⌝ }
+    ensures { λ r. ⌜ Gives checkpointBegin (state .core) (oldWorld anchor pages backups logs work)
+        (replyOf r) 0 (oldWorld anchor pages backups logs work) ⌝ }
     ensures { λ r. ⌜ (sound (state .core) ≡ true → sound (r .state .core) ≡ true) ⌝ }
 {
     let core = core_of(state);
@@ -36,7 +39,8 @@ pub fn checkpoint_step(
     work: &mut [u64],
     budget: &mut u64,
 ) -> Called
-    ensures { λ r. ⌜ Gives (checkpointStep (now (budget .entry))) (state .core) (worldOf (now (anchor .entry)) (now (pages .entry)) (now (backups .entry)) (now (logs .entry)) (now (work .entry))) (record { answer = r .answer; core = r .state .core }) (now (budget .exit)) (worldOf (now (anchor .entry)) (now (pages .entry)) (now (backups .exit)) (now (logs .entry)) (now (work .exit))) ⌝ }
+    ensures { λ r. ⌜ Gives (checkpointStep (old budget)) (state .core) (oldWorld anchor pages backups logs work)
+        (replyOf r) (new budget) (worldOf (old anchor) (old pages) (new backups) (old logs) (new work)) ⌝ }
     ensures { λ r. ⌜ (sound (state .core) ≡ true → sound (r .state .core) ≡ true) ⌝ }
 {
     let core = core_of(state);
@@ -54,7 +58,8 @@ pub fn checkpoint_end(
     work: &[u64],
     budget: &mut u64,
 ) -> Called
-    ensures { λ r. ⌜ Gives (checkpointEnd (now (budget .entry))) (state .core) (worldOf (now (anchor .entry)) (now (pages .entry)) (now (backups .entry)) (now (logs .entry)) (now (work .entry))) (record { answer = r .answer; core = r .state .core }) (now (budget .exit)) (worldOf (now (anchor .exit)) (now (pages .entry)) (now (backups .entry)) (now (logs .exit)) (now (work .entry))) ⌝ }
+    ensures { λ r. ⌜ Gives (checkpointEnd (old budget)) (state .core) (oldWorld anchor pages backups logs work)
+        (replyOf r) (new budget) (worldOf (new anchor) (old pages) (old backups) (new logs) (old work)) ⌝ }
     ensures { λ r. ⌜ (sound (state .core) ≡ true → sound (r .state .core) ≡ true) ⌝ }
 {
     let core = core_of(state);

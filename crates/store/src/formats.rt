@@ -6,8 +6,10 @@ use crate::hand_back;
 ghost use mathlib.Core.Path.{_≡_};
 ghost use mathlib.Core.Bool.{true};
 ghost use Rattle.model.specs.World.{worldOf};
+ghost use Rattle.model.specs.Moments.{old, new, oldWorld};
 ghost use Rattle.model.specs.State.{sound};
 ghost use Rattle.model.specs.Call.{format, Gives};
+ghost use Rattle.store.specs.Handed.{replyOf};
 
 // The sizes come by value: P, D and W, the slots in each page, the words in each slot of that page.
 pub fn format(
@@ -24,7 +26,8 @@ pub fn format(
     work: &mut [u64],
     budget: &mut u64,
 ) -> Called
-    ensures { λ r. ⌜ Gives (format (record { pages = «pages_count»; disks = disks; ring = ring; slots = slots; widths = widths }) (now (budget .entry))) (state .core) (worldOf (now (anchor .entry)) (now (pages .entry)) (now (backups .entry)) (now (logs .entry)) (now (work .entry))) (record { answer = r .answer; core = r .state .core }) (now (budget .exit)) (worldOf (now (anchor .exit)) (now (pages .exit)) (now (backups .exit)) (now (logs .exit)) (now (work .exit))) ⌝ }
+    ensures { λ r. ⌜ Gives (format (record { pages = «pages_count»; disks = disks; ring = ring; slots = slots; widths = widths }) (old budget))
+        (state .core) (oldWorld anchor pages backups logs work) (replyOf r) (new budget) (worldOf (new anchor) (new pages) (new backups) (new logs) (new work)) ⌝ }
     ensures { λ r. ⌜ (sound (state .core) ≡ true → sound (r .state .core) ≡ true) ⌝ }
 {
     let core = core_of(state);

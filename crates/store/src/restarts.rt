@@ -6,9 +6,11 @@ use crate::hand_back;
 ghost use mathlib.Core.Path.{_≡_};
 ghost use mathlib.Core.Bool.{true};
 ghost use Rattle.model.specs.World.{worldOf};
+ghost use Rattle.model.specs.Moments.{old, new, oldWorld};
 ghost use Rattle.model.specs.State.{sound};
 ghost use Rattle.model.specs.Restart.{remaining};
 ghost use Rattle.model.specs.Call.{restartBegin, restartStep, restartRun, restartEnd, Gives};
+ghost use Rattle.store.specs.Handed.{replyOf};
 
 // Checks the devices, and zeroes the pages.
 pub fn restart_begin(
@@ -19,7 +21,8 @@ pub fn restart_begin(
     logs: &[u64],
     work: &[u64],
 ) -> Called
-    ensures { λ r. ⌜ Gives restartBegin (state .core) (worldOf (now (anchor .entry)) (now (pages .entry)) (now (backups .entry)) (now (logs .entry)) (now (work .entry))) (record { answer = r .answer; core = r .state .core }) 0 (worldOf (now (anchor .entry)) (now (pages .exit)) (now (backups .entry)) (now (logs .entry)) (now (work .entry))) ⌝ }
+    ensures { λ r. ⌜ Gives restartBegin (state .core) (oldWorld anchor pages backups logs work)
+        (replyOf r) 0 (worldOf (old anchor) (new pages) (old backups) (old logs) (old work)) ⌝ }
     ensures { λ r. ⌜ (sound (state .core) ≡ true → sound (r .state .core) ≡ true) ⌝ }
 {
     let core = core_of(state);
@@ -37,7 +40,8 @@ pub fn restart_step(
     logs: &[u64],
     work: &[u64],
 ) -> Called
-    ensures { λ r. ⌜ Gives (restartStep source) (state .core) (worldOf (now (anchor .entry)) (now (pages .entry)) (now (backups .entry)) (now (logs .entry)) (now (work .entry))) (record { answer = r .answer; core = r .state .core }) 0 (worldOf (now (anchor .entry)) (now (pages .exit)) (now (backups .entry)) (now (logs .entry)) (now (work .entry))) ⌝ }
+    ensures { λ r. ⌜ Gives (restartStep source) (state .core) (oldWorld anchor pages backups logs work)
+        (replyOf r) 0 (worldOf (old anchor) (new pages) (old backups) (old logs) (old work)) ⌝ }
     ensures { λ r. ⌜ (sound (state .core) ≡ true → sound (r .state .core) ≡ true) ⌝ }
 {
     let core = core_of(state);
@@ -56,7 +60,8 @@ pub fn restart_run(
     logs: &[u64],
     work: &[u64],
 ) -> Called
-    ensures { λ r. ⌜ Gives (restartRun source most) (state .core) (worldOf (now (anchor .entry)) (now (pages .entry)) (now (backups .entry)) (now (logs .entry)) (now (work .entry))) (record { answer = r .answer; core = r .state .core }) 0 (worldOf (now (anchor .entry)) (now (pages .exit)) (now (backups .entry)) (now (logs .entry)) (now (work .entry))) ⌝ }
+    ensures { λ r. ⌜ Gives (restartRun source most) (state .core) (oldWorld anchor pages backups logs work)
+        (replyOf r) 0 (worldOf (old anchor) (new pages) (old backups) (old logs) (old work)) ⌝ }
     ensures { λ r. ⌜ (sound (state .core) ≡ true → sound (r .state .core) ≡ true) ⌝ }
 {
     let core = core_of(state);
@@ -74,7 +79,8 @@ pub fn restart_end(
     work: &mut [u64],
     budget: &mut u64,
 ) -> Called
-    ensures { λ r. ⌜ Gives (restartEnd (now (budget .entry))) (state .core) (worldOf (now (anchor .entry)) (now (pages .entry)) (now (backups .entry)) (now (logs .entry)) (now (work .entry))) (record { answer = r .answer; core = r .state .core }) (now (budget .exit)) (worldOf (now (anchor .exit)) (now (pages .entry)) (now (backups .exit)) (now (logs .entry)) (now (work .exit))) ⌝ }
+    ensures { λ r. ⌜ Gives (restartEnd (old budget)) (state .core) (oldWorld anchor pages backups logs work)
+        (replyOf r) (new budget) (worldOf (new anchor) (old pages) (new backups) (old logs) (new work)) ⌝ }
     ensures { λ r. ⌜ (sound (state .core) ≡ true → sound (r .state .core) ≡ true) ⌝ }
 {
     let core = core_of(state);

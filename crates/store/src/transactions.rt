@@ -7,9 +7,11 @@ use model::Answer;
 ghost use mathlib.Core.Path.{_≡_};
 ghost use mathlib.Core.Bool.{true};
 ghost use Rattle.model.specs.World.{worldOf};
+ghost use Rattle.model.specs.Moments.{old, new, oldWorld};
 ghost use Rattle.model.specs.State.{sound};
 ghost use Rattle.model.specs.Transaction.{readWords};
 ghost use Rattle.model.specs.Call.{begin, update, read, commit, abort, look, Gives};
+ghost use Rattle.store.specs.Handed.{replyOf};
 
 // Answers the transaction's number.
 pub fn begin(
@@ -20,7 +22,8 @@ pub fn begin(
     logs: &[u64],
     work: &[u64],
 ) -> Called
-    ensures { λ r. ⌜ Gives begin (state .core) (worldOf (now (anchor .entry)) (now (pages .entry)) (now (backups .entry)) (now (logs .entry)) (now (work .entry))) (record { answer = r .answer; core = r .state .core }) 0 (worldOf (now (anchor .entry)) (now (pages .entry)) (now (backups .entry)) (now (logs .entry)) (now (work .entry))) ⌝ }
+    ensures { λ r. ⌜ Gives begin (state .core) (oldWorld anchor pages backups logs work)
+        (replyOf r) 0 (oldWorld anchor pages backups logs work) ⌝ }
     ensures { λ r. ⌜ (sound (state .core) ≡ true → sound (r .state .core) ≡ true) ⌝ }
 {
     let core = core_of(state);
@@ -42,7 +45,8 @@ pub fn update(
     work: &mut [u64],
     budget: &mut u64,
 ) -> Called
-    ensures { λ r. ⌜ Gives (update number page slot (now (value .entry)) (now (budget .entry))) (state .core) (worldOf (now (anchor .entry)) (now (pages .entry)) (now (backups .entry)) (now (logs .entry)) (now (work .entry))) (record { answer = r .answer; core = r .state .core }) (now (budget .exit)) (worldOf (now (anchor .entry)) (now (pages .exit)) (now (backups .entry)) (now (logs .exit)) (now (work .exit))) ⌝ }
+    ensures { λ r. ⌜ Gives (update number page slot (old value) (old budget)) (state .core) (oldWorld anchor pages backups logs work)
+        (replyOf r) (new budget) (worldOf (old anchor) (new pages) (old backups) (new logs) (new work)) ⌝ }
     ensures { λ r. ⌜ (sound (state .core) ≡ true → sound (r .state .core) ≡ true) ⌝ }
 {
     let core = core_of(state);
@@ -74,7 +78,7 @@ pub fn read<'a>(
     logs: &[u64],
     work: &[u64],
 ) -> &'a [u64]
-    ensures { λ r. ⌜ now r ≡ readWords (state .core) (worldOf (now (anchor .entry)) (now (pages .entry)) (now (backups .entry)) (now (logs .entry)) (now (work .entry))) reader page slot ⌝ }
+    ensures { λ r. ⌜ now r ≡ readWords (state .core) (oldWorld anchor pages backups logs work) reader page slot ⌝ }
 {
     access::read::read(
         state.core,
@@ -101,7 +105,8 @@ pub fn read_answer(
     logs: &[u64],
     work: &[u64],
 ) -> Answer
-    ensures { λ r. ⌜ Gives (look (read reader page slot)) (state .core) (worldOf (now (anchor .entry)) (now (pages .entry)) (now (backups .entry)) (now (logs .entry)) (now (work .entry))) (record { answer = r; core = state .core }) 0 (worldOf (now (anchor .entry)) (now (pages .entry)) (now (backups .entry)) (now (logs .entry)) (now (work .entry))) ⌝ }
+    ensures { λ r. ⌜ Gives (look (read reader page slot)) (state .core) (oldWorld anchor pages backups logs work)
+        (record { answer = r; core = state .core }) 0 (oldWorld anchor pages backups logs work) ⌝ }
 {
     access::read::read_answer(
         state.core,
@@ -127,7 +132,8 @@ pub fn commit(
     work: &mut [u64],
     budget: &mut u64,
 ) -> Called
-    ensures { λ r. ⌜ Gives (commit number (now (budget .entry))) (state .core) (worldOf (now (anchor .entry)) (now (pages .entry)) (now (backups .entry)) (now (logs .entry)) (now (work .entry))) (record { answer = r .answer; core = r .state .core }) (now (budget .exit)) (worldOf (now (anchor .entry)) (now (pages .entry)) (now (backups .entry)) (now (logs .exit)) (now (work .exit))) ⌝ }
+    ensures { λ r. ⌜ Gives (commit number (old budget)) (state .core) (oldWorld anchor pages backups logs work)
+        (replyOf r) (new budget) (worldOf (old anchor) (old pages) (old backups) (new logs) (new work)) ⌝ }
     ensures { λ r. ⌜ (sound (state .core) ≡ true → sound (r .state .core) ≡ true) ⌝ }
 {
     let core = core_of(state);
@@ -146,7 +152,8 @@ pub fn abort(
     work: &mut [u64],
     budget: &mut u64,
 ) -> Called
-    ensures { λ r. ⌜ Gives (abort number (now (budget .entry))) (state .core) (worldOf (now (anchor .entry)) (now (pages .entry)) (now (backups .entry)) (now (logs .entry)) (now (work .entry))) (record { answer = r .answer; core = r .state .core }) (now (budget .exit)) (worldOf (now (anchor .entry)) (now (pages .exit)) (now (backups .entry)) (now (logs .exit)) (now (work .exit))) ⌝ }
+    ensures { λ r. ⌜ Gives (abort number (old budget)) (state .core) (oldWorld anchor pages backups logs work)
+        (replyOf r) (new budget) (worldOf (old anchor) (new pages) (old backups) (new logs) (new work)) ⌝ }
     ensures { λ r. ⌜ (sound (state .core) ≡ true → sound (r .state .core) ≡ true) ⌝ }
 {
     let core = core_of(state);

@@ -1,51 +1,40 @@
--- Begin: its rows by the tests of the code.
-use mathlib.Core.Path.{_≡_, refl, _∙_}
-use mathlib.Core.List.{List, [], _∷_}
-use mathlib.Core.Bool.{Bool, true, false}
+-- Begin: what it gives, by the tests of the code after the common ones.
+use mathlib.Core.Path.{_≡_, refl}
 use Prim.Native.Nat.{ℕ, _≤_, _<_}
-use lib.Dec.{leb}
-use lib.ListN.{length}
 use borrow.Author.Tests.{le-leb, lt-leb}
 use Rattle.model.specs.declared.Core.{Core}
+use Rattle.model.specs.declared.Reply.{Reply}
 use Rattle.model.specs.World.{World}
-use Rattle.model.specs.State.{places, limit, placeOf}
-use Rattle.model.specs.Room.{noDisk, idlest}
-use Rattle.model.specs.Refusal.{Row, row, verdict, accepted, rejected}
+use Rattle.model.specs.State.{limit, placeOf}
+use Rattle.model.specs.Room.{idlest}
+use Rattle.model.specs.Refusal.{verdict}
 use Rattle.model.specs.Causes.{whenServing, tableFull, spent}
-use Rattle.model.specs.Transaction.{beginRows}
-use Rattle.frame.specs.Checks.{firstRefusal}
-use Rattle.frame.proofs.Verdicts.{first-refused, first-accepted}
+use Rattle.model.specs.Transaction.{beginRows, begun, beginTask}
+use Rattle.model.specs.Call.{begin, Gives}
+use Rattle.frame.specs.Checks.{CommonRefusal}
+use Rattle.frame.specs.Settle.{refusedWith, finishedWith}
+use Rattle.frame.proofs.Given.{given-refused, given-finished}
 
--- the rows after the first three
-abbrev laterRows : Core → List Row
-laterRows c = row 12 (tableFull c) ∷ row 13 (spent (c .next)) ∷ row 14 (leb noDisk (idlest c 2)) ∷ []
+module _ {c : Core} {w : World} {r : ℕ} (checks : CommonRefusal whenServing c w r) (none : r ≡ 0) {reply : Reply} where
+  pub begin-full : 16 ≤ placeOf (c .table) 0 → reply ≡ refusedWith c 12 0 0 → Gives begin c w reply 0 w
+  unfolding beginRows verdict tableFull
+  begin-full full e = given-refused checks begin refl none (rw (le-leb 16 (placeOf (c .table) 0) full) refl) e
 
-module _ (c : Core) (w : World) {a : Bool} {r : ℕ} (stage : a ≡ whenServing (c .stage))
-    (first : r ≡ firstRefusal a c (length (w .anchor)) (length (w .pages)) (length (w .backups)) (length (w .logs)) (length (w .work)))
-  where
-    pub begin-refused : (r ≡ 0 → ⊥) → verdict (beginRows c w) ≡ rejected r 0 0
-    unfolding beginRows
-    begin-refused some = first-refused whenServing c w stage first some _
+  module _ (place : placeOf (c .table) 0 < 16) where
+    pub begin-spent : limit ≤ c .next → reply ≡ refusedWith c 13 0 0 → Gives begin c w reply 0 w
+    unfolding beginRows verdict tableFull spent
+    begin-spent high e =
+        given-refused checks begin refl none (rw (lt-leb 16 (placeOf (c .table) 0) place, le-leb limit (c .next) high) refl) e
 
-    pub begin-full : r ≡ 0 → 16 ≤ placeOf (c .table) 0 → verdict (beginRows c w) ≡ rejected 12 0 0
-    unfolding beginRows verdict tableFull
-    begin-full none full = first-accepted whenServing c w stage first none (laterRows c) ∙ rw (le-leb 16 (placeOf (c .table) 0) full) refl
-
-    module _ (none : r ≡ 0) (place : placeOf (c .table) 0 < 16) where
-      pub begin-spent : limit ≤ c .next → verdict (beginRows c w) ≡ rejected 13 0 0
+    module _ (low : c .next < limit) where
+      pub begin-crowded : 8 ≤ idlest c 2 → reply ≡ refusedWith c 14 0 0 → Gives begin c w reply 0 w
       unfolding beginRows verdict tableFull spent
-      begin-spent high =
-          first-accepted whenServing c w stage first none (laterRows c)
-          ∙ rw (lt-leb 16 (placeOf (c .table) 0) place, le-leb limit (c .next) high) refl
+      begin-crowded no-disk e =
+          given-refused checks begin refl none
+          (rw (lt-leb 16 (placeOf (c .table) 0) place, lt-leb limit (c .next) low, le-leb 8 (idlest c 2) no-disk) refl) e
 
-      pub begin-crowded : c .next < limit → 8 ≤ idlest c 2 → verdict (beginRows c w) ≡ rejected 14 0 0
-      unfolding beginRows verdict tableFull spent
-      begin-crowded low no-disk =
-          first-accepted whenServing c w stage first none (laterRows c)
-          ∙ rw (lt-leb 16 (placeOf (c .table) 0) place, lt-leb limit (c .next) low, le-leb 8 (idlest c 2) no-disk) refl
-
-      pub begin-accepted : c .next < limit → idlest c 2 < 8 → verdict (beginRows c w) ≡ accepted
-      unfolding beginRows verdict tableFull spent
-      begin-accepted low disk =
-          first-accepted whenServing c w stage first none (laterRows c)
-          ∙ rw (lt-leb 16 (placeOf (c .table) 0) place, lt-leb limit (c .next) low, lt-leb 8 (idlest c 2) disk) refl
+      pub begin-given : idlest c 2 < 8 → {core : Core} → core ≡ begun c → reply ≡ finishedWith core (c .next) → Gives begin c w reply 0 w
+      unfolding beginRows verdict tableFull spent beginTask
+      begin-given disk same e =
+          given-finished checks begin refl none
+          (rw (lt-leb 16 (placeOf (c .table) 0) place, lt-leb limit (c .next) low, lt-leb 8 (idlest c 2) disk) refl) refl refl same e

@@ -1,4 +1,4 @@
--- Commit: its rows by the tests of the code, and its task as an append and a flush under one budget.
+-- Commit: its task as an append and a flush under one budget, and what it gives.
 use mathlib.Core.Path.{_≡_, refl, sym, ap, _∙_}
 use mathlib.Core.List.{List, [], _∷_}
 use mathlib.Core.Bool.{Bool, true, false, not}
@@ -20,6 +20,7 @@ use Rattle.model.specs.Refusal.{row, verdict, accepted, rejected}
 use Rattle.model.specs.Causes.{whenServing, notOpen}
 use Rattle.model.specs.Append.{appendIf, append, flush}
 use Rattle.model.specs.Transaction.{diskOf, commitRows, commitTask}
+use Rattle.model.specs.Call.{commit, Gives}
 use Rattle.model.proofs.Booleans.{true-false}
 use Rattle.model.proofs.Growth.{SizedLogs}
 use Rattle.model.proofs.Store.Accepted.{disks-max, open-below}
@@ -27,29 +28,13 @@ use Rattle.device.specs.Ran.{Ran, withSlices}
 use Rattle.device.proofs.Ran.{ran-then, ran-cut, ran-whole}
 use Rattle.log.specs.declared.write.Logged.{Logged}
 use Rattle.log.specs.Write.{Appends}
-use Rattle.frame.specs.Checks.{firstRefusal}
+use Rattle.frame.specs.Checks.{CommonRefusal}
 use Rattle.log.specs.declared.write.Home.{Home}
 use Rattle.frame.specs.Home.{homeOf, withDisk}
-use Rattle.frame.specs.Settle.{settled, Concludes}
+use Rattle.frame.specs.Settle.{refusedWith, settled}
 use Rattle.txn.specs.Tasks.{closing}
-use Rattle.frame.proofs.Homes.{disk-there}
-use Rattle.frame.proofs.Verdicts.{first-refused, first-accepted, task-settled}
-
--- The rows.
-module _ (c : Core) (w : World) (number : ℕ) {a : Bool} {r : ℕ} (stage : a ≡ whenServing (c .stage))
-    (first : r ≡ firstRefusal a c (length (w .anchor)) (length (w .pages)) (length (w .backups)) (length (w .logs)) (length (w .work)))
-  where
-    pub commit-refused : (r ≡ 0 → ⊥) → verdict (commitRows c w number) ≡ rejected r 0 0
-    unfolding commitRows
-    commit-refused some = first-refused whenServing c w stage first some (row 9 (notOpen c number) ∷ [])
-
-    pub commit-unopened : r ≡ 0 → isOpen (c .table) number ≡ false → verdict (commitRows c w number) ≡ rejected 9 0 0
-    unfolding commitRows verdict notOpen
-    commit-unopened none shut = first-accepted whenServing c w stage first none (row 9 (notOpen c number) ∷ []) ∙ rw shut refl
-
-    pub commit-accepted : r ≡ 0 → isOpen (c .table) number ≡ true → verdict (commitRows c w number) ≡ accepted
-    unfolding commitRows verdict notOpen
-    commit-accepted none opened = first-accepted whenServing c w stage first none (row 9 (notOpen c number) ∷ []) ∙ rw opened refl
+use Rattle.frame.proofs.Given.{given-refused, given-settled}
+use Rattle.frame.proofs.Homes.{serves-common, disk-there}
 
 -- a disk whose buffer came to n words, flushed
 flushed-fill : (l : Logs) (disk n : ℕ) → disk < length (l .fills) → afterFlush (withFill l disk n) disk ≡ withDisk l disk (tailOf l disk + n) 0
@@ -108,16 +93,22 @@ committed-logs c w number sized below =
         rw (ends, two) (sym (flushed-fill l disk (fillOf l disk + 2) (omega (arith, sized .fills))))
     go false = rw two (sym (flushed-twice l disk (omega (arith, sized .tails)) (omega (arith, sized .fills))))
 
--- The task of a commit, settled.
-pub commit-settled : (c : Core) (w v : World) (number : ℕ) {h : Home} {budget rest : ℕ} {whole : Bool} {reply : Reply}
-    → servingSound c ≡ true → isOpen (c .table) number ≡ true → SizedLogs (c .logs) → h ≡ homeOf (c .sizes) (c .logs) (diskOf c number)
-    → (h .disk < length (c .logs .tails) → h .disk < length (c .logs .fills) → Ran budget rest (closing (c .sizes) (c .logs) w (h .disk) number) w v whole)
-    → reply ≡ settled whole budget rest 0 (withLog c (withDisk (c .logs) (h .disk) (h .tail + h .fill + 2) 0) (without (c .table) number))
-    → Concludes budget rest (commitTask c w number) w v reply
-unfolding commitTask closing homeOf
-commit-settled c w v number {whole} sound opened sized e ran reply =
-    let eight : diskOf c number < 8 = omega (arith, open-below c number sound opened, disks-max c sound) in
-    let there = disk-there (c .sizes) (c .logs) (diskOf c number) e in
-    task-settled {whole = whole} (commitTask c w number)
-    (rw e at (ran (omega (arith, there, eight, sized .tails)) (omega (arith, there, eight, sized .fills)))) reply
-    (λ _. rw e (committed-logs c w number sized eight))
+-- What a commit gives, after the common checks.
+module _ {c : Core} {w : World} {r : ℕ} (checks : CommonRefusal whenServing c w r) (none : r ≡ 0) (number budget : ℕ) {reply : Reply} where
+  pub commit-unopened : isOpen (c .table) number ≡ false → reply ≡ refusedWith c 9 0 0 → Gives (commit number budget) c w reply budget w
+  unfolding commitRows verdict notOpen
+  commit-unopened shut e = given-refused checks (commit number budget) refl none (rw shut refl) e
+
+  pub commit-given : isOpen (c .table) number ≡ true → SizedLogs (c .logs) → {h : Home} → h ≡ homeOf (c .sizes) (c .logs) (diskOf c number)
+      → {rest : ℕ} {v : World} {whole : Bool}
+      → (h .disk < length (c .logs .tails) → h .disk < length (c .logs .fills) → Ran budget rest (closing (c .sizes) (c .logs) w (h .disk) number) w v whole)
+      → {core : Core} → core ≡ withLog c (withDisk (c .logs) (h .disk) (h .tail + h .fill + 2) 0) (without (c .table) number)
+      → reply ≡ settled whole budget rest 0 core → Gives (commit number budget) c w reply rest v
+  unfolding commitRows verdict notOpen commitTask closing homeOf
+  commit-given opened sized e ran same reply =
+      let sound = serves-common checks none .state in
+      let eight : diskOf c number < 8 = omega (arith, open-below c number sound opened, disks-max c sound) in
+      let there = disk-there (c .sizes) (c .logs) (diskOf c number) e in
+      given-settled checks (commit number budget) refl none (rw opened refl)
+      (rw e at (ran (omega (arith, there, eight, sized .tails)) (omega (arith, there, eight, sized .fills))))
+      (λ _. same ∙ rw e (committed-logs c w number sized eight)) reply

@@ -1,8 +1,8 @@
 // Begin: the next number, and the idlest disk with log room.
-use frame::checks::first_refusal;
+use frame::checks::common_refusal;
+use frame::settle::finish;
 use frame::settle::refuse;
-use frame::stages::is_serving;
-use model::Answer;
+use frame::stages::When;
 use model::Core;
 use model::Reply;
 use table::place::place_of;
@@ -11,7 +11,7 @@ use table::room::LIMIT;
 use table::room::idlest;
 ghost use mathlib.Core.Path.{_≡_};
 ghost use Prim.Native.Nat.{_≤_, _<_};
-ghost use Rattle.model.specs.World.{worldOf};
+ghost use Rattle.model.specs.Moments.{oldWorld};
 ghost use Rattle.model.specs.State.{placeOf, limit};
 ghost use Rattle.model.specs.Room.{idlest};
 ghost use Rattle.model.specs.Transaction.{begun};
@@ -38,11 +38,10 @@ pub fn begin(
     logs: &[u64],
     work: &[u64],
 ) -> Reply
-    ensures { λ r. ⌜ Gives begin core (worldOf (now (anchor .entry)) (now (pages .entry)) (now (backups .entry)) (now (logs .entry)) (now (work .entry))) r 0 (worldOf (now (anchor .entry)) (now (pages .entry)) (now (backups .entry)) (now (logs .entry)) (now (work .entry))) ⌝ }
+    ensures { λ r. ⌜ Gives begin core (oldWorld anchor pages backups logs work)
+        r 0 (oldWorld anchor pages backups logs work) ⌝ }
 {
-    let stage = core.stage;
-    let allowed = is_serving(stage);
-    let refusal = first_refusal(allowed, core, anchor, pages, backups, logs, work);
+    let refusal = common_refusal(When::Serving, core, anchor, pages, backups, logs, work);
     if refusal != 0 {
         return refuse(core, refusal);
     }
@@ -57,11 +56,5 @@ pub fn begin(
     if disk >= 8 {
         return refuse(core, 14);
     }
-    Reply {
-        answer: Answer::Finished {
-            stores: 0,
-            value: core.next,
-        },
-        core: enter(core, place, disk),
-    }
+    finish(enter(core, place, disk), core.next)
 }

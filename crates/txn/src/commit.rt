@@ -1,10 +1,10 @@
 // Commit: the closing record, and a flush of its disk. The slots are released with the transaction's place in the table.
-use frame::checks::first_refusal;
+use frame::checks::common_refusal;
 use frame::home::home_of_transaction;
 use frame::home::with_disk;
 use frame::settle::refuse;
 use frame::settle::settle;
-use frame::stages::is_serving;
+use frame::stages::When;
 use log::write::Home;
 use log::write::append_close;
 use log::write::flush_disk;
@@ -18,6 +18,7 @@ ghost use lib.ListN.{length};
 ghost use Rattle.model.specs.declared.Sizes.{Sizes};
 ghost use Rattle.model.specs.declared.Logs.{Logs};
 ghost use Rattle.model.specs.World.{World, worldOf};
+ghost use Rattle.model.specs.Moments.{old, new, oldWorld};
 ghost use Rattle.model.specs.State.{limit, withLog, without};
 ghost use Rattle.model.specs.Call.{commit, Gives};
 ghost use Rattle.device.specs.Ran.{Ran, withSlices};
@@ -75,11 +76,10 @@ pub fn commit(
     work: &mut [u64],
     budget: &mut u64,
 ) -> Reply
-    ensures { λ r. ⌜ Gives (commit number (now (budget .entry))) core (worldOf (now (anchor .entry)) (now (pages .entry)) (now (backups .entry)) (now (logs .entry)) (now (work .entry))) r (now (budget .exit)) (worldOf (now (anchor .entry)) (now (pages .entry)) (now (backups .entry)) (now (logs .exit)) (now (work .exit))) ⌝ }
+    ensures { λ r. ⌜ Gives (commit number (old budget)) core (oldWorld anchor pages backups logs work)
+        r (new budget) (worldOf (old anchor) (old pages) (old backups) (new logs) (new work)) ⌝ }
 {
-    let stage = core.stage;
-    let allowed = is_serving(stage);
-    let refusal = first_refusal(allowed, core, anchor, pages, backups, logs, work);
+    let refusal = common_refusal(When::Serving, core, anchor, pages, backups, logs, work);
     if refusal != 0 {
         return refuse(core, refusal);
     }
@@ -88,9 +88,6 @@ pub fn commit(
     }
     let before = *budget;
     let home = home_of_transaction(core, work.len(), number);
-    if !store_close(home, number, logs, work, budget) {
-        return settle(false, before, *budget, 0, core);
-    }
-    let next = closed_core(core, number, home);
-    settle(true, before, *budget, 0, next)
+    let whole = store_close(home, number, logs, work, budget);
+    settle(whole, before, *budget, 0, closed_core(core, number, home))
 }

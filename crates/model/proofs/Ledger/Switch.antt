@@ -20,7 +20,7 @@ use Rattle.model.proofs.Ledger.Close.{adds-close}
 -- position on, every other transaction is closed, and the changes before the remembered ends (`marks`) are in the backup that now counts.
 pub record Placed (O : ℕ → Bool) (first marks : ℕ → ℕ) (c : ℕ) (F B : List Entry) : Type 0 where
   pub opened : All (λ r. O (r .number) ≡ true → first (r .number) ≤ r .position) (F ++ B)
-  pub settled : All (λ r. O (r .number) ≡ false → closedIn (F ++ B) (r .number) ≡ true) (F ++ B)
+  pub closed-or-open : All (λ r. O (r .number) ≡ false → closedIn (F ++ B) (r .number) ≡ true) (F ++ B)
   pub early : All (λ r. r .position < marks (r .disk) → isClose r ≡ false → r .copy ≤ c) (F ++ B)
 
 -- Entries, each transaction's on one disk and its closing record last: it is kept with any other.
@@ -64,7 +64,7 @@ module _ {disks : ℕ} {start home : ℕ → ℕ} {F B : List Entry} (o : Ordere
     pub placed-from-start : ((d : ℕ) → d < disks → boundary (start' d) (start d) (on d F) ≡ true) → Placed O first marks c (pick (fromStart start') F) B
     placed-from-start cut = record {
       opened = all-from-start o start' _ (p .opened);
-      settled = all-zip (λ r same h no. same ∙ h no) (pick (fromStart start') F ++ B) (from-start-closed-all cut) (all-from-start o start' _ (p .settled));
+      closed-or-open = all-zip (λ r same h no. same ∙ h no) (pick (fromStart start') F ++ B) (from-start-closed-all cut) (all-from-start o start' _ (p .closed-or-open));
       early = all-from-start o start' _ (p .early);
     }
 
@@ -91,7 +91,7 @@ module _ {disks : ℕ} {start home : ℕ → ℕ} {F B : List Entry} (o : Ordere
     pub switch-closed : All (λ r. O (r .number) ≡ true → start' (r .disk) ≤ first (r .number)) F
         → All (λ r. closedIn (F ++ B) (r .number) ≡ true) (pick (λ r. not (fromStart start' r)) F)
     switch-closed reach = all-zip one (pick (λ r. not (fromStart start' r)) F) (pick-all _ F)
-        (all-pick _ (λ r. not (fromStart start' r)) F (all-zip (λ r a b. (a, b)) F (all-zip (λ r a b. (a, b)) F reach (all-left _ F B (p .opened))) (all-left _ F B (p .settled))))
+        (all-pick _ (λ r. not (fromStart start' r)) F (all-zip (λ r a b. (a, b)) F (all-zip (λ r a b. (a, b)) F reach (all-left _ F B (p .opened))) (all-left _ F B (p .closed-or-open))))
       where
         one : (r : Entry) → not (fromStart start' r) ≡ true
             → ((O (r .number) ≡ true → start' (r .disk) ≤ first (r .number)) × (O (r .number) ≡ true → first (r .number) ≤ r .position))

@@ -64,7 +64,7 @@ abort-begins {F = F} {B = B} t g =
             disks = g .accounts .disks;
             started = g .accounts .started;
             reserved = λ u o ne. g .accounts .reserved u o (open-place _ u o .0);
-            settled = g .accounts .settled;
+            closed-or-open = g .accounts .closed-or-open;
             numbered = g .accounts .numbered;
           };
       copies = g .copies;

@@ -120,7 +120,7 @@ module _ {home : ℕ → ℕ} {puts : Told} {c : Core} {w : World} {r : Referenc
             newly ok v t (reservedAt T (placeOf T t) ≡ 2 + wordsFor t (F ++ B)) o
             (λ q. rw (q, new-reserved ok v, words-for-none (c .next) (F ++ B) (v .accounts .numbered)))
             (λ p. same-reserved ok v t p ∙ v .accounts .reserved t p ne);
-        settled = all-map (λ e h s. h (or-none _ _ (sym (open-after ok v (e .number)) ∙ s) .0)) (F ++ B) (v .accounts .settled);
+        closed-or-open = all-map (λ e h s. h (or-none _ _ (sym (open-after ok v (e .number)) ∙ s) .0)) (F ++ B) (v .accounts .closed-or-open);
         numbered = all-map (λ e l. omega arith) (F ++ B) (v .accounts .numbered);
       }
     where

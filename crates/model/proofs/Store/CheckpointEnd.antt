@@ -69,12 +69,12 @@ module _ {puts : Told} {c : Core} {w : World} {r : Reference} (g : Served puts c
   abbrev mid : World
   mid = perform flushing w
 
-  settled : Serving 0 (g .home) puts full mid r (emptied .flushed) []
-  settled = rw (none-buffered emptied) at (emptied .serving)
+  all-flushed : Serving 0 (g .home) puts full mid r (emptied .flushed) []
+  all-flushed = rw (none-buffered emptied) at (emptied .serving)
 
   number : epochOn (mid .anchor) ≡ c .epoch
   unfolding withLog
-  number = settled .safe .devices .epoch
+  number = all-flushed .safe .devices .epoch
 
   few : c .sizes .disks ≤ 8
   few = g .serving .safe .devices .arrays .disks
@@ -90,7 +90,7 @@ module _ {puts : Told} {c : Core} {w : World} {r : Reference} (g : Served puts c
 
   moved : Moved (full .epoch) (newStart full) (full .sizes .disks) mid (perform last mid)
   unfolding withLog newStart
-  moved = end-moved (c .epoch) (newStart c) (c .sizes .disks) mid few (settled .safe .devices .anchor)
+  moved = end-moved (c .epoch) (newStart c) (c .sizes .disks) mid few (all-flushed .safe .devices .anchor)
 
   -- what is then told of the logs
   abbrev started : Told
@@ -99,7 +99,7 @@ module _ {puts : Told} {c : Core} {w : World} {r : Reference} (g : Served puts c
   switched : Serving 0 (g .home) started (switchedCore full) (perform last mid) r (pick (fromStart (newStart full)) (emptied .flushed)) []
   unfolding withLog
   switched =
-      switch-serving settled (copying-not-open c (found .stage))
+      switch-serving all-flushed (copying-not-open c (found .stage))
       (all-copied c (g .serving .safe .devices .bounds .pages-min) (found .copied)) moved (perform-lengths last mid)
 
   -- a flush does not move the end of a log, so the tails are the ends at entry
@@ -129,5 +129,5 @@ module _ {puts : Told} {c : Core} {w : World} {r : Reference} (g : Served puts c
       go false e =
           let l = ltb-false budget (stores flushing) e in
           rw (run-append budget flushing last w l)
-          (end-cut (c .epoch) (newStart c) (c .sizes .disks) mid few number (kept (settled .safe) puts (settled .told))
+          (end-cut (c .epoch) (newStart c) (c .sizes .disks) mid few number (kept (all-flushed .safe) puts (all-flushed .told))
           (budget - stores flushing) (omega (arith, stores-append flushing last, less)))

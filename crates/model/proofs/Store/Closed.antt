@@ -145,8 +145,8 @@ module _ {x : ℕ} {home : ℕ → ℕ} {c : Core} {F B : List Entry} (a : Accou
   reserved-same u o = reserved-kept (c .table) (a .tabled) (e .number) opened u (open-before u o .0) (open-before u o .1)
 
   -- a transaction that is not open is closed in the log, now also this one
-  settled : (t : ℕ) → (isOpen (c .table) t ≡ false → closedIn (F ++ B) t ≡ true) → isOpen table t ≡ false → closedIn (L ++ M) t ≡ true
-  settled t h o = closed t ∙ go (ℕ-discrete (e .number) t)
+  closed-or-open : (t : ℕ) → (isOpen (c .table) t ≡ false → closedIn (F ++ B) t ≡ true) → isOpen table t ≡ false → closedIn (L ++ M) t ≡ true
+  closed-or-open t h o = closed t ∙ go (ℕ-discrete (e .number) t)
     where
       go : Dec (e .number ≡ t) → (closedIn (F ++ B) t || eqb (e .number) t) ≡ true
       go (yes k) = rw (eq-eqb (e .number) t k) (or-true (closedIn (F ++ B) t))
@@ -175,8 +175,8 @@ module _ {x : ℕ} {home : ℕ → ℕ} {c : Core} {F B : List Entry} (a : Accou
         reserved =
             λ u o z. let k = open-before u o in
             reserved-same u o ∙ a .reserved u (k .0) (exempt u (k .1) (k .0)) ∙ ap (λ (n : ℕ). 2 + n) (sym (words u (k .1)));
-        settled =
-            moved _ (all-map (λ q h. settled (q .number) h) (F ++ B) (a .settled)) (settled (e .number) (λ o. true-false opened o));
+        closed-or-open =
+            moved _ (all-map (λ q h. closed-or-open (q .number) h) (F ++ B) (a .closed-or-open)) (closed-or-open (e .number) (λ o. true-false opened o));
         numbered = moved _ (a .numbered) known;
       }
 

@@ -63,7 +63,7 @@ module _ {x : ℕ} {home : ℕ → ℕ} {c : Core} {w : World} {r : Reference} {
         disks = λ u o. rw (k .disks u (was u o)) (a .disks u (was u o));
         started = λ u o h. begun u (was u o) h (ℕ-discrete u (e .number));
         reserved = λ u o n. kept u (was u o) n (ℕ-discrete u (e .number));
-        settled = all-more _ F B e (all-map (λ q h o. more q (h (sym (k .opened (q .number)) ∙ o))) (F ++ B) (a .settled)) (λ o. true-false (k .open?) (sym (k .opened (e .number)) ∙ o));
+        closed-or-open = all-more _ F B e (all-map (λ q h o. more q (h (sym (k .opened (q .number)) ∙ o))) (F ++ B) (a .closed-or-open)) (λ o. true-false (k .open?) (sym (k .opened (e .number)) ∙ o));
         numbered = all-more _ F B e (a .numbered) less;
       }
     where

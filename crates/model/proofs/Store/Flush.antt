@@ -172,7 +172,7 @@ module _ {x : ℕ} {home : ℕ → ℕ} {puts : Told} {c : Core} {w : World} {r 
         disks = g .accounts .disks;
         started = λ t o h. some-flush (λ e. eqb (e .number) t && eqb (e .position) (firstAt (c .table) (placeOf (c .table) t))) (onDisk d) F B ∙ g .accounts .started t o h;
         reserved = λ t o ne. g .accounts .reserved t o ne ∙ ap (λ (n : ℕ). 2 + n) (sym (words-for-flush t (onDisk d) F B));
-        settled = moved _ (all-map (λ e h o. closed-flush (onDisk d) F B (e .number) ∙ h o) (F ++ B) (g .accounts .settled));
+        closed-or-open = moved _ (all-map (λ e h o. closed-flush (onDisk d) F B (e .number) ∙ h o) (F ++ B) (g .accounts .closed-or-open));
         numbered = moved _ (g .accounts .numbered);
       }
 

@@ -168,7 +168,7 @@ module _ {s : Sizes} {n : ℕ} {tails : List ℕ} {v : World} {r : Reference} (f
         disks = λ t o. never t o;
         started = λ t o. never t o;
         reserved = λ t o. never t o;
-        settled = tt;
+        closed-or-open = tt;
         numbered = tt;
       }
 

@@ -163,7 +163,7 @@ module _ {home : ℕ → ℕ} {puts : Told} {c : Core} {w : World} {r : Referenc
   placed =
       record {
         opened = all-map (λ e h o. h o .first) (F ++ []) (open-entries (isOpen (c .table)) (Own 0 c) (F ++ []) (g .accounts .own));
-        settled = g .accounts .settled;
+        closed-or-open = g .accounts .closed-or-open;
         early = all-map (λ e h l. h (rw (copying, lt-ltb (e .position) (getD (c .checkpoint .ends) (e .disk) 0) l))) (F ++ []) (g .copies .early);
       }
 

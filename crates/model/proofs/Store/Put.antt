@@ -125,7 +125,7 @@ module _ {x : ℕ} {home : ℕ → ℕ} {puts : Told} {c : Core} {w : World} {r 
         disks = a .disks;
         started = a .started;
         reserved = a .reserved;
-        settled = a .settled;
+        closed-or-open = a .closed-or-open;
         numbered = a .numbered;
       }
 

@@ -47,7 +47,7 @@ accounts-same {x} {home} {c} {e} {F} {B} table logs next sizes v =
       disks = λ t. rw (table, sizes) (v .disks t);
       started = λ t. rw table (v .started t);
       reserved = λ t. rw table (v .reserved t);
-      settled = all-map (λ r h. rw table h) (F ++ B) (v .settled);
+      closed-or-open = all-map (λ r h. rw table h) (F ++ B) (v .closed-or-open);
       numbered = all-map (λ r h. rw next h) (F ++ B) (v .numbered);
     }
   where

@@ -202,7 +202,7 @@ module _ {home : ℕ → ℕ} {puts : Told} {c : Core} {w : World} {r : Referenc
           disks = g .accounts .disks;
           started = first-stays g copying copied;
           reserved = reserved-stays g copying copied;
-          settled = placed-from-start (g .safe .ordered) (newStart c) (placed g copying copied) cut .settled;
+          closed-or-open = placed-from-start (g .safe .ordered) (newStart c) (placed g copying copied) cut .closed-or-open;
           numbered = thin _ (g .accounts .numbered);
         }
 

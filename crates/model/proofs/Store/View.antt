@@ -115,7 +115,7 @@ pub record Accounts (x : ℕ) (home : ℕ → ℕ) (c : Core) (F B : List Entry)
       → some (λ e. eqb (e .number) t && eqb (e .position) (firstAt (c .table) (placeOf (c .table) t))) (F ++ B) ≡ true
   pub reserved : (t : ℕ) → isOpen (c .table) t ≡ true → (t ≡ x → ⊥) → reservedAt (c .table) (placeOf (c .table) t) ≡ 2 + wordsFor t (F ++ B)
   -- every other transaction of the log is closed in it
-  pub settled : All (λ e. isOpen (c .table) (e .number) ≡ false → closedIn (F ++ B) (e .number) ≡ true) (F ++ B)
+  pub closed-or-open : All (λ e. isOpen (c .table) (e .number) ≡ false → closedIn (F ++ B) (e .number) ≡ true) (F ++ B)
   pub numbered : All (λ e. e .number < c .next) (F ++ B)
 
 -- an entry that the checkpoint under way found when it began; in stage open, any

@@ -23,7 +23,7 @@ loop-holds c = search needs
 
 loop-again : tie.Need-loop-again Inv-loop μ-loop
 loop-again c =
-    (omega arith, omega arith, rw (sum-step, c .words-of .ensures, c .before .before .loop .inv .2))
+    (omega arith, omega arith, rw (sum-step, c .words-in-slots .ensures, c .before .before .loop .inv .2))
 
 returns : tie.Need-returns Inv-loop μ-loop
 unfolding pageBase pageWords slotsIn widthIn

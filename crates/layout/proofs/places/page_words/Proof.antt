@@ -6,7 +6,7 @@ use Rattle.layout.proofs.places.page_words.Tie as tie
 
 returns : tie.Need-returns
 unfolding pageWords slotsIn widthIn
-returns c = (c .words-of .ensures, omega arith)
+returns c = (c .words-in-slots .ensures, omega arith)
 
 pub page-words-spec : {M : Type 1} → statement M
 page-words-spec =

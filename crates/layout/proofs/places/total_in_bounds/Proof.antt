@@ -24,13 +24,13 @@ loop-holds c = search needs
 
 add-sum : tie.Need-add-sum Inv-loop μ-loop
 unfolding pageWords slotsIn widthIn
-add-sum c = omega (arith, c .words-of .ensures, page-small (c .before .before .before .before .before .args .sizes) (c .before .before .before .before .before .pre) (c .before .before .loop .i) (omega arith))
+add-sum c = omega (arith, c .words-in-slots .ensures, page-small (c .before .before .before .before .before .args .sizes) (c .before .before .before .before .before .pre) (c .before .before .loop .i) (omega arith))
 
 loop-again : tie.Need-loop-again Inv-loop μ-loop
 unfolding pageWords slotsIn widthIn
 loop-again c =
     let small = page-small (c .before .before .before .before .before .args .sizes) (c .before .before .before .before .before .pre) (c .before .before .loop .i) (omega arith) in
-    (omega arith, omega (arith, c .words-of .ensures, small), rw (sum-step, c .words-of .ensures, c .before .before .loop .inv .2))
+    (omega arith, omega (arith, c .words-in-slots .ensures, small), rw (sum-step, c .words-in-slots .ensures, c .before .before .loop .inv .2))
 
 returns : tie.Need-returns Inv-loop μ-loop
 unfolding pageBase pageWords slotsIn widthIn

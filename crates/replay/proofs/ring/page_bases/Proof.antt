@@ -32,7 +32,7 @@ loop-again c =
       omega arith,
       simp length-set (inv .1),
       omega arith,
-      rw (sum-step, c .words-of .ensures, inv .3),
+      rw (sum-step, c .words-in-slots .ensures, inv .3),
       sums-more (λ p. getD (s .slots) p 0 * getD (s .widths) p 0) (at-loop .loop .bases) (at-loop .loop .i) (at-loop .loop .sum) (omega arith) (inv .3) (inv .4),
     )
 

@@ -3,8 +3,8 @@ use mathlib.Core.Path.{refl}
 use native.Mathlib.Omega.{arith}
 use borrow.Author.Needs.{needs}
 use Rattle.layout.proofs.Laws.{product-max}
-use Rattle.layout.proofs.places.words_of.Statement.{statement}
-use Rattle.layout.proofs.places.words_of.Tie as tie
+use Rattle.layout.proofs.places.words_in_slots.Statement.{statement}
+use Rattle.layout.proofs.places.words_in_slots.Tie as tie
 
 mul-result : tie.Need-mul-result
 mul-result c = record { fits = omega (arith, product-max (c .args .slots) (c .args .width) 255 255 (search needs) (search needs)) }
@@ -12,5 +12,5 @@ mul-result c = record { fits = omega (arith, product-max (c .args .slots) (c .ar
 returns : tie.Need-returns
 returns c = refl
 
-pub words-of-spec : {M : Type 1} → statement M
-words-of-spec = tie.close (tie.spec mul-result returns)
+pub words-in-slots-spec : {M : Type 1} → statement M
+words-in-slots-spec = tie.close (tie.spec mul-result returns)
