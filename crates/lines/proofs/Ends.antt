@@ -18,11 +18,11 @@ unfolding fields afterName fieldsMean allNumbers
 end-in-name p start short = rw (in-name p [] start short, append-nil)
 
 module _ (p : Partial) (begun : 1 ≤ p .count) (few : p .count ≤ 4) (short : p .length ≤ 7) where
-  pub end-missing : p .bare ≡ true → commandAfter p [] ≡ Other
+  pub end-missing : p .empty ≡ true → commandAfter p [] ≡ Other
   unfolding fields afterNumber
   end-missing e = rw (in-number p [] begun few short, e)
 
-  pub end-in-number : p .bare ≡ false → length (p .values) ≡ 4 → p .value < 2 ^ 64 →
+  pub end-in-number : p .empty ≡ false → length (p .values) ≡ 4 → p .value < 2 ^ 64 →
       formOf (take (p .length) (p .name)) (take (p .count) (set (p .values) (p .count - 1) (p .value))) ≡ commandAfter p []
   unfolding fields afterNumber allDigits allNumbers valueFrom
   end-in-number e i fits =

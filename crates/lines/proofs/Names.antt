@@ -11,7 +11,7 @@ use lib.Dec.{eqb}
 use borrow.Author.Tests.{eq-eqb, ne-eqb, eqb-true}
 use Rattle.lines.specs.declared.command.Command.{Command}
 use Rattle.lines.specs.declared.command.Command.the-variants.{Other}
-use Rattle.lines.specs.Line.{same, bare, setOf, commitOf, abortOf, getOf, bareForm, formOf}
+use Rattle.lines.specs.Line.{same, withoutNumbers, setOf, commitOf, abortOf, getOf, recoveryForm, formOf}
 
 -- lists of different lengths are not the same
 pub same-lengths : (a b : List ℕ) → (length a ≡ length b → ⊥) → same a b ≡ false
@@ -45,7 +45,7 @@ cond-same false x = refl
 
 -- No name has more than seven bytes, and no command takes more than four numbers.
 pub long-name : (name vs : List ℕ) → 8 ≤ length name → formOf name vs ≡ Other
-unfolding formOf bareForm
+unfolding formOf recoveryForm
 long-name name vs h =
     let apart : (word : List ℕ) → length word < 8 → same name word ≡ false = λ word k. same-lengths name word (λ e. omega arith) in
     rw (
@@ -61,7 +61,7 @@ long-name name vs h =
     )
 
 pub many-numbers : (name vs : List ℕ) → 5 ≤ length vs → formOf name vs ≡ Other
-unfolding formOf bareForm bare setOf commitOf abortOf getOf
+unfolding formOf recoveryForm withoutNumbers setOf commitOf abortOf getOf
 many-numbers name vs h =
     let apart : (k : ℕ) → k < 5 → eqb (length vs) k ≡ false = λ k small. ne-eqb (length vs) k (λ e. omega arith) in
     simp (apart 0 (omega arith), apart 1 (omega arith), apart 2 (omega arith), apart 4 (omega arith), cond-same)

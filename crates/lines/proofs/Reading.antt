@@ -35,7 +35,7 @@ module _ (p : Partial) (more : List ℕ) where
 
   pub in-number : 1 ≤ p .count → p .count ≤ 4 → p .length ≤ 7 →
       commandAfter p more
-      ≡ afterNumber (take (p .length) (p .name)) (take (p .count - 1) (p .values)) (p .bare) (p .value) (fields more)
+      ≡ afterNumber (take (p .length) (p .name)) (take (p .count - 1) (p .values)) (p .empty) (p .value) (fields more)
   unfolding commandAfter
   in-number c₁ c₄ l =
       let n : p .count ≡ 0 → ⊥ = λ e. omega arith in

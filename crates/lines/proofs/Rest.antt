@@ -42,28 +42,28 @@ module _ (name done : List ℕ) (v : ℕ) (s : Fields) where
   unfolding afterNumber
   number-missing = refl
 
-  pub number-too-many : (bare : Bool) → 3 ≤ length done → afterNumber name done bare v (withField s) ≡ Other
+  pub number-too-many : (empty : Bool) → 3 ≤ length done → afterNumber name done empty v (withField s) ≡ Other
   unfolding afterNumber valueFrom
-  number-too-many bare h =
+  number-too-many empty h =
       let vs : List ℕ = done ++ v ∷ value (s .first) ∷ map value (s .rest) in
       let l : 5 ≤ length vs = rw length-append (omega arith) in
       simp (many-numbers name vs l, cond-same)
 
-module _ (name done : List ℕ) (bare : Bool) (v b : ℕ) (s : Fields) where
-  pub number-more : 48 ≤ b → b ≤ 57 → afterNumber name done false (v * 10 + (b - 48)) s ≡ afterNumber name done bare v (withByte b s)
+module _ (name done : List ℕ) (empty : Bool) (v b : ℕ) (s : Fields) where
+  pub number-more : 48 ≤ b → b ≤ 57 → afterNumber name done false (v * 10 + (b - 48)) s ≡ afterNumber name done empty v (withByte b s)
   unfolding afterNumber allDigits valueFrom
-  number-more l h = rw (and-false bare, le-leb 48 b l, le-leb b 57 h)
+  number-more l h = rw (and-false empty, le-leb 48 b l, le-leb b 57 h)
 
-  pub number-low : b < 48 → afterNumber name done bare v (withByte b s) ≡ Other
+  pub number-low : b < 48 → afterNumber name done empty v (withByte b s) ≡ Other
   unfolding afterNumber allDigits
-  number-low h = rw (and-false bare, lt-leb 48 b h)
+  number-low h = rw (and-false empty, lt-leb 48 b h)
 
-  pub number-high : 57 < b → afterNumber name done bare v (withByte b s) ≡ Other
+  pub number-high : 57 < b → afterNumber name done empty v (withByte b s) ≡ Other
   unfolding afterNumber allDigits
-  number-high h = rw (and-false bare, lt-leb b 57 h, and-false (leb 48 b))
+  number-high h = rw (and-false empty, lt-leb b 57 h, and-false (leb 48 b))
 
-  pub number-too-large : 2 ^ 64 ≤ v * 10 + (b - 48) → afterNumber name done bare v (withByte b s) ≡ Other
+  pub number-too-large : 2 ^ 64 ≤ v * 10 + (b - 48) → afterNumber name done empty v (withByte b s) ≡ Other
   unfolding afterNumber valueFrom
   number-too-large h =
       let l : 2 ^ 64 ≤ valueFrom (v * 10 + (b - 48)) (s .first) = omega (arith, value-grows (s .first) (v * 10 + (b - 48))) in
-      rw (le-ltb _ (2 ^ 64) l, and-false (allDigits (b ∷ s .first)), and-false (not (bare && false)))
+      rw (le-ltb _ (2 ^ 64) l, and-false (allDigits (b ∷ s .first)), and-false (not (empty && false)))

@@ -18,20 +18,20 @@ stays-past-hope p r b more h e = past-hope r more h ∙ sym e
 
 module _ (p : Partial) (more : List ℕ) (start : p .count ≡ 0) (short : p .length ≤ 7) where
   pub name-space :
-      commandAfter (record { name = p .name; length = p .length; count = 1; values = p .values; value = 0; bare = true }) more
+      commandAfter (record { name = p .name; length = p .length; count = 1; values = p .values; value = 0; empty = true }) more
       ≡ commandAfter p (32 ∷ more)
   unfolding fields
   name-space =
-      let r : Partial = record { name = p .name; length = p .length; count = 1; values = p .values; value = 0; bare = true } in
+      let r : Partial = record { name = p .name; length = p .length; count = 1; values = p .values; value = 0; empty = true } in
       in-number r more (omega arith) (omega arith) short
       ∙ name-ends (take (p .length) (p .name)) (fields more)
       ∙ sym (in-name p (32 ∷ more) start short)
 
   pub name-byte : (b : ℕ) → (b ≡ 32 → ⊥) → p .length < length (p .name) → p .length < 7 →
-      commandAfter (record { name = set (p .name) (p .length) b; length = p .length + 1; count = p .count; values = p .values; value = p .value; bare = p .bare }) more
+      commandAfter (record { name = set (p .name) (p .length) b; length = p .length + 1; count = p .count; values = p .values; value = p .value; empty = p .empty }) more
       ≡ commandAfter p (b ∷ more)
   name-byte b n i h =
-      let r : Partial = record { name = set (p .name) (p .length) b; length = p .length + 1; count = p .count; values = p .values; value = p .value; bare = p .bare } in
+      let r : Partial = record { name = set (p .name) (p .length) b; length = p .length + 1; count = p .count; values = p .values; value = p .value; empty = p .empty } in
       rw (in-name r more start (omega arith), in-name p (b ∷ more) start short, at-byte b more n, byte-put (p .name) (p .length) b i)
       (name-more (take (p .length) (p .name)) b (fields more))
 
@@ -41,7 +41,7 @@ module _ (p : Partial) (more : List ℕ) (start : p .count ≡ 0) (short : p .le
       in-name p (b ∷ more) start short ∙ rw (at-byte b more n) (name-too-long (take (p .length) (p .name)) b (fields more) l)
 
 module _ (p : Partial) (more : List ℕ) (begun : 1 ≤ p .count) (few : p .count ≤ 4) (short : p .length ≤ 7) where
-  pub space-missing : p .bare ≡ true → commandAfter p (32 ∷ more) ≡ Other
+  pub space-missing : p .empty ≡ true → commandAfter p (32 ∷ more) ≡ Other
   unfolding fields
   space-missing e = in-number p (32 ∷ more) begun few short ∙ rw e (number-missing _ _ _ (fields more))
 
@@ -51,12 +51,12 @@ module _ (p : Partial) (more : List ℕ) (begun : 1 ≤ p .count) (few : p .coun
       let l : 3 ≤ length (take (p .count - 1) (p .values)) = rw length-take (omega arith) in
       in-number p (32 ∷ more) begun few short ∙ number-too-many _ _ _ (fields more) _ l
 
-  pub number-space : p .bare ≡ false → length (p .values) ≡ 4 → p .count < 4 → p .value < 2 ^ 64 →
-      commandAfter (record { name = p .name; length = p .length; count = p .count + 1; values = set (p .values) (p .count - 1) (p .value); value = 0; bare = true }) more
+  pub number-space : p .empty ≡ false → length (p .values) ≡ 4 → p .count < 4 → p .value < 2 ^ 64 →
+      commandAfter (record { name = p .name; length = p .length; count = p .count + 1; values = set (p .values) (p .count - 1) (p .value); value = 0; empty = true }) more
       ≡ commandAfter p (32 ∷ more)
   unfolding fields
   number-space e i h fits =
-      let r : Partial = record { name = p .name; length = p .length; count = p .count + 1; values = set (p .values) (p .count - 1) (p .value); value = 0; bare = true } in
+      let r : Partial = record { name = p .name; length = p .length; count = p .count + 1; values = set (p .values) (p .count - 1) (p .value); value = 0; empty = true } in
       let f : p .count + 1 - 1 ≡ p .count = omega arith in
       rw (
         in-number r more (omega arith) (omega arith) short,
@@ -78,9 +78,9 @@ module _ (p : Partial) (more : List ℕ) (begun : 1 ≤ p .count) (few : p .coun
     byte-too-large h = in-number p (b ∷ more) begun few short ∙ rw (at-byte b more no-space) (number-too-large _ _ _ _ b (fields more) h)
 
     pub byte-digit : 48 ≤ b → b ≤ 57 →
-        commandAfter (record { name = p .name; length = p .length; count = p .count; values = p .values; value = p .value * 10 + (b - 48); bare = false }) more
+        commandAfter (record { name = p .name; length = p .length; count = p .count; values = p .values; value = p .value * 10 + (b - 48); empty = false }) more
         ≡ commandAfter p (b ∷ more)
     byte-digit l h =
-        let r : Partial = record { name = p .name; length = p .length; count = p .count; values = p .values; value = p .value * 10 + (b - 48); bare = false } in
+        let r : Partial = record { name = p .name; length = p .length; count = p .count; values = p .values; value = p .value * 10 + (b - 48); empty = false } in
         rw (in-number r more begun few short, in-number p (b ∷ more) begun few short, at-byte b more no-space)
-        (number-more (take (p .length) (p .name)) (take (p .count - 1) (p .values)) (p .bare) (p .value) b (fields more) l h)
+        (number-more (take (p .length) (p .name)) (take (p .count - 1) (p .values)) (p .empty) (p .value) b (fields more) l h)

@@ -15,14 +15,14 @@ use Rattle.lines.specs.Line.{Fields, fields, allDigits, valueFrom, value
 unfoldable pub afterName : List ℕ → Fields → Command
 afterName name s = fieldsMean (name ++ s .first) (s .rest)
 
--- does a number of which v is read go on so to its end? `bare`: nothing of it is read yet
+-- does a number of which v is read go on so to its end? `empty`: nothing of it is read yet
 abbrev pub goesOn : Bool → ℕ → List ℕ → Bool
-goesOn bare v f = not (bare && isEmpty f) && (allDigits f && ltb (valueFrom v f) (2 ^ 64))
+goesOn empty v f = not (empty && isEmpty f) && (allDigits f && ltb (valueFrom v f) (2 ^ 64))
 
 -- read: the name, the numbers `done`, and the front of one more
 unfoldable pub afterNumber : List ℕ → List ℕ → Bool → ℕ → Fields → Command
-afterNumber name done bare v s =
-    cond (goesOn bare v (s .first) && allNumbers (s .rest)) (formOf name (done ++ valueFrom v (s .first) ∷ map value (s .rest))) Other
+afterNumber name done empty v s =
+    cond (goesOn empty v (s .first) && allNumbers (s .rest)) (formOf name (done ++ valueFrom v (s .first) ∷ map value (s .rest))) Other
 
 -- The command of a line, by what was read of it and the bytes that follow.
 unfoldable pub commandAfter : Partial → List ℕ → Command
@@ -31,7 +31,7 @@ commandAfter p more =
     (cond (ltb 7 (p .length)) Other
     (cond (eqb (p .count) 0)
     (afterName (take (p .length) (p .name)) (fields more))
-    (afterNumber (take (p .length) (p .name)) (take (p .count - 1) (p .values)) (p .bare) (p .value) (fields more))))
+    (afterNumber (take (p .length) (p .name)) (take (p .count - 1) (p .values)) (p .empty) (p .value) (fields more))))
 
 -- A line read in pieces, by the contracts of `start` and `read_piece`: the bytes so far, and what they left.
 pub data Pieces : List ℕ → Partial → Type 0 where

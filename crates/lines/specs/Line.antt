@@ -55,8 +55,8 @@ same (a ∷ l) [] = false
 same (a ∷ l) (b ∷ bs) = eqb a b && same l bs
 
 -- a command that takes no numbers, and those that take some; "Without an allowance it is the largest."
-unfoldable pub bare : Command → List ℕ → Command
-bare command vs = cond (eqb (length vs) 0) command Other
+unfoldable pub withoutNumbers : Command → List ℕ → Command
+withoutNumbers command vs = cond (eqb (length vs) 0) command Other
 
 unfoldable pub setOf : List ℕ → Command
 setOf vs = cond (eqb (length vs) 4) (Set (getD vs 0 0) (getD vs 1 0) (getD vs 2 0) (getD vs 3 0)) Other
@@ -73,23 +73,23 @@ unfoldable pub getOf : List ℕ → Command
 getOf vs = cond (eqb (length vs) 2) (Get (getD vs 0 0) (getD vs 1 0)) Other
 
 -- The command with a name and numbers; the names in ASCII: mark, copy, close, restart.
-unfoldable pub bareForm : List ℕ → List ℕ → Command
-bareForm name vs =
-    cond (same name (109 ∷ 97 ∷ 114 ∷ 107 ∷ [])) (bare Mark vs)
-    (cond (same name (99 ∷ 111 ∷ 112 ∷ 121 ∷ [])) (bare Copy vs)
-    (cond (same name (99 ∷ 108 ∷ 111 ∷ 115 ∷ 101 ∷ [])) (bare Close vs)
-    (cond (same name (114 ∷ 101 ∷ 115 ∷ 116 ∷ 97 ∷ 114 ∷ 116 ∷ [])) (bare Restart vs)
+unfoldable pub recoveryForm : List ℕ → List ℕ → Command
+recoveryForm name vs =
+    cond (same name (109 ∷ 97 ∷ 114 ∷ 107 ∷ [])) (withoutNumbers Mark vs)
+    (cond (same name (99 ∷ 111 ∷ 112 ∷ 121 ∷ [])) (withoutNumbers Copy vs)
+    (cond (same name (99 ∷ 108 ∷ 111 ∷ 115 ∷ 101 ∷ [])) (withoutNumbers Close vs)
+    (cond (same name (114 ∷ 101 ∷ 115 ∷ 116 ∷ 97 ∷ 114 ∷ 116 ∷ [])) (withoutNumbers Restart vs)
     Other)))
 
 -- begin, set, commit, abort, get
 unfoldable pub formOf : List ℕ → List ℕ → Command
 formOf name vs =
-    cond (same name (98 ∷ 101 ∷ 103 ∷ 105 ∷ 110 ∷ [])) (bare Begin vs)
+    cond (same name (98 ∷ 101 ∷ 103 ∷ 105 ∷ 110 ∷ [])) (withoutNumbers Begin vs)
     (cond (same name (115 ∷ 101 ∷ 116 ∷ [])) (setOf vs)
     (cond (same name (99 ∷ 111 ∷ 109 ∷ 109 ∷ 105 ∷ 116 ∷ [])) (commitOf vs)
     (cond (same name (97 ∷ 98 ∷ 111 ∷ 114 ∷ 116 ∷ [])) (abortOf vs)
     (cond (same name (103 ∷ 101 ∷ 116 ∷ [])) (getOf vs)
-    (bareForm name vs)))))
+    (recoveryForm name vs)))))
 
 unfoldable pub fieldsMean : List ℕ → List (List ℕ) → Command
 fieldsMean name numbers = cond (allNumbers numbers) (formOf name (map value numbers)) Other

@@ -1,6 +1,6 @@
 // The commands, by name and numbers.
 ghost use mathlib.Core.Path.{_≡_};
-ghost use Rattle.lines.specs.Line.{same, bare as Line·bare, setOf, commitOf, abortOf, getOf, bareForm, formOf};
+ghost use Rattle.lines.specs.Line.{same, withoutNumbers, setOf, commitOf, abortOf, getOf, recoveryForm, formOf};
 
 // What a line asks for. Other: a line of any other form.
 pub enum Command {
@@ -47,8 +47,8 @@ fn is_same(a: &[u8], b: &[u8]) -> bool
 }
 
 // A command that takes no numbers.
-fn bare(command: Command, values: &[u64]) -> Command
-    ensures { λ r. ⌜ r ≡ Line·bare command (now (values .entry)) ⌝ }
+fn without_numbers(command: Command, values: &[u64]) -> Command
+    ensures { λ r. ⌜ r ≡ withoutNumbers command (now (values .entry)) ⌝ }
 {
     if values.len() == 0 {
         return command;
@@ -111,20 +111,20 @@ fn get_of(values: &[u64]) -> Command
 }
 
 // The commands of a checkpoint, and restart.
-fn bare_form(name: &[u8], values: &[u64]) -> Command
-    ensures { λ r. ⌜ r ≡ bareForm (now (name .entry)) (now (values .entry)) ⌝ }
+fn recovery_form(name: &[u8], values: &[u64]) -> Command
+    ensures { λ r. ⌜ r ≡ recoveryForm (now (name .entry)) (now (values .entry)) ⌝ }
 {
     if is_same(name, b"mark") {
-        return bare(Command::Mark, values);
+        return without_numbers(Command::Mark, values);
     }
     if is_same(name, b"copy") {
-        return bare(Command::Copy, values);
+        return without_numbers(Command::Copy, values);
     }
     if is_same(name, b"close") {
-        return bare(Command::Close, values);
+        return without_numbers(Command::Close, values);
     }
     if is_same(name, b"restart") {
-        return bare(Command::Restart, values);
+        return without_numbers(Command::Restart, values);
     }
     Command::Other
 }
@@ -134,7 +134,7 @@ pub fn form_of(name: &[u8], values: &[u64]) -> Command
     ensures { λ r. ⌜ r ≡ formOf (now (name .entry)) (now (values .entry)) ⌝ }
 {
     if is_same(name, b"begin") {
-        return bare(Command::Begin, values);
+        return without_numbers(Command::Begin, values);
     }
     if is_same(name, b"set") {
         return set_of(values);
@@ -148,5 +148,5 @@ pub fn form_of(name: &[u8], values: &[u64]) -> Command
     if is_same(name, b"get") {
         return get_of(values);
     }
-    bare_form(name, values)
+    recovery_form(name, values)
 }

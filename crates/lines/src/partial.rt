@@ -11,12 +11,12 @@ ghost use Rattle.lines.specs.After.{commandAfter};
 // What has been read of a line: the first field's bytes; how many numbers have begun, 5 where the line is no command however it
 // goes on; the values of all but the last; of the last the value so far, and whether nothing of it is read yet.
 pub struct Partial {
-    pub name: [u8; 7],
-    pub length: usize,
-    pub count: usize,
-    pub values: [u64; 4],
-    pub value: u64,
-    pub bare: bool,
+    name: [u8; 7],
+    length: usize,
+    count: usize,
+    values: [u64; 4],
+    value: u64,
+    empty: bool,
 }
 
 // Nothing is read.
@@ -29,7 +29,7 @@ pub fn start() -> Partial
         count: 0,
         values: [0; 4],
         value: 0,
-        bare: true,
+        empty: true,
     }
 }
 
@@ -63,7 +63,7 @@ fn first_number(p: Partial) -> Partial
     Partial {
         count: 1,
         value: 0,
-        bare: true,
+        empty: true,
         ..p
     }
 }
@@ -73,7 +73,7 @@ fn next_number(p: Partial) -> Partial
     requires { ⌜ (1 ≤ p .count) × (p .count ≤ 4) × (p .length ≤ 7) ⌝ }
     ensures { λ r. ⌜ ((more : List ℕ) → commandAfter r more ≡ commandAfter p (32 ∷ more)) ⌝ }
 {
-    if p.bare {
+    if p.empty {
         return hopeless(p);
     }
     let at = p.count;
@@ -84,7 +84,7 @@ fn next_number(p: Partial) -> Partial
     q.values[at - 1] = p.value;
     q.count = at + 1;
     q.value = 0;
-    q.bare = true;
+    q.empty = true;
     q
 }
 
@@ -106,7 +106,7 @@ fn number_byte(p: Partial, b: u8) -> Partial
     }
     Partial {
         value: value * 10 + digit,
-        bare: false,
+        empty: false,
         ..p
     }
 }
@@ -162,7 +162,7 @@ pub fn command_of(partial: Partial) -> Command
     if count == 0 {
         return form_of(&name[..length], &values[..0]);
     }
-    if partial.bare {
+    if partial.empty {
         return Command::Other;
     }
     values[count - 1] = partial.value;

@@ -8,7 +8,7 @@ returns : tie.Need-returns
 unfolding formOf
 returns c =
     let first = c .before in
-    rw (← first .before .is-same .ensures, first .if1 .taken) (c .bare .ensures)
+    rw (← first .before .is-same .ensures, first .if1 .taken) (c .without-numbers .ensures)
 
 returns-2 : tie.Need-returns-2
 unfolding formOf
@@ -52,7 +52,7 @@ returns-6 c =
     let third = fourth .before .before .before in
     let second = third .before .before .before in
     let first = second .before .before .before in
-    rw (← first .before .is-same .ensures, first .if1 .left, ← second .before .is-same2 .ensures, second .if2 .left, ← third .before .is-same3 .ensures, third .if3 .left, ← fourth .before .is-same4 .ensures, fourth .if4 .left, ← fifth .before .is-same5 .ensures, fifth .if5 .left) (c .bare-form .ensures)
+    rw (← first .before .is-same .ensures, first .if1 .left, ← second .before .is-same2 .ensures, second .if2 .left, ← third .before .is-same3 .ensures, third .if3 .left, ← fourth .before .is-same4 .ensures, fourth .if4 .left, ← fifth .before .is-same5 .ensures, fifth .if5 .left) (c .recovery-form .ensures)
 
 pub form-of-spec : {M : Type 1} → statement M
 form-of-spec =
