@@ -14,19 +14,19 @@ use crate::words::tail_mut;
 use crate::words::wipe;
 
 // Where the retained log starts, its tail, its buffered length, and the end that a checkpoint's begin remembered.
-pub fn start_at(disk: u64) -> u64 {
+fn start_at(disk: u64) -> u64 {
     disk % 8
 }
 
-pub fn tail_at(disk: u64) -> u64 {
+fn tail_at(disk: u64) -> u64 {
     8 + disk % 8
 }
 
-pub fn fill_at(disk: u64) -> u64 {
+fn fill_at(disk: u64) -> u64 {
     16 + disk % 8
 }
 
-pub fn mark_at(disk: u64) -> u64 {
+fn mark_at(disk: u64) -> u64 {
     24 + disk % 8
 }
 
@@ -35,15 +35,15 @@ pub fn disk_at(place: u64) -> u64 {
     32 + place % 16
 }
 
-pub fn first_at(place: u64) -> u64 {
+fn first_at(place: u64) -> u64 {
     48 + place % 16
 }
 
-pub fn owed_at(place: u64) -> u64 {
+fn owed_at(place: u64) -> u64 {
     64 + place % 16
 }
 
-pub fn steps_at(source: u64) -> u64 {
+fn steps_at(source: u64) -> u64 {
     80 + source % 16
 }
 
@@ -61,12 +61,12 @@ fn records_in(length: u64) -> u64 {
 }
 
 // Tail plus buffered length.
-pub fn end_of(rooms: &[u64], disk: u64) -> u64 {
+fn end_of(rooms: &[u64], disk: u64) -> u64 {
     sum(get(rooms, tail_at(disk)), get(rooms, fill_at(disk)))
 }
 
 // The words owed to a disk's open transactions.
-pub fn owed_on(rooms: &[u64], disk: u64) -> u64 {
+fn owed_on(rooms: &[u64], disk: u64) -> u64 {
     let mut left = 16;
     let mut owed = 0;
     while left > 0 {
