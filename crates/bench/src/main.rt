@@ -18,7 +18,7 @@ use crate::restarts::restarted;
 use crate::serve::Tally;
 use crate::serve::served;
 use crate::setup::formatted;
-ghost use Prim.Native.Nat.{_≤_};
+use trial_table::words::front_mut;
 
 // A formatted store, and the transactions on it.
 fn loaded(
@@ -76,13 +76,6 @@ fn run(
     run_restarts(plan, anchor, pages, backups, logs, work);
 }
 
-// A length, at most that of the memory there is.
-fn within(n: u64, most: usize) -> usize
-    ensures { λ r. ⌜ r ≤ most ⌝ }
-{
-    if n < most as u64 { n as usize } else { most }
-}
-
 // Lends the first words of each memory.
 fn lent(
     plan: Plan,
@@ -93,26 +86,25 @@ fn lent(
     logs: &mut [u64],
     work: &mut [u64],
 ) {
-    let width = within(plan.width, value.len());
-    let memory = within(plan.memory, pages.len());
-    let copies = within(plan.copies, backups.len());
-    let rings = within(plan.rings, logs.len());
-    let scratch = within(plan.scratch, work.len());
     run(
         plan,
-        &mut value[..width],
+        front_mut(value, plan.width),
         anchor,
-        &mut pages[..memory],
-        &mut backups[..copies],
-        &mut logs[..rings],
-        &mut work[..scratch],
+        front_mut(pages, plan.memory),
+        front_mut(backups, plan.copies),
+        front_mut(logs, plan.rings),
+        front_mut(work, plan.scratch),
     );
 }
 
-fn main() {
+fn read_plan() -> Plan {
     let mut text = io::buffer();
     let n = io::read_full(0, &mut text);
-    let plan = plan_of(&text[..n]);
+    plan_of(&text[..n])
+}
+
+fn main() {
+    let plan = read_plan();
     let mut value = [0u64; 32];
     let mut anchor = [0u64; 148];
     let mut pages = [0u64; 8192];

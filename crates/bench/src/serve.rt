@@ -57,8 +57,8 @@ fn call(
 
 // What is kept from call to call: the number of the open transaction, whether the last call was refused, and counts.
 pub struct Tally {
-    pub number: u64,
-    pub refused: bool,
+    number: u64,
+    refused: bool,
     pub taken: u64,
     pub aborts: u64,
     pub checkpoints: u64,

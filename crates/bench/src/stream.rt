@@ -3,7 +3,7 @@
 pub const SEED: u64 = 88172645463325252;
 
 // xorshift64.
-pub fn next(seed: u64) -> u64 {
+fn next(seed: u64) -> u64 {
     let a = seed ^ (seed << 13);
     let b = a ^ (a >> 7);
     b ^ (b << 17)
@@ -15,7 +15,7 @@ pub fn product(a: u64, b: u64) -> u64 {
 }
 
 // A number below n, from the low half of r.
-pub fn pick(r: u64, n: u64) -> u64 {
+fn pick(r: u64, n: u64) -> u64 {
     product(r, n) / 4294967296
 }
 

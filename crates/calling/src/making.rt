@@ -6,6 +6,7 @@ use store::checkpoints::checkpoint_end;
 use store::checkpoints::checkpoint_step;
 use store::restarts::restart_begin;
 use store::restarts::restart_end;
+use store::restarts::restart_run;
 use store::restarts::restart_step;
 use store::transactions::abort;
 use store::transactions::begin;
@@ -33,8 +34,12 @@ pub fn make(
 ) -> Called {
     let kind = call.kind;
     match kind {
-        Kind::Begin | Kind::Read | Kind::CheckpointBegin | Kind::RestartBegin | Kind::RestartStep =>
-            { make_free(state, call, anchor, pages, backups, logs, work, book) }
+        Kind::Begin
+        | Kind::Read
+        | Kind::CheckpointBegin
+        | Kind::RestartBegin
+        | Kind::RestartStep
+        | Kind::RestartRun => make_free(state, call, anchor, pages, backups, logs, work, book),
         _ => make_storing(
             state,
             shape,
@@ -67,7 +72,8 @@ fn make_free(
         Kind::Read => make_read(state, call, anchor, pages, backups, logs, work, book),
         Kind::CheckpointBegin => checkpoint_begin(state, anchor, pages, backups, logs, work),
         Kind::RestartBegin => restart_begin(state, anchor, pages, backups, logs, work),
-        _ => restart_step(state, number, anchor, pages, backups, logs, work),
+        Kind::RestartStep => restart_step(state, number, anchor, pages, backups, logs, work),
+        _ => restart_run(state, number, call.most, anchor, pages, backups, logs, work),
     }
 }
 

@@ -2,5 +2,5 @@
 pub mod changes;
 pub mod devices;
 pub mod reading;
-pub mod records;
+mod records;
 pub mod replay;

@@ -1,8 +1,8 @@
 // Damaged devices: every word of a small image changed in eight ways, and images filled at random. On each of them
 // - a restart's begin must answer as 01's table says, with the values of 6 and 7;
 // - where it was refused, every later call must answer 1;
-// - where it was taken, the restart's end must leave the pages, and store the words, that a replay of the damaged words without the store
-//   gives, and a few calls after it must answer with a number that they may give;
+// - where it was taken, the restart's end, after steps and again after runs, must leave the pages, and store the words, that a replay of
+//   the damaged words without the store gives, and a few calls after it must answer with a number that they may give;
 // - each call is lent every slice a word short first, and must then answer 2 or 5 where no lower number applies;
 // - a refused call must leave every word.
 // Standard input may begin with a number: how many random images are tried (500 where there is none). To run it longer:

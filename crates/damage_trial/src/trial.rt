@@ -1,4 +1,4 @@
-// One damaged image: a restart, begun with short slices first, then the calls after it.
+// One damaged image: a restart, begun with short slices first, replayed by steps and again by runs, then the calls after it.
 use crate::acts::act;
 use crate::acts::change_word;
 use crate::acts::commit_word;
@@ -24,17 +24,18 @@ use trial_table::words::more;
 use trial_table::words::tally;
 
 pub fn try_image(p: Probe, good: Devices, which: u64, seed: u64) -> Probe {
-    let machine = shut(damaged(good, which, seed));
     let fresh = Probe {
-        machine,
+        machine: shut(damaged(good, which, seed)),
         taken: false,
         images: more(p.images),
         ..p
     };
     let begun = begin_restart(begin_short(fresh));
-    let replayed = replay(tried_short(begun, call_of(Kind::RestartStep, 0)));
-    let waiting = tried_short(replayed, call_of(Kind::RestartEnd, 0));
-    later(end_restart(waiting))
+    let waiting = by_steps(begun);
+    let stepped = end_restart(tried_short(waiting, call_of(Kind::RestartEnd, 0)));
+    let machine = begun.machine;
+    let again = Probe { machine, ..stepped };
+    later(end_restart(by_runs(again)))
 }
 
 // Begins that are lent a short slice.
@@ -77,6 +78,28 @@ fn begin_restart(p: Probe) -> Probe {
     }
 }
 
+// The log by runs of no step, of one and of all that are left, then the backup; after each run there may be nothing left.
+fn by_runs(p: Probe) -> Probe {
+    let none = try_run(tried_short(p, call_of(Kind::RestartRun, 0)), 0, 0);
+    let one = try_run(none, 0, 1);
+    let log_done = try_run(try_run(one, 0, 64), 0, 64);
+    try_run(try_run(log_done, 1, 64), 1, 64)
+}
+
+fn try_run(p: Probe, source: u64, most: u64) -> Probe {
+    let machine = p.machine;
+    let set = if restart_remaining(machine.state, source) > 0 {
+        1
+    } else {
+        32768
+    };
+    let call = Call {
+        most,
+        ..call_of(Kind::RestartRun, source)
+    };
+    judged(p, performed(machine, call), set, true)
+}
+
 fn try_step(p: Probe, source: u64, set: u64) -> Probe {
     let machine = p.machine;
     let after = performed(machine, call_of(Kind::RestartStep, source));
@@ -84,8 +107,9 @@ fn try_step(p: Probe, source: u64, set: u64) -> Probe {
 }
 
 // Steps until nothing remains; then each source has nothing left.
-fn replay(p: Probe) -> Probe {
-    let log_done = try_step(steps(p), 0, 32768);
+fn by_steps(p: Probe) -> Probe {
+    let short = tried_short(p, call_of(Kind::RestartStep, 0));
+    let log_done = try_step(steps(short), 0, 32768);
     try_step(log_done, 1, 32768)
 }
 

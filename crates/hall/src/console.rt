@@ -31,7 +31,7 @@ pub struct Console {
 }
 
 // Runs the line that is read.
-pub fn take_line(
+fn take_line(
     console: Console,
     anchor: &mut [u64],
     pages: &mut [u64],

@@ -88,7 +88,7 @@ fn next_size(t: Trial, anchor: &mut [u64], book: &mut [u64]) -> Trial {
     let progress = t.progress;
     tell(progress.shape, progress.counts);
     put(anchor, 3, 0);
-    wipe(book, 8328);
+    wipe(book, 8344);
     let size = more(t.size);
     Trial {
         state: store::new_state(),
@@ -131,7 +131,9 @@ fn next_source(state: State, sources: u64, from: u64) -> u64 {
 fn remaining(state: State, call: Call, source: u64, disks: u64) -> u64 {
     let kind = call.kind;
     match kind {
-        Kind::RestartStep => store::restarts::restart_remaining(state, call.number),
+        Kind::RestartStep | Kind::RestartRun => {
+            store::restarts::restart_remaining(state, call.number)
+        }
         Kind::RestartEnd => cause(source <= disks, 1),
         _ => 0,
     }

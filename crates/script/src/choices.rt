@@ -104,6 +104,7 @@ fn misplaced_kind(die: u64) -> Kind {
         0 => Kind::Format,
         1 => Kind::RestartBegin,
         2 => Kind::RestartStep,
+        3 => Kind::RestartRun,
         _ => Kind::RestartEnd,
     }
 }
@@ -132,7 +133,7 @@ fn checkpoint_next(shape: Shape, plain: Plain) -> Kind {
 pub fn list_call(shape: Shape, plain: Plain, seed: u64, book: &[u64]) -> Call {
     let die = below(seed, 32);
     if die == 31 {
-        return call_of(misplaced_kind(below(seed >> 5, 4)), 0);
+        return call_of(misplaced_kind(below(seed >> 5, 5)), 0);
     }
     if die == 30 {
         return call_of(checkpoint_kind(below(seed >> 5, 3)), 0);
@@ -143,20 +144,40 @@ pub fn list_call(shape: Shape, plain: Plain, seed: u64, book: &[u64]) -> Call {
     transaction_call(shape, plain, die, seed, book)
 }
 
-// The next call of a restart, with so many steps left and this source not yet replayed; there is none above the number of disks.
-// Now and then a step of a source that has nothing left, or of none.
-pub fn restart_call(shape: Shape, stage: u64, steps: u64, source: u64, seed: u64) -> Call {
+// How many steps a run makes at most: none, few, or any number.
+fn some_most(seed: u64) -> u64 {
+    match below(seed, 4) {
+        0 => 0,
+        1 => seed,
+        _ => below(seed >> 2, 8),
+    }
+}
+
+// A step of a source; one in four times a run.
+fn replay_call(source: u64, seed: u64) -> Call {
+    if below(seed, 4) > 0 {
+        return call_of(Kind::RestartStep, source);
+    }
+    Call {
+        most: some_most(seed >> 2),
+        ..call_of(Kind::RestartRun, source)
+    }
+}
+
+// The next call of a restart, with so many calls left and this source not yet replayed; there is none above the number of disks.
+// Now and then a step or a run of a source that has nothing left, or of none.
+pub fn restart_call(shape: Shape, stage: u64, left: u64, source: u64, seed: u64) -> Call {
     let disks = shape.disks;
     if stage == 0 {
         return call_of(Kind::RestartBegin, 0);
     }
-    if steps == 0 || source > disks {
+    if left == 0 || source > disks {
         return call_of(Kind::RestartEnd, 0);
     }
     if below(seed >> 8, 16) == 0 {
-        return call_of(Kind::RestartStep, below(seed >> 16, sum(disks, 3)));
+        return replay_call(below(seed >> 16, sum(disks, 3)), next(seed));
     }
-    call_of(Kind::RestartStep, source)
+    replay_call(source, next(seed))
 }
 
 // One in 256 calls is lent one slice that is a word short.

@@ -23,7 +23,7 @@ pub enum Mode {
 }
 
 // `sweeps` are left on this size, with the one under way; `run` is the budget, or the length, of its run; `calls` are left of the list, or
-// steps of the restart; `budget` is that of the next call, `attempt` that of the next restart end; `cut` tells that the list
+// calls of the restart; `budget` is that of the next call, `attempt` that of the next restart end; `cut` tells that the list
 // was cut; a list's calls follow from the seed `list`, the next call from `seed`.
 pub struct Plan {
     pub mode: Mode,

@@ -13,11 +13,12 @@ pub enum Kind {
     CheckpointEnd,
     RestartBegin,
     RestartStep,
+    RestartRun,
     RestartEnd,
 }
 
 // `number` is the transaction, the reader or the source. A value has `length` words: the first `filled` follow from the seed, the others
-// are 0. `short` tells which slice is lent a word short: 1 the anchor, 2 pages, 3 backups, 4 logs, 5 work; 0 for none.
+// are 0. A restart's run makes up to `most` steps. `short` tells which slice is lent a word short: 1 the anchor, 2 pages, 3 backups, 4 logs, 5 work; 0 for none.
 pub struct Call {
     pub kind: Kind,
     pub number: u64,
@@ -26,6 +27,7 @@ pub struct Call {
     pub length: u64,
     pub filled: u64,
     pub seed: u64,
+    pub most: u64,
     pub short: u64,
 }
 
@@ -39,6 +41,7 @@ pub fn call_of(kind: Kind, number: u64) -> Call {
         length: 0,
         filled: 0,
         seed: 0,
+        most: 0,
         short: 0,
     }
 }

@@ -33,18 +33,31 @@ pub fn expected(
     if number > 0 {
         return refused(number, budget);
     }
+    let value = value_of(shape, plain, call, book);
     let budget = charge(shape, plain, call, budget_of(budget), book);
-    let kind = call.kind;
-    charged(budget, value_of(plain, kind))
+    charged(budget, value)
 }
 
-// A begin answers its number, a restart's end the new c.
-fn value_of(plain: Plain, kind: Kind) -> u64 {
+// A begin answers its number, a restart's run the steps that it makes, a restart's end the new c.
+fn value_of(shape: Shape, plain: Plain, call: Call, book: &[u64]) -> u64 {
+    let kind = call.kind;
     match kind {
         Kind::Begin => plain.next,
+        Kind::RestartRun => steps_of(shape, call, book),
         Kind::RestartEnd => more(plain.epoch),
         _ => 0,
     }
+}
+
+// The steps that a restart's step or run makes.
+fn steps_of(shape: Shape, call: Call, book: &[u64]) -> u64 {
+    let kind = call.kind;
+    let Kind::RestartRun = kind else {
+        return 1;
+    };
+    let most = call.most;
+    let left = rooms::steps_left(book, shape.disks, shape.pages, call.number);
+    if most < left { most } else { left }
 }
 
 // A transaction's place and its disk; for 0 the first free place.
@@ -85,6 +98,7 @@ fn charge(shape: Shape, plain: Plain, call: Call, budget: Budget, book: &mut [u6
         }
         Kind::CheckpointBegin => charge_mark(shape.disks, budget, book),
         Kind::CheckpointEnd => charge_close(shape.disks, budget, book),
+        Kind::RestartStep | Kind::RestartRun => charge_replay(shape, call, budget, book),
         _ => spend(budget, stores_of(shape, plain.copied, kind)),
     }
 }
@@ -108,6 +122,12 @@ fn charge_begin(shape: Shape, place: u64, budget: Budget, book: &mut [u64]) -> B
 
 fn charge_mark(disks: u64, budget: Budget, book: &mut [u64]) -> Budget {
     rooms::mark(book, disks);
+    budget
+}
+
+fn charge_replay(shape: Shape, call: Call, budget: Budget, book: &mut [u64]) -> Budget {
+    let steps = steps_of(shape, call, book);
+    rooms::replay(book, call.number, steps);
     budget
 }
 

@@ -29,11 +29,11 @@ pub fn fill(target: &mut [u64], n: u64, seed: u64) -> u64 {
 
 // A digest of the first n words, on top of another.
 pub fn digest(s: &[u64], n: u64, seed: u64) -> u64 {
-    let mut left = n;
+    let mut i = 0;
     let mut now = seed;
-    while left > 0 {
-        left -= 1;
-        now = next(now ^ get(s, left));
+    while i < n {
+        now = next(now ^ get(s, i));
+        i += 1;
     }
     now
 }

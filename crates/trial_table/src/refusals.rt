@@ -13,7 +13,7 @@ use crate::words::get;
 use crate::words::sum;
 use crate::write_sets;
 
-// `remains` is what remains to be replayed: of the source that a step names, or of any.
+// `remains` is what remains to be replayed: of the source that a step or a run names, or of any.
 pub fn refusal(shape: Shape, plain: Plain, call: Call, remains: u64, book: &[u64]) -> u64 {
     let first = first_refusal(plain, call);
     if first > 0 {
@@ -49,7 +49,7 @@ fn first_refusal(plain: Plain, call: Call) -> u64 {
 fn allowed(stage: u64, kind: Kind) -> bool {
     match kind {
         Kind::Format | Kind::RestartBegin => stage == 0,
-        Kind::RestartStep | Kind::RestartEnd => stage == 1,
+        Kind::RestartStep | Kind::RestartRun | Kind::RestartEnd => stage == 1,
         Kind::CheckpointBegin => stage == 2,
         Kind::CheckpointStep | Kind::CheckpointEnd => stage == 3,
         _ => stage > 1,
@@ -128,13 +128,15 @@ fn read_refusal(shape: Shape, entries: u64, call: Call, book: &[u64]) -> u64 {
     held_cause(shape, entries, call, book)
 }
 
-// 8 source too large; 15 a step where no items remain, an end while some do.
+// 8 source too large; 15 a step or a run where no items remain, an end while some do.
 fn items_refusal(shape: Shape, copied: u64, call: Call, remains: u64) -> u64 {
     let kind = call.kind;
     match kind {
         Kind::CheckpointStep => cause(copied >= shape.pages, 15),
         Kind::CheckpointEnd => cause(copied < shape.pages, 15),
-        Kind::RestartStep => first_of(cause(call.number > shape.disks, 8), cause(remains == 0, 15)),
+        Kind::RestartStep | Kind::RestartRun => {
+            first_of(cause(call.number > shape.disks, 8), cause(remains == 0, 15))
+        }
         Kind::RestartEnd => cause(remains > 0, 15),
         _ => 0,
     }

@@ -1,7 +1,8 @@
 // 01's counting, for a list of calls that nobody else disturbs: each disk's start, tail and buffered words, what is owed, and so the
-// stores that a call makes and where it is cut. No record is kept, only lengths.
-// A room memory, the first words of a book, has the starts, tails, buffered words and remembered ends, 8 words each; then for each of 16
-// places its disk, the position of its first update record and the words owed.
+// stores that a call makes and where it is cut. No record is kept, only lengths. A length of a log is one number: its words, and 2^32
+// for each record. A position is the length from the last restart's end to it.
+// A room memory, the first 96 words of a book, has the starts, tails, buffered lengths and remembered ends, 8 words each; then for each
+// of 16 places its disk, the position of its first update record and the words owed; then for each source the steps made of it.
 use crate::budget::Budget;
 use crate::budget::spend;
 use crate::words::add_to;
@@ -12,20 +13,20 @@ use crate::words::sum;
 use crate::words::tail_mut;
 use crate::words::wipe;
 
-// Where the retained log starts, its tail, its buffered words, and the end that a checkpoint's begin remembered.
-pub fn start_at(disk: u64) -> u64 {
+// Where the retained log starts, its tail, its buffered length, and the end that a checkpoint's begin remembered.
+fn start_at(disk: u64) -> u64 {
     disk % 8
 }
 
-pub fn tail_at(disk: u64) -> u64 {
+fn tail_at(disk: u64) -> u64 {
     8 + disk % 8
 }
 
-pub fn fill_at(disk: u64) -> u64 {
+fn fill_at(disk: u64) -> u64 {
     16 + disk % 8
 }
 
-pub fn mark_at(disk: u64) -> u64 {
+fn mark_at(disk: u64) -> u64 {
     24 + disk % 8
 }
 
@@ -34,21 +35,38 @@ pub fn disk_at(place: u64) -> u64 {
     32 + place % 16
 }
 
-pub fn first_at(place: u64) -> u64 {
+fn first_at(place: u64) -> u64 {
     48 + place % 16
 }
 
-pub fn owed_at(place: u64) -> u64 {
+fn owed_at(place: u64) -> u64 {
     64 + place % 16
 }
 
-// Tail plus buffered words.
-pub fn end_of(rooms: &[u64], disk: u64) -> u64 {
+fn steps_at(source: u64) -> u64 {
+    80 + source % 16
+}
+
+// The length of a record.
+fn record_of(words: u64) -> u64 {
+    if words > 0 { sum(words, 4294967296) } else { 0 }
+}
+
+fn words_in(length: u64) -> u64 {
+    length % 4294967296
+}
+
+fn records_in(length: u64) -> u64 {
+    length / 4294967296
+}
+
+// Tail plus buffered length.
+fn end_of(rooms: &[u64], disk: u64) -> u64 {
     sum(get(rooms, tail_at(disk)), get(rooms, fill_at(disk)))
 }
 
 // The words owed to a disk's open transactions.
-pub fn owed_on(rooms: &[u64], disk: u64) -> u64 {
+fn owed_on(rooms: &[u64], disk: u64) -> u64 {
     let mut left = 16;
     let mut owed = 0;
     while left > 0 {
@@ -69,7 +87,7 @@ fn owed_by(rooms: &[u64], disk: u64, place: u64) -> u64 {
 // Whether a need fits.
 pub fn fits(rooms: &[u64], disk: u64, ring: u64, need: u64) -> bool {
     let used = less(end_of(rooms, disk), get(rooms, start_at(disk)));
-    sum(sum(used, owed_on(rooms, disk)), need) <= ring
+    sum(sum(words_in(used), owed_on(rooms, disk)), need) <= ring
 }
 
 // The disk with the fewest buffered words among those with room for a begin; the number of disks where there is none.
@@ -90,10 +108,14 @@ fn idler(rooms: &[u64], disks: u64, ring: u64, best: u64, disk: u64) -> u64 {
     if best == disks {
         return disk;
     }
-    if get(rooms, fill_at(disk)) <= get(rooms, fill_at(best)) {
+    if buffered(rooms, disk) <= buffered(rooms, best) {
         return disk;
     }
     best
+}
+
+fn buffered(rooms: &[u64], disk: u64) -> u64 {
+    words_in(get(rooms, fill_at(disk)))
 }
 
 // A begun transaction is owed its closing record.
@@ -116,7 +138,7 @@ fn first_of(rooms: &[u64], place: u64, words: u64) -> u64 {
         return get(rooms, first_at(place));
     }
     let disk = get(rooms, disk_at(place));
-    less(end_of(rooms, disk), words)
+    less(end_of(rooms, disk), record_of(words))
 }
 
 // A closed transaction is owed nothing.
@@ -126,8 +148,8 @@ pub fn close(rooms: &mut [u64], place: u64) {
 
 // The stores of a flush: the buffer's words, then the tail.
 fn flush_stores(rooms: &[u64], disk: u64) -> u64 {
-    let fill = get(rooms, fill_at(disk));
-    if fill > 0 { sum(fill, 1) } else { 0 }
+    let words = buffered(rooms, disk);
+    if words > 0 { sum(words, 1) } else { 0 }
 }
 
 pub fn flush(rooms: &mut [u64], disk: u64, budget: Budget) -> Budget {
@@ -149,14 +171,13 @@ fn drain(rooms: &mut [u64], disk: u64) {
 pub fn append(rooms: &mut [u64], disk: u64, words: u64, budget: Budget) -> Budget {
     let after = make_room(rooms, disk, words, budget);
     if !after.cut {
-        add_to(rooms, fill_at(disk), words);
+        add_to(rooms, fill_at(disk), record_of(words));
     }
     after
 }
 
 fn make_room(rooms: &mut [u64], disk: u64, words: u64, budget: Budget) -> Budget {
-    let fill = get(rooms, fill_at(disk));
-    if sum(fill, words) <= 64 {
+    if sum(buffered(rooms, disk), words) <= 64 {
         return budget;
     }
     flush(rooms, disk, budget)
@@ -221,15 +242,25 @@ fn held_back(rooms: &[u64], disk: u64, place: u64, start: u64) -> u64 {
 // What lost power leaves: the starts and the tails.
 pub fn lose(rooms: &mut [u64]) {
     wipe(tail_mut(rooms, fill_at(0)), 8);
-    wipe(tail_mut(rooms, owed_at(0)), 16);
+    wipe(tail_mut(rooms, owed_at(0)), 32);
 }
 
-// A restart's end moves each start to its tail.
+// A restart's end leaves no retained log.
 pub fn empty(rooms: &mut [u64]) {
-    let mut left = 8;
-    while left > 0 {
-        left -= 1;
-        let tail = get(rooms, tail_at(left));
-        put(rooms, start_at(left), tail);
-    }
+    wipe(rooms, 16);
+}
+
+// The steps of a source that are left in a restart: a record or a page each.
+pub fn steps_left(rooms: &[u64], disks: u64, pages: u64, source: u64) -> u64 {
+    let retained = less(get(rooms, tail_at(source)), get(rooms, start_at(source)));
+    let all = if source < disks {
+        records_in(retained)
+    } else {
+        pages
+    };
+    less(all, get(rooms, steps_at(source)))
+}
+
+pub fn replay(rooms: &mut [u64], source: u64, steps: u64) {
+    add_to(rooms, steps_at(source), steps);
 }

@@ -10,8 +10,8 @@ use model::Answer;
 // The number, the value, and the budget that is left.
 pub struct Wanted {
     pub number: u64,
-    pub value: u64,
-    pub left: u64,
+    value: u64,
+    left: u64,
 }
 
 pub fn refused(number: u64, budget: u64) -> Wanted {

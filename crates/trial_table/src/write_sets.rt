@@ -1,5 +1,5 @@
 // The plain table: the sheets of the open transactions, and the results, word for word.
-// Its memory, the book, is one slice: 80 words of log room (`rooms`); the open transactions' numbers, 16 words (0: none); what was last
+// Its memory, the book, is one slice: 96 words of log room (`rooms`); the open transactions' numbers, 16 words (0: none); what was last
 // read, a length and 39 words; the results, 8,192 words; then entries of 36 words in the order made: transaction (0: gone),
 // the slot's address, its width, its value.
 use crate::words::differing;
@@ -16,19 +16,19 @@ use crate::words::times;
 use crate::words::wipe;
 
 pub fn open_at(place: u64) -> u64 {
-    80 + place % 16
+    96 + place % 16
 }
 
 pub fn seen_at(i: u64) -> u64 {
-    96 + i % 40
+    112 + i % 40
 }
 
 pub fn result_at(address: u64) -> u64 {
-    sum(136, address)
+    sum(152, address)
 }
 
 pub fn entry_at(entry: u64) -> u64 {
-    sum(8328, times(entry, 36))
+    sum(8344, times(entry, 36))
 }
 
 pub fn value_at(entry: u64) -> u64 {
@@ -37,12 +37,12 @@ pub fn value_at(entry: u64) -> u64 {
 
 // The results, and what stands behind them.
 pub fn results_of(book: &[u64]) -> &[u64] {
-    tail(book, 136)
+    tail(book, result_at(0))
 }
 
 // The place of a transaction among those open, the first free one for 0; 16 where there is none.
 pub fn place_of(book: &[u64], number: u64) -> u64 {
-    find(tail(book, 80), 16, number)
+    find(tail(book, open_at(0)), 16, number)
 }
 
 // Whether a transaction is open.
