@@ -4,3 +4,6 @@ pub mod Tails
 pub mod Taking
 pub mod Runs
 pub mod Saving
+pub mod Storeless
+pub mod Facts
+pub mod Stepping

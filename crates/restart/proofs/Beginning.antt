@@ -34,8 +34,9 @@ use Rattle.frame.proofs.Verdicts.{refusal-given}
 use Rattle.frame.proofs.Passing.{sound-at}
 use Rattle.replay.specs.declared.image.Finding.{Finding}
 use Rattle.replay.specs.Parts.{anchorRefusal, findingOf}
-use Rattle.restart.specs.Rest.{finished, beginRest, BeginsOn}
-use Rattle.restart.proofs.Storeless.{nothing-spent}
+use Rattle.replay.specs.Step.{finished}
+use Rattle.restart.specs.Begin.{beginRest, BeginsOn}
+use Rattle.replay.proofs.Storeless.{nothing-spent}
 
 -- what the anchor's rows leave when none applies
 pub anchor-passed : (anchor : List ℕ) → anchorRefusal anchor ≡ 0 → (length anchor ≡ anchorWords) × (sizesInBounds (sizesOn anchor) ≡ true)

@@ -26,7 +26,7 @@ ghost use Rattle.model.specs.Anchor.{anchorWords, sizesOn};
 ghost use Rattle.model.specs.World.{worldOf};
 ghost use Rattle.model.specs.Moments.{old, new, oldWorld};
 ghost use Rattle.model.specs.Call.{Gives, restartBegin};
-ghost use Rattle.restart.specs.Rest.{BeginsOn};
+ghost use Rattle.restart.specs.Begin.{BeginsOn};
 
 // Rows 6, 7 and 13, and what begin does when none applies.
 fn begin_on(core: Core, sizes: Sizes, anchor: &[u64], pages: &mut [u64], logs: &[u64]) -> Reply

@@ -21,7 +21,7 @@ ghost use Rattle.model.specs.Memory.{workWords};
 ghost use Rattle.model.specs.Restart.{restartEndTask};
 ghost use Rattle.model.specs.Call.{Gives, restartEnd};
 ghost use Rattle.frame.specs.Settle.{Concludes};
-ghost use Rattle.restart.specs.Rest.{Replays};
+ghost use Rattle.replay.specs.Step.{Replays};
 
 // The stores of restart end, and fresh memory once all are made.
 fn open_replayed(

@@ -13,6 +13,8 @@ use model::Decoded;
 use model::Fate;
 use model::Replay;
 use model::Reply;
+use replay::record::is_replayed;
+use replay::record::move_on;
 use replay::take::replay_span;
 use replay::take::xor_page;
 ghost use mathlib.Core.Path.{_≡_};
@@ -22,45 +24,8 @@ ghost use lib.ListN.{length};
 ghost use Rattle.model.specs.Sizes.{total};
 ghost use Rattle.model.specs.World.{worldOf};
 ghost use Rattle.model.specs.Moments.{old, new, oldWorld};
-ghost use Rattle.model.specs.Restart.{replays, movedTo};
 ghost use Rattle.model.specs.Call.{Gives, restartStep};
-ghost use Rattle.restart.specs.Rest.{Replays, OnLog, finished, StepsOn};
-
-// A step done: the log's next record stands at `next`.
-pub fn move_on(core: Core, disk: u64, next: u64) -> Reply
-    requires { ⌜ disk < 8 ⌝ }
-    ensures { λ r. ⌜ r ≡ finished (movedTo core disk next) ⌝ }
-{
-    let replay = core.replay;
-    let mut positions = replay.positions;
-    positions[disk as usize] = next;
-    let moved = Replay {
-        positions,
-        page: replay.page,
-    };
-    Reply {
-        answer: Answer::Finished {
-            stores: 0,
-            value: 0,
-        },
-        core: Core {
-            replay: moved,
-            ..core
-        },
-    }
-}
-
-// A closed transaction's record not in the backup, or a loose one's record in it, is XORed in.
-pub fn is_replayed(current: u64, fate: Fate, copy: u64) -> bool
-    ensures { λ r. ⌜ r ≡ replays current fate copy ⌝ }
-{
-    let in_backup = copy < current;
-    match fate {
-        Fate::Closed => !in_backup,
-        Fate::Unclosed => in_backup,
-        Fate::Unreadable { .. } => false,
-    }
-}
+ghost use Rattle.replay.specs.Step.{Replays, OnLog, StepsOn};
 
 // Takes the next record of a log.
 fn log_step(core: Core, disk: u64, pages: &mut [u64], logs: &[u64]) -> Reply

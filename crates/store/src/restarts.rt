@@ -65,7 +65,7 @@ pub fn restart_run(
     ensures { λ r. ⌜ (sound (state .core) ≡ true → sound (r .state .core) ≡ true) ⌝ }
 {
     let core = core_of(state);
-    let reply = restart::run::run(core, source, most, anchor, pages, backups, logs, work);
+    let reply = run::run::run(core, source, most, anchor, pages, backups, logs, work);
     hand_back(reply)
 }
 

@@ -7,7 +7,7 @@ use Rattle.model.specs.World.{worldOf}
 use Rattle.model.specs.Causes.{whenReplaying}
 use Rattle.frame.proofs.Passing.{replaying-not-shut}
 use Rattle.frame.proofs.Verdicts.{first-passed}
-use Rattle.restart.proofs.Facts.{sizes-bounded, replays, slices}
+use Rattle.replay.proofs.Facts.{sizes-bounded, replays, slices}
 use Rattle.restart.proofs.Ending.{end-refused, end-remains, end-given}
 use Rattle.restart.proofs.finish.end.Statement.{statement}
 use Rattle.restart.proofs.finish.end.Tie as tie

@@ -2,7 +2,7 @@
 use borrow.Author.Tests.{not-true, not-false}
 use native.Mathlib.Omega.{arith}
 use borrow.Author.Needs.{needs}
-use Rattle.restart.proofs.Facts.{replaying}
+use Rattle.replay.proofs.Facts.{replaying}
 use Rattle.restart.proofs.Ending.{end-cut, end-whole}
 use Rattle.restart.proofs.finish.open_replayed.Statement.{statement}
 use Rattle.restart.proofs.finish.open_replayed.Tie as tie

@@ -1,8 +1,8 @@
 -- `restart::step::backup_step` meets its contract: the next page is one of the pages. Assumes nothing.
 use Rattle.model.specs.State.{withReplay}
 use borrow.Author.Needs.{needs}
-use Rattle.restart.proofs.Facts.{replaying}
-use Rattle.restart.proofs.Stepping.{backup-none, backup-taken}
+use Rattle.replay.proofs.Facts.{replaying}
+use Rattle.replay.proofs.Stepping.{backup-none, backup-taken}
 use Rattle.restart.proofs.step.backup_step.Statement.{statement}
 use Rattle.restart.proofs.step.backup_step.Tie as tie
 

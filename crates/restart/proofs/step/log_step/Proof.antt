@@ -7,8 +7,9 @@ use Rattle.model.specs.World.{worldOf}
 use Rattle.model.specs.State.{tailOf}
 use Rattle.model.specs.Restart.{positionOf, readDisk, nextRecord, fateFrom}
 use Rattle.log.proofs.Ready.{lies-there, disk-there, tail-there, end-there}
-use Rattle.restart.proofs.Facts.{eight, tail-low, extent-asked, log-readable, decoded-there, fate-there, slot-place, slot-fits, difference-ends}
-use Rattle.restart.proofs.Stepping.{step-none, step-malformed, step-close, step-unreadable, step-change, not-told}
+use Rattle.replay.proofs.Facts.{eight, tail-low, extent-asked}
+use Rattle.restart.proofs.Extents.{log-readable, decoded-there, fate-there, slot-place, slot-fits, difference-ends}
+use Rattle.replay.proofs.Stepping.{step-none, step-malformed, step-close, step-unreadable, step-change, not-told}
 use Rattle.restart.proofs.step.log_step.Statement.{statement}
 use Rattle.restart.proofs.step.log_step.Tie as tie
 

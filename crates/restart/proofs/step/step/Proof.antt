@@ -7,8 +7,8 @@ use Rattle.model.specs.World.{worldOf}
 use Rattle.model.specs.Causes.{whenReplaying}
 use Rattle.frame.proofs.Passing.{replaying-not-shut}
 use Rattle.frame.proofs.Verdicts.{first-passed}
-use Rattle.restart.proofs.Facts.{replays, slices, on-log}
-use Rattle.restart.proofs.Stepping.{step-missing, step-refused, step-given}
+use Rattle.replay.proofs.Facts.{replays, slices, on-log}
+use Rattle.replay.proofs.Stepping.{step-missing, step-refused, step-given}
 use Rattle.restart.proofs.step.step.Statement.{statement}
 use Rattle.restart.proofs.step.step.Tie as tie
 

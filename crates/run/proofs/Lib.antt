@@ -1,0 +1,7 @@
+-- A run: its memory of fates, and its steps.
+pub mod Memory
+pub mod Faults
+pub mod Facts
+pub mod Onward
+pub mod Running
+pub mod Backups

@@ -1,0 +1,67 @@
+-- Restart run: many steps of one source.
+use mathlib.Core.Path.{_≡_}
+use mathlib.Core.List.{List}
+use mathlib.Core.Bool.{Bool, true, false}
+use Prim.Native.Nat.{ℕ, _+_, _<_}
+use lib.ListN.{length, getD}
+use Rattle.model.specs.declared.Core.{Core}
+use Rattle.model.specs.declared.Reply.{Reply}
+use Rattle.model.specs.declared.Answer.the-variants.{Finished}
+use Rattle.model.specs.declared.Sizes.{Sizes}
+use Rattle.model.specs.declared.Decoded.{Decoded}
+use Rattle.model.specs.declared.Decoded.the-variants.{Change, Close, Malformed}
+use Rattle.model.specs.declared.Fault.{Fault}
+use Rattle.model.specs.declared.Fault.the-variants.{NoFault, BadRecord}
+use Rattle.model.specs.declared.Fate.{Fate}
+use Rattle.model.specs.declared.Fate.the-variants.{Closed, Unclosed}
+use Rattle.model.specs.Anchor.{anchorWords}
+use Rattle.model.specs.Memory.{lengthsRight}
+use Rattle.model.specs.Scan.{scan, fateIn}
+use Rattle.model.specs.World.{World, perform}
+use Rattle.model.specs.Refusal.{verdict, conclude}
+use Rattle.model.specs.Restart.{fateFault, restartRunTask}
+use Rattle.replay.specs.Step.{Replays, stepRest}
+
+-- What a run gives once the first rows have passed.
+unfoldable pub RunsOn : Core → World → (source most : ℕ) → Reply → World → Type 0
+RunsOn c w source most r v =
+    record { answer = r .answer; budget = 0; core = r .core; world = v }
+    ≡ conclude (verdict (stepRest c w source)) 0 (restartRunTask most c w source) c w
+
+-- a run done: the steps made, and the state after them
+abbrev pub ranTo : ℕ → Core → Reply
+ranTo made c = record { answer = Finished 0 made; core = c }
+
+-- The first rows have passed: a replaying state that a call made, and slices of the right lengths.
+pub record Passes (c : Core) (w : World) : Type 0 where
+  pub replays : Replays c
+  pub anchor : length (w .anchor) ≡ anchorWords
+  pub lengths : lengthsRight (c .sizes) w ≡ true
+
+-- What a run did: the steps made, the state and the words after them.
+pub record RanOn (source most : ℕ) (c : Core) (w : World) (made : ℕ) (k : Core) (v : World) : Type 0 where
+  pub value : restartRunTask most c w source .value ≡ made
+  pub core : restartRunTask most c w source .core ≡ k
+  pub world : perform (restartRunTask most c w source .actions) w ≡ v
+
+-- What is known after some steps of a run: it goes on from there as it would have from the start.
+pub record Onward (source most : ℕ) (c : Core) (w : World) (made left : ℕ) (k : Core) (v : World) : Type 0 where
+  pub value : restartRunTask most c w source .value ≡ made + restartRunTask left k v source .value
+  pub core : restartRunTask most c w source .core ≡ restartRunTask left k v source .core
+  pub world : perform (restartRunTask most c w source .actions) w ≡ perform (restartRunTask left k v source .actions) v
+
+-- The memory of fates: whether a transaction is closed, of those that have been met and are not closed yet.
+abbrev pub fateOf : Bool → Fate
+fateOf true = Closed
+fateOf false = Unclosed
+
+-- of the first `used` numbers the fate is right, and no number stands twice
+pub record Remembers (fate : ℕ → Fate) (numbers : List ℕ) (closed : List Bool) (used : ℕ) : Type 0 where
+  pub right : (i : ℕ) → i < used → fate (getD numbers i 0) ≡ fateOf (getD closed i false)
+  pub once : (i j : ℕ) → i < used → j < used → getD numbers i 0 ≡ getD numbers j 0 → i ≡ j
+
+-- Row 7 of a step: the record's own fault, or that of the search ahead for its transaction's close.
+abbrev pub faultAt : Sizes → (ℕ → ℕ) → (tail disk p : ℕ) → Decoded → Fault
+faultAt s read tail disk p (Change kind page slot number copy width next) = fateFault disk (fateIn number (scan s read tail next))
+faultAt s read tail disk p (Close kind number next) = NoFault
+faultAt s read tail disk p Malformed = BadRecord disk p

@@ -1,0 +1,3 @@
+// Many restart steps of one source in one call.
+pub mod fates;
+pub mod run;
