@@ -41,9 +41,6 @@ fn after_the_loss(
     logs: &Logs,
     work: &mut Work,
 ) {
-    if plan.restarts == 0 {
-        return;
-    }
     let records = restarted(plan.restarts, anchor, pages, backups, logs, work);
     count(records, b" records\n");
     count(digest(pages, 8192, 1), b" after\n");
@@ -65,12 +62,14 @@ fn main() {
         &mut logs,
         &mut work,
     );
-    after_the_loss(
-        plan,
-        &mut anchor,
-        &mut pages,
-        &mut backups,
-        &logs,
-        &mut work,
-    );
+    if plan.restarts > 0 {
+        after_the_loss(
+            plan,
+            &mut anchor,
+            &mut pages,
+            &mut backups,
+            &logs,
+            &mut work,
+        );
+    }
 }

@@ -48,15 +48,15 @@ fn replayed(
     source_replayed(copied.state, 0, anchor, pages, backups, logs, work)
 }
 
-// So many restarts, of which only the last is ended, because an end empties the retained log. Answers the records of one.
-pub fn restarted(
+// So many restarts, none of which is ended, because an end empties the retained log.
+fn repeated(
     restarts: u64,
-    anchor: &mut Anchor,
+    anchor: &Anchor,
     pages: &mut Pages,
-    backups: &mut Backups,
+    backups: &Backups,
     logs: &Logs,
-    work: &mut Work,
-) -> u64 {
+    work: &Work,
+) -> Progress {
     let mut last = Progress {
         state: store::new_state(),
         items: 0,
@@ -66,6 +66,19 @@ pub fn restarted(
         left -= 1;
         last = replayed(anchor, pages, backups, logs, work);
     }
+    last
+}
+
+// So many restarts, of which only the last is ended. Answers the records of one.
+pub fn restarted(
+    restarts: u64,
+    anchor: &mut Anchor,
+    pages: &mut Pages,
+    backups: &mut Backups,
+    logs: &Logs,
+    work: &mut Work,
+) -> u64 {
+    let last = repeated(restarts, anchor, pages, backups, logs, work);
     let mut budget = u64::MAX;
     restart_end(last.state, anchor, pages, backups, logs, work, &mut budget);
     last.items

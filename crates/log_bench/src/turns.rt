@@ -7,9 +7,9 @@ use trial_table::words::times;
 // In a round `together` transactions begin, make `length` updates each, by turns, and are closed. One long transaction is a round,
 // sixteen interleaved ones are a round, short ones are a round each. Those that are left open have one round, and are at most sixteen.
 pub struct Plan {
-    pub together: u64,
+    together: u64,
     pub length: u64,
-    pub rounds: u64,
+    rounds: u64,
     pub closing: u64,
     pub restarts: u64,
 }
@@ -17,7 +17,7 @@ pub struct Plan {
 // What `closing` may be; any other number commits.
 pub const ABORTED: u64 = 1;
 
-pub const LEFT_OPEN: u64 = 2;
+const LEFT_OPEN: u64 = 2;
 
 // Five lines of 20 bytes: a number with zeros in front, and the line's end.
 pub fn read_plan() -> Plan {

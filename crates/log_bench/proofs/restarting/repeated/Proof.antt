@@ -1,7 +1,7 @@
--- `log_bench::restarting::restarted` is safe and ends: the restarts that are left fall. Assumes nothing.
+-- `log_bench::restarting::repeated` is safe and ends: the restarts that are left fall. Assumes nothing.
 use borrow.Author.Needs.{needs}
-use Rattle.log_bench.proofs.restarting.restarted.Statement.{statement}
-use Rattle.log_bench.proofs.restarting.restarted.Tie as tie
+use Rattle.log_bench.proofs.restarting.repeated.Statement.{statement}
+use Rattle.log_bench.proofs.restarting.repeated.Tie as tie
 
 abbrev Inv-loop : tie.InvT-loop
 Inv-loop restarts anchor pages₀ backups logs work last₀ left₀ pages last left = Unit {0}
@@ -9,8 +9,8 @@ Inv-loop restarts anchor pages₀ backups logs work last₀ left₀ pages last l
 abbrev μ-loop : tie.MeasureT-loop
 μ-loop restarts anchor pages₀ backups logs work last₀ left₀ pages last left = left
 
-pub restarted-spec : {M : Type 1} → statement M
-restarted-spec =
+pub repeated-spec : {M : Type 1} → statement M
+repeated-spec =
     tie.close
     (tie.spec
     Inv-loop
@@ -21,5 +21,4 @@ restarted-spec =
     (λ c κs. tt)
     (λ c. search needs)
     (λ c. tt)
-    (λ c κs. tt)
     (λ c. tt))
