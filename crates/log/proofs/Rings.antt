@@ -25,7 +25,7 @@ use Rattle.model.proofs.Parts.{length-part, getD-part}
 use Rattle.model.proofs.Reader.{Holds, holds-from, append-holds, span-holds, span-cong, read-ring}
 use Rattle.log.proofs.Scanning.{faults-step}
 use Rattle.log.specs.Reading.{Checkable}
-use Rattle.log.specs.Ring.{readRing, Ring, InRing, EntriesOf, Entries}
+use Rattle.log.specs.Ring.{readRing, ringAt, Ring, InRing, EntriesOf, Entries}
 
 -- n words further on
 module _ (ring at n : ℕ) (h : at < ring) (few : n ≤ ring) where
@@ -38,12 +38,12 @@ module _ (ring at n : ℕ) (h : at < ring) (few : n ≤ ring) where
       sym (mod-eq-of-lt low) ∙ sym (mod-eq-sub-mod l) ∙ ap (λ (x : ℕ). (x + n) % ring) is ∙ mod-add-mod p ring n
 
 -- an index lies in its ring
-pub within : {logs : List ℕ} {place ring tail at : ℕ} → Ring logs place ring tail → (p : ℕ) → at ≡ p % ring → at < ring
+pub within : {ring : List ℕ} {tail at : ℕ} → Ring ring tail → (p : ℕ) → at ≡ p % length ring → at < length ring
 within {ring} r p e =
-    let some : 0 < ring = omega (arith, r .ring-min) in
+    let some : 0 < length ring = omega (arith, r .ring-min) in
     omega (arith, mod-lt p some, e)
 
-pub index-lt : {logs : List ℕ} {place ring tail p at : ℕ} → Ring logs place ring tail → InRing ring tail p at → at < ring
+pub index-lt : {ring : List ℕ} {tail p at : ℕ} → Ring ring tail → InRing ring tail p at → at < length ring
 index-lt {p} r i = within r p (i .at-is)
 
 pub entries-long : {slots widths : List ℕ} → Entries slots widths → (length slots ≡ 64) × (length widths ≡ 64)
@@ -67,66 +67,78 @@ change-short s ok {page} f =
 pub close-short : {stop p kind number next : ℕ} → CloseAt stop p kind number next → (p < next) × (next - p ≤ 35) × (next ≤ stop)
 close-short f = (omega (arith, f .next-eq), omega (arith, f .next-eq), f .next-le)
 
+-- a disk's ring by where it lies
+pub ring-is : (s : Sizes) (logs : List ℕ) (disk : ℕ) {place size : ℕ} {ring : List ℕ} → place ≡ diskAt s disk → size ≡ ringOf s disk
+    → ring ≡ part (place + 1) size logs → ring ≡ ringAt s logs disk
+unfolding ringAt
+ring-is s logs disk at e is = is ∙ rw (at, e) refl
+
 -- a disk's ring, read below its tail
-module _ (s : Sizes) (logs : List ℕ) (disk tail : ℕ) where
-  ring-read : (p : ℕ) → p < tail → readRing logs (diskAt s disk) (ringOf s disk) p ≡ readLog s logs disk tail [] p
-  unfolding readRing ringWord
-  ring-read p h = sym (read-ring s logs disk tail [] p h)
+module _ (s : Sizes) (logs : List ℕ) (disk tail : ℕ) (fits : diskAt s disk + ringOf s disk + 1 ≤ length logs) (some : 0 < ringOf s disk) where
+  pub ring-size : length (ringAt s logs disk) ≡ ringOf s disk
+  unfolding ringAt
+  ring-size = length-part (diskAt s disk + 1) (ringOf s disk) logs (omega arith)
+
+  ring-read : (p : ℕ) → p < tail → readRing (ringAt s logs disk) p ≡ readLog s logs disk tail [] p
+  unfolding readRing ringAt ringWord
+  ring-read p h =
+      rw ring-size (getD-part (diskAt s disk + 1) (ringOf s disk) logs (p % ringOf s disk) (mod-lt p some)) ∙ sym (read-ring s logs disk tail [] p h)
 
   pub ring-decode : (p : ℕ) → p < tail
-      → decodeAt s (readRing logs (diskAt s disk) (ringOf s disk)) tail p ≡ decodeAt s (readLog s logs disk tail []) tail p
+      → decodeAt s (readRing (ringAt s logs disk)) tail p ≡ decodeAt s (readLog s logs disk tail []) tail p
   ring-decode p h = decode-cong s _ _ tail p h (λ q l m. ring-read q m)
 
   pub ring-scan : (p : ℕ)
-      → scan s (readRing logs (diskAt s disk) (ringOf s disk)) tail p ≡ scan s (readLog s logs disk tail []) tail p
+      → scan s (readRing (ringAt s logs disk)) tail p ≡ scan s (readLog s logs disk tail []) tail p
   ring-scan p = scan-cong s _ _ tail p (λ q l m. ring-read q m)
 
   pub ring-span : (p n : ℕ) → p + n ≤ tail
-      → span (readRing logs (diskAt s disk) (ringOf s disk)) p n ≡ span (readLog s logs disk tail []) p n
+      → span (readRing (ringAt s logs disk)) p n ≡ span (readLog s logs disk tail []) p n
   ring-span p n h = span-cong _ _ p n (λ q l m. ring-read q (omega arith))
 
--- the words of positions that lie on in the ring, up to its end, are a part of the logs
-module _ (logs : List ℕ) (place ring : ℕ) (fits : place + (ring + 1) ≤ length logs) where
-  pub run-holds : (p at n : ℕ) → at ≡ p % ring → at + n ≤ ring → Holds (readRing logs place ring) p (part (place + 1 + at) n logs)
+-- the words of positions that lie on in the ring, up to its end, are a part of it
+module _ (ring : List ℕ) where
+  pub run-holds : (p at n : ℕ) → at ≡ p % length ring → at + n ≤ length ring → Holds (readRing ring) p (part at n ring)
   unfolding readRing
   run-holds p at n is h =
-      let long : length (part (place + 1 + at) n logs) ≡ n = length-part (place + 1 + at) n logs (omega arith) in
-      holds-from (readRing logs place ring) p (part (place + 1 + at) n logs) (λ q l m. word q l (omega (arith, long, m)))
+      let long : length (part at n ring) ≡ n = length-part at n ring h in
+      holds-from (readRing ring) p (part at n ring) (λ q l m. word q l (omega (arith, long, m)))
     where
-      word : (q : ℕ) → p ≤ q → q < p + n → getD logs (place + 1 + q % ring) 0 ≡ getD (part (place + 1 + at) n logs) (q - p) 0
+      word : (q : ℕ) → p ≤ q → q < p + n → getD ring (q % length ring) 0 ≡ getD (part at n ring) (q - p) 0
       word q l m =
-          let on : at + (q - p) ≡ q % ring = stepped p q ring (at + (q - p)) l (step-on ring at (q - p) (omega arith) (omega arith) (omega arith) p is) in
-          ap (λ (i : ℕ). getD logs i 0) (omega (arith, on)) ∙ sym (getD-part (place + 1 + at) n logs (q - p) (omega arith))
+          let on : at + (q - p) ≡ q % length ring =
+          stepped p q (length ring) (at + (q - p)) l (step-on (length ring) at (q - p) (omega arith) (omega arith) (omega arith) p is) in
+          ap (λ (i : ℕ). getD ring i 0) (sym on) ∙ sym (getD-part at n ring (q - p) (omega arith))
 
-  pub span-run : (p at n : ℕ) → at ≡ p % ring → at + n ≤ ring → span (readRing logs place ring) p n ≡ part (place + 1 + at) n logs
+  pub span-run : (p at n : ℕ) → at ≡ p % length ring → at + n ≤ length ring → span (readRing ring) p n ≡ part at n ring
   span-run p at n is h =
-      let long : length (part (place + 1 + at) n logs) ≡ n = length-part (place + 1 + at) n logs (omega arith) in
-      ap (span (readRing logs place ring) p) (sym long) ∙ span-holds _ p _ (run-holds p at n is h)
+      let long : length (part at n ring) ≡ n = length-part at n ring h in
+      ap (span (readRing ring) p) (sym long) ∙ span-holds _ p _ (run-holds p at n is h)
 
   -- past the ring's end they go on at its first word
-  pub span-round : (p at n : ℕ) → at ≡ p % ring → at < ring → ring ≤ at + n → n ≤ ring
-      → span (readRing logs place ring) p n ≡ part (place + 1 + at) (ring - at) logs ++ part (place + 1) (n - (ring - at)) logs
+  pub span-round : (p at n : ℕ) → at ≡ p % length ring → at < length ring → length ring ≤ at + n → n ≤ length ring
+      → span (readRing ring) p n ≡ part at (length ring - at) ring ++ part 0 (n - (length ring - at)) ring
   span-round p at n is low past few =
-      ap (span (readRing logs place ring) p) (sym whole) ∙ span-holds _ p _ (append-holds _ p first _ (run-holds p at (ring - at) is (omega arith)) next)
+      ap (span (readRing ring) p) (sym whole) ∙ span-holds _ p _ (append-holds _ p first _ (run-holds p at (length ring - at) is (omega arith)) next)
     where
       first : List ℕ
-      first = part (place + 1 + at) (ring - at) logs
+      first = part at (length ring - at) ring
 
       second : List ℕ
-      second = part (place + 1) (n - (ring - at)) logs
+      second = part 0 (n - (length ring - at)) ring
 
-      one : length first ≡ ring - at
-      one = length-part (place + 1 + at) (ring - at) logs (omega arith)
+      one : length first ≡ length ring - at
+      one = length-part at (length ring - at) ring (omega arith)
 
       whole : length (first ++ second) ≡ n
-      whole = rw (length-append, one, length-part (place + 1) (n - (ring - at)) logs (omega arith)) (omega arith)
+      whole = rw (length-append, one, length-part 0 (n - (length ring - at)) ring (omega arith)) (omega arith)
 
-      next : Holds (readRing logs place ring) (p + length first) second
+      next : Holds (readRing ring) (p + length first) second
       next =
-          let zero : at + (ring - at) - ring ≡ (p + (ring - at)) % ring = step-round ring at (ring - at) low (omega arith) (omega arith) p is in
-          let start : 0 ≡ (p + (ring - at)) % ring = omega (arith, zero) in
-          let same : place + 1 + 0 ≡ place + 1 = omega arith in
-          rw one (rw same at (run-holds (p + (ring - at)) 0 (n - (ring - at)) start (omega arith)))
+          let zero : at + (length ring - at) - length ring ≡ (p + (length ring - at)) % length ring =
+          step-round (length ring) at (length ring - at) low (omega arith) (omega arith) p is in
+          let start : 0 ≡ (p + (length ring - at)) % length ring = omega (arith, zero) in
+          rw one (run-holds (p + (length ring - at)) 0 (n - (length ring - at)) start (omega arith))
 
 or-middle : (a b : Bool) → true ≡ (a || true || b)
 or-middle true b = refl
@@ -149,29 +161,27 @@ module _ (s : Sizes) {slots widths : List ℕ} (e : EntriesOf s slots widths) (w
           absurd (omega (arith, rw (e .same-slots) at none))
 
 -- a disk's ring in logs that can be checked
-module _ (s : Sizes) (logs : List ℕ) (ok : Checkable s logs) (d : ℕ) (h : d < s .disks) {place : ℕ} (at : place ≡ diskAt s d) where
-  pub disk-fits : place + (s .ring + 1) ≤ length logs
+module _ (s : Sizes) (logs : List ℕ) (ok : Checkable s logs) (d : ℕ) (h : d < s .disks) where
+  pub disk-fits : diskAt s d + ringOf s d + 1 ≤ length logs
+  disk-fits = omega (arith, disk-within s d h, ok .logs-length)
+
+  ring-some : 0 < ringOf s d
   unfolding ringOf
-  disk-fits = omega (arith, disk-within s d h, ok .logs-length, at)
+  ring-some = omega (arith, bounded s (ok .bounds) .ring-min)
 
-  pub disk-ring : {tail : ℕ} → tail ≡ getD logs place 0 → Ring logs place (s .ring) tail
-  disk-ring to =
+  pub disk-ring : Ring (ringAt s logs d) (getD logs (diskAt s d) 0)
+  unfolding ringOf
+  disk-ring =
       let b = bounded s (ok .bounds) in
-      record {
-        ring-min = omega (arith, b .ring-min);
-        ring-max = b .ring-max;
-        place-fits = disk-fits;
-        tail-low = rw (to, at) (ok .tails-low d h);
-      }
+      let size = ring-size s logs d (getD logs (diskAt s d) 0) disk-fits ring-some in
+      record { ring-min = omega (arith, size, b .ring-min); ring-max = omega (arith, size, b .ring-max); tail-low = ok .tails-low d h }
 
--- a disk's ring read by index is its log: the check of all disks goes on with it
-module _ (s : Sizes) (start : ℕ → ℕ) (logs : List ℕ) (disks d : ℕ) (h : d < disks) {place ring tail : ℕ} (at : place ≡ diskAt s d)
-    (size : ring ≡ ringOf s d) (to : tail ≡ getD logs place 0)
-  where
-    pub disk-begins : faultIn d (scan s (readRing logs place ring) tail (start d)) (faultFrom s start logs (disks - (d + 1)) (d + 1))
-        ≡ faultFrom s start logs (disks - d) d
-    unfolding tailIn tailWord
-    disk-begins =
-        rw (to, at, size)
-        (ap (λ (x : Scan). faultIn d x (faultFrom s start logs (disks - (d + 1)) (d + 1))) (ring-scan s logs d (getD logs (diskAt s d) 0) (start d))
-        ∙ sym (faults-step s start logs disks d h))
+  -- read by index it is the disk's log: the check of all disks goes on with it
+  pub disk-begins : (start : ℕ → ℕ) {tail : ℕ} → tail ≡ getD logs (diskAt s d) 0
+      → faultIn d (scan s (readRing (ringAt s logs d)) tail (start d)) (faultFrom s start logs (s .disks - (d + 1)) (d + 1))
+      ≡ faultFrom s start logs (s .disks - d) d
+  unfolding tailIn tailWord
+  disk-begins start to =
+      rw to
+      (ap (λ (x : Scan). faultIn d x (faultFrom s start logs (s .disks - (d + 1)) (d + 1))) (ring-scan s logs d (getD logs (diskAt s d) 0) disk-fits ring-some (start d))
+      ∙ sym (faults-step s start logs (s .disks) d h))

@@ -2,6 +2,7 @@
 use crate::read::Extent;
 use crate::read::decode_at;
 use crate::ring::decode_ring;
+use crate::ring::ring_words;
 use layout::disks::disk_at;
 use layout::disks::ring_of;
 use model::Decoded;
@@ -91,12 +92,13 @@ pub fn check_disks(sizes: Sizes, logs: &[u64], starts: [u64; 8]) -> Fault
     let mut fault = Fault::NoFault;
     'disks: while d < disks {
         let place = disk_at(sizes, d);
-        let ring = ring_of(sizes, d);
+        let ring = ring_words(logs, place, ring_of(sizes, d));
+        let size = ring.len() as u64;
         let tail = logs[place as usize];
         let mut p = starts[d as usize];
         while p < tail {
-            let at = p % ring;
-            let here = decode_ring(&slots, &widths, logs, place, ring, tail, p, at);
+            let at = p % size;
+            let here = decode_ring(&slots, &widths, ring, tail, p, at);
             let (Decoded::Change { next, .. } | Decoded::Close { next, .. }) = here else {
                 fault = Fault::BadRecord {
                     disk: d,

@@ -45,25 +45,25 @@ xor-append l at a b fits =
     ∙ sym (sets-append l at first (xors (part (at + length a) (length b) l) b)))
 
 -- n words of a ring from an index on
-module _ (logs : List ℕ) (place ring : ℕ) (fits : place + (ring + 1) ≤ length logs) (pages : List ℕ) (to at n : ℕ) where
-  pub xor-run : {after : List ℕ} → at + n ≤ ring → after ≡ xorAt to (part (place + 1 + at) n logs) pages
-      → (p : ℕ) → at ≡ p % ring → after ≡ xorAt to (span (readRing logs place ring) p n) pages
-  xor-run h did p is = did ∙ ap (λ (d : List ℕ). xorAt to d pages) (sym (span-run logs place ring fits p at n is h))
+module _ (ring pages : List ℕ) (to at n : ℕ) where
+  pub xor-run : {after : List ℕ} → at + n ≤ length ring → after ≡ xorAt to (part at n ring) pages
+      → (p : ℕ) → at ≡ p % length ring → after ≡ xorAt to (span (readRing ring) p n) pages
+  xor-run h did p is = did ∙ ap (λ (d : List ℕ). xorAt to d pages) (sym (span-run ring p at n is h))
 
-  pub xor-round : {middle after : List ℕ} → at < ring → ring < at + n → n ≤ ring → to + n ≤ length pages
-      → middle ≡ xorAt to (part (place + 1 + at) (ring - at) logs) pages
-      → after ≡ xorAt (to + (ring - at)) (part (place + 1) (n - (ring - at)) logs) middle
-      → (p : ℕ) → at ≡ p % ring → after ≡ xorAt to (span (readRing logs place ring) p n) pages
+  pub xor-round : {middle after : List ℕ} → at < length ring → length ring < at + n → n ≤ length ring → to + n ≤ length pages
+      → middle ≡ xorAt to (part at (length ring - at) ring) pages
+      → after ≡ xorAt (to + (length ring - at)) (part 0 (n - (length ring - at)) ring) middle
+      → (p : ℕ) → at ≡ p % length ring → after ≡ xorAt to (span (readRing ring) p n) pages
   xor-round {middle} low past few room did then p is =
-      let a : List ℕ = part (place + 1 + at) (ring - at) logs in
-      let b : List ℕ = part (place + 1) (n - (ring - at)) logs in
-      let one : length a ≡ ring - at = length-part (place + 1 + at) (ring - at) logs (omega arith) in
-      let two : length b ≡ n - (ring - at) = length-part (place + 1) (n - (ring - at)) logs (omega arith) in
+      let a : List ℕ = part at (length ring - at) ring in
+      let b : List ℕ = part 0 (n - (length ring - at)) ring in
+      let one : length a ≡ length ring - at = length-part at (length ring - at) ring (omega arith) in
+      let two : length b ≡ n - (length ring - at) = length-part 0 (n - (length ring - at)) ring (omega arith) in
       then
-      ∙ ap (xorAt (to + (ring - at)) b) did
+      ∙ ap (xorAt (to + (length ring - at)) b) did
       ∙ ap (λ (k : ℕ). xorAt (to + k) b (xorAt to a pages)) (sym one)
       ∙ xor-append pages to a b (omega (arith, one, two))
-      ∙ ap (λ (d : List ℕ). xorAt to d pages) (sym (span-round logs place ring fits p at n is low (omega arith) few))
+      ∙ ap (λ (d : List ℕ). xorAt to d pages) (sym (span-round ring p at n is low (omega arith) few))
 
 -- sums set one after the other
 pub sums-more : (f : ℕ → ℕ) (l : List ℕ) (i sum : ℕ) → i < length l → sum ≡ sumBelow f i

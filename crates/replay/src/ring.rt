@@ -30,41 +30,25 @@ pub fn page_bases(sizes: Sizes) -> [u64; 64]
 }
 
 // XORs n words of a ring, from an index on, into pages at `to`: in one run, or in two around the ring's end.
-fn xor_ring(pages: &mut [u64], to: u64, logs: &[u64], place: u64, ring: u64, at: u64, n: u64)
-    requires { ⌜ (at < ring) × (n ≤ ring) × (place + (ring + 1) ≤ length (now logs)) × (to + n ≤ length (now pages)) ⌝ }
-    ensures { λ _. ⌜ ((p : ℕ) → at ≡ p % ring → now (pages .exit) ≡ xorAt to (span (readRing (now (logs .entry)) place ring) p n) (now (pages .entry))) ⌝ }
+fn xor_ring(pages: &mut [u64], to: u64, ring: &[u64], at: u64, n: u64)
+    requires { ⌜ (at < length (now ring)) × (n ≤ length (now ring)) × (to + n ≤ length (now pages)) ⌝ }
+    ensures { λ _. ⌜ ((p : ℕ) → at ≡ p % length (now (ring .entry)) → now (pages .exit) ≡ xorAt to (span (readRing (now (ring .entry))) p n) (now (pages .entry))) ⌝ }
 {
-    let run = ring - at;
-    let from = (place + 1 + at) as usize;
+    let run = ring.len() as u64 - at;
     if n <= run {
-        xor_in(pages, to as usize, logs, from, n as usize);
+        xor_in(pages, to as usize, ring, at as usize, n as usize);
         return;
     }
-    xor_in(pages, to as usize, logs, from, run as usize);
-    xor_in(
-        pages,
-        (to + run) as usize,
-        logs,
-        (place + 1) as usize,
-        (n - run) as usize,
-    );
+    xor_in(pages, to as usize, ring, at as usize, run as usize);
+    xor_in(pages, (to + run) as usize, ring, 0, (n - run) as usize);
 }
 
 // The same if `replays` says so, and else nothing.
-pub fn replay_ring(
-    replays: bool,
-    pages: &mut [u64],
-    to: u64,
-    logs: &[u64],
-    place: u64,
-    ring: u64,
-    at: u64,
-    n: u64,
-)
-    requires { ⌜ (at < ring) × (n ≤ ring) × (place + (ring + 1) ≤ length (now logs)) × (to + n ≤ length (now pages)) ⌝ }
-    ensures { λ _. ⌜ ((p : ℕ) → at ≡ p % ring → now (pages .exit) ≡ cond replays (xorAt to (span (readRing (now (logs .entry)) place ring) p n) (now (pages .entry))) (now (pages .entry))) ⌝ }
+pub fn replay_ring(replays: bool, pages: &mut [u64], to: u64, ring: &[u64], at: u64, n: u64)
+    requires { ⌜ (at < length (now ring)) × (n ≤ length (now ring)) × (to + n ≤ length (now pages)) ⌝ }
+    ensures { λ _. ⌜ ((p : ℕ) → at ≡ p % length (now (ring .entry)) → now (pages .exit) ≡ cond replays (xorAt to (span (readRing (now (ring .entry))) p n) (now (pages .entry))) (now (pages .entry))) ⌝ }
 {
     if replays {
-        xor_ring(pages, to, logs, place, ring, at, n);
+        xor_ring(pages, to, ring, at, n);
     }
 }

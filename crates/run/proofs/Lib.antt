@@ -1,5 +1,6 @@
 -- A run: its memory of fates, and its steps.
 pub mod Memory
+pub mod Searching
 pub mod Faults
 pub mod Facts
 pub mod Onward

@@ -1,4 +1,4 @@
--- The memory of fates: a number found in it, one taken out, one put in.
+-- The memory of fates: a number found in it, one taken out.
 use mathlib.Core.Path.{_≡_, refl, sym, ap, _∙_}
 use mathlib.Core.List.{List}
 use mathlib.Core.Bool.{Bool, false}
@@ -67,38 +67,6 @@ module _ (numbers : List ℕ) (closed : List Bool) (used number : ℕ) {i : ℕ}
             m .once j k (omega arith) (omega arith)
             (rw (getD-set-other numbers i j (getD numbers (used - 1) 0) 0 a, getD-set-other numbers i k (getD numbers (used - 1) 0) 0 b) at e)
 
-module _ (numbers : List ℕ) (closed : List Bool) (number : ℕ) (b : Bool) {fate : ℕ → Fate} (right : fate number ≡ fateOf b) where
-  -- a number that is not among them
-  pub remembered : (used : ℕ) → ((i : ℕ) → i < used → getD numbers i 0 ≡ number → ⊥) → Remembers fate numbers closed used
-      → used < length numbers → used < length closed → Remembers fate (set numbers used number) (set closed used b) (used + 1)
-  remembered used absent m long wide =
-      record { right = λ j l. new j l (ℕ-discrete j used); once = λ j k l n e. once j k l n e (ℕ-discrete j used) (ℕ-discrete k used) }
-    where
-      new : (j : ℕ) → j < used + 1 → Dec (j ≡ used) → fate (getD (set numbers used number) j 0) ≡ fateOf (getD (set closed used b) j false)
-      new j l (yes e) = rw (e, getD-set-same numbers used number 0 long, getD-set-same closed used b false wide) right
-      new j l (no ne) = rw (getD-set-other numbers used j number 0 ne, getD-set-other closed used j b false ne) (m .right j (omega (arith, ne)))
-
-      once : (j k : ℕ) → j < used + 1 → k < used + 1 → getD (set numbers used number) j 0 ≡ getD (set numbers used number) k 0
-          → Dec (j ≡ used) → Dec (k ≡ used) → j ≡ k
-      once j k l n e (yes a) (yes c) = a ∙ sym c
-      once j k l n e (yes a) (no c) =
-          absurd (absent k (omega (arith, c)) (sym (rw (a, getD-set-same numbers used number 0 long, getD-set-other numbers used k number 0 c) at e)))
-      once j k l n e (no a) (yes c) =
-          absurd (absent j (omega (arith, a)) (rw (c, getD-set-same numbers used number 0 long, getD-set-other numbers used j number 0 a) at e))
-      once j k l n e (no a) (no c) =
-          m .once j k (omega (arith, a)) (omega (arith, c)) (rw (getD-set-other numbers used j number 0 a, getD-set-other numbers used k number 0 c) at e)
-
-  -- the first of a new memory
-  pub remembered-first : 0 < length numbers → 0 < length closed → Remembers fate (set numbers 0 number) (set closed 0 b) 1
-  remembered-first long wide =
-      record {
-        right = λ j l. first j (omega arith);
-        once = λ j k l n e. omega arith;
-      }
-    where
-      first : (j : ℕ) → j ≡ 0 → fate (getD (set numbers 0 number) j 0) ≡ fateOf (getD (set closed 0 b) j false)
-      first j e = rw (e, getD-set-same numbers 0 number 0 long, getD-set-same closed 0 b false wide) right
-
 -- nothing is remembered at first
 pub remembers-none : (fate : ℕ → Fate) (numbers : List ℕ) (closed : List Bool) → Remembers fate numbers closed 0
 remembers-none fate numbers closed = record { right = λ j l. absurd (omega arith); once = λ j k l n e. absurd (omega arith) }
@@ -107,3 +75,8 @@ remembers-none fate numbers closed = record { right = λ j l. absurd (omega arit
 pub remembers-later : {fate later : ℕ → Fate} {numbers : List ℕ} {closed : List Bool} {used : ℕ} → ((n : ℕ) → later n ≡ fate n)
     → Remembers fate numbers closed used → Remembers later numbers closed used
 remembers-later same m = record { right = λ j l. same _ ∙ m .right j l; once = m .once }
+
+-- the first of them
+pub remembers-fewer : {fate : ℕ → Fate} {numbers : List ℕ} {closed : List Bool} {used few : ℕ} → few ≤ used
+    → Remembers fate numbers closed used → Remembers fate numbers closed few
+remembers-fewer h m = record { right = λ j l. m .right j (omega (arith, h, l)); once = λ j k l n e. m .once j k (omega (arith, h, l)) (omega (arith, h, n)) e }

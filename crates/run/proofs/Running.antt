@@ -13,7 +13,7 @@ use Rattle.model.specs.declared.Decoded.the-variants.{Change, Close, Malformed}
 use Rattle.model.specs.declared.Fault.{Fault}
 use Rattle.model.specs.declared.Fate.{Fate}
 use Rattle.model.specs.declared.Fate.the-variants.{Unreadable}
-use Rattle.model.specs.Sizes.{ringOf, diskAt, slotBase}
+use Rattle.model.specs.Sizes.{slotBase}
 use Rattle.model.specs.Decode.{readLog, span, decodeAt}
 use Rattle.model.specs.Scan.{scan, fateIn}
 use Rattle.model.specs.Image.{xorAt}
@@ -23,21 +23,21 @@ use Rattle.model.specs.State.{withReplay, tailOf}
 use Rattle.model.specs.Restart.{positionOf, replays, readDisk, fateFrom, nextRecord, fateFault, recordFault, stepFault, movedTo}
 use Rattle.model.proofs.Sound.Test.{ReplaySound, replay-sound, replaying-test}
 use Rattle.model.proofs.Restart.Words.{withPages}
-use Rattle.log.specs.Ring.{readRing}
+use Rattle.log.specs.Ring.{readRing, ringAt}
 use Rattle.log.proofs.Rings.{ring-decode, ring-scan, ring-span}
 use Rattle.run.specs.Run.{Passes, RanOn, Onward, faultAt}
 use Rattle.replay.proofs.Stepping.{fault-here, step-none, step-malformed, step-close, step-unreadable, step-change}
+use Rattle.run.proofs.Facts.{DiskRing}
 use Rattle.run.proofs.Onward.{onward-none, onward-step, onward-most, onward-stop}
 
-module _ (c : Core) (w : World) (disk : ℕ) (h : disk < c .sizes .disks) (long : disk < length (c .replay .positions)) (place : ℕ)
-    (lies : place ≡ diskAt (c .sizes) disk) where
+module _ (c : Core) (w : World) (disk : ℕ) (h : disk < c .sizes .disks) (long : disk < length (c .replay .positions)) (ring : List ℕ)
+    (lies : DiskRing (c .sizes) (w .logs) disk ring) where
   -- the disk's ring
   abbrev word : ℕ → ℕ
-  word = readRing (w .logs) place (c .sizes .ring)
+  word = readRing ring
 
-  word-is : word ≡ readRing (w .logs) (diskAt (c .sizes) disk) (ringOf (c .sizes) disk)
-  unfolding ringOf
-  word-is = ap (λ (at : ℕ). readRing (w .logs) at (c .sizes .ring)) lies
+  word-is : word ≡ readRing (ringAt (c .sizes) (w .logs) disk)
+  word-is = ap readRing (lies .same)
 
   abbrev tail : ℕ
   tail = tailOf (c .logs) disk
@@ -86,7 +86,7 @@ module _ (c : Core) (w : World) (disk : ℕ) (h : disk < c .sizes .disks) (long 
   fates : (number next : ℕ) → fateIn number (scan (c .sizes) word tail next) ≡ fateIn number (scan (c .sizes) (readLog (c .sizes) (w .logs) disk tail []) tail next)
   fates number next =
       ap (λ (read : ℕ → ℕ). fateIn number (scan (c .sizes) read tail next)) word-is
-      ∙ ap (fateIn number) (ring-scan (c .sizes) (w .logs) disk tail next)
+      ∙ ap (fateIn number) (ring-scan (c .sizes) (w .logs) disk tail (lies .inside) (lies .some) next)
 
   -- row 7 of the next step
   pub fault-at : {r : Fault} → positionOf c disk < tail
@@ -94,7 +94,7 @@ module _ (c : Core) (w : World) (disk : ℕ) (h : disk < c .sizes .disks) (long 
   unfolding nextRecord readDisk fateFrom
   fault-at l is =
       fault-here c w disk h l
-      (sym (ap (λ (read : ℕ → ℕ). decodeAt (c .sizes) read tail (positionOf c disk)) word-is ∙ ring-decode (c .sizes) (w .logs) disk tail (positionOf c disk) l))
+      (sym (ap (λ (read : ℕ → ℕ). decodeAt (c .sizes) read tail (positionOf c disk)) word-is ∙ ring-decode (c .sizes) (w .logs) disk tail (lies .inside) (lies .some) (positionOf c disk) l))
       ∙ go (decodeAt (c .sizes) word tail (positionOf c disk))
       ∙ sym is
     where
@@ -107,7 +107,7 @@ module _ (c : Core) (w : World) (disk : ℕ) (h : disk < c .sizes .disks) (long 
     next-at : {r : Decoded} → p < tail → r ≡ decodeAt (c .sizes) word tail p → nextRecord (movedTo c disk p) (withPages w pages) disk ≡ r
     unfolding nextRecord readDisk movedTo withReplay
     next-at l is =
-        ap (decodeAt (c .sizes) (readDisk c w disk) tail) (moved-position p) ∙ sym (is ∙ ap (λ (read : ℕ → ℕ). decodeAt (c .sizes) read tail p) word-is ∙ ring-decode (c .sizes) (w .logs) disk tail p l)
+        ap (decodeAt (c .sizes) (readDisk c w disk) tail) (moved-position p) ∙ sym (is ∙ ap (λ (read : ℕ → ℕ). decodeAt (c .sizes) read tail p) word-is ∙ ring-decode (c .sizes) (w .logs) disk tail (lies .inside) (lies .some) p l)
 
     fate-at : {f : Fate} (number next : ℕ) → f ≡ fateIn number (scan (c .sizes) word tail next)
         → fateFrom (movedTo c disk p) (withPages w pages) disk number next ≡ f
@@ -119,7 +119,7 @@ module _ (c : Core) (w : World) (disk : ℕ) (h : disk < c .sizes .disks) (long 
     unfolding readDisk movedTo withReplay
     span-at width fits =
         ap (λ (read : ℕ → ℕ). span read (p + 3) width) word-is
-        ∙ ring-span (c .sizes) (w .logs) disk tail (p + 3) width fits
+        ∙ ring-span (c .sizes) (w .logs) disk tail (lies .inside) (lies .some) (p + 3) width fits
         ∙ ap (λ (q : ℕ). span (readDisk c w disk) (q + 3) width) (sym (moved-position p))
 
   -- the start of a run

@@ -60,6 +60,20 @@ pub record Remembers (fate : ℕ → Fate) (numbers : List ℕ) (closed : List B
   pub right : (i : ℕ) → i < used → fate (getD numbers i 0) ≡ fateOf (getD closed i false)
   pub once : (i j : ℕ) → i < used → j < used → getD numbers i 0 ≡ getD numbers j 0 → i ≡ j
 
+-- what is known of a fate so far: closed, or else what is found further on
+abbrev pub orAhead : Bool → Fate → Fate
+orAhead true ahead = Closed
+orAhead false ahead = ahead
+
+-- A search ahead that has come to a position: `fate` is what is found from its start on, `ahead` what is found from that position on.
+-- The first `used` numbers were remembered before it, the sought one is the next, and those behind were met: all, while there is room.
+pub record Searched (fate ahead : ℕ → Fate) (sought : ℕ) (numbers : List ℕ) (closed : List Bool) (used count : ℕ) : Type 0 where
+  pub first : used < count → getD numbers used 0 ≡ sought
+  pub right : (i : ℕ) → i < used → fate (getD numbers i 0) ≡ fateOf (getD closed i false)
+  pub met : (i : ℕ) → i < count → fate (getD numbers i 0) ≡ orAhead (getD closed i false) (ahead (getD numbers i 0))
+  pub unmet : count < 16 → (n : ℕ) → ((i : ℕ) → i < count → getD numbers i 0 ≡ n → ⊥) → fate n ≡ ahead n
+  pub once : (i j : ℕ) → i < count → j < count → getD numbers i 0 ≡ getD numbers j 0 → i ≡ j
+
 -- Row 7 of a step: the record's own fault, or that of the search ahead for its transaction's close.
 abbrev pub faultAt : Sizes → (ℕ → ℕ) → (tail disk p : ℕ) → Decoded → Fault
 faultAt s read tail disk p (Change kind page slot number copy width next) = fateFault disk (fateIn number (scan s read tail next))

@@ -1,7 +1,9 @@
-// A memory of fates for one run: sixteen transactions that have been met and are not closed yet, by number, and whether they are closed
-// further on. At most sixteen are open at once, so it suffices for every log that the calls write; for others it is only slower.
-use log::ring::fate_in_ring;
-use model::Fate;
+// A memory of fates for one run: sixteen transactions that have been met, here or further on, and are not closed yet, by number, and
+// whether they are closed further on. At most sixteen are open at once, so it suffices for every log that the calls write; for others it
+// is only slower.
+use crate::ahead::Recalled;
+use crate::ahead::known_fate;
+use crate::ahead::search_ahead;
 ghost use mathlib.Core.Path.{_≡_};
 ghost use Prim.Native.Nat.{ℕ, _≤_, _<_};
 ghost use lib.Dec.{eqb};
@@ -11,7 +13,7 @@ ghost use Rattle.model.specs.declared.Fate.{Fate};
 ghost use Rattle.model.specs.Below.{firstBelow};
 ghost use Rattle.model.specs.Scan.{scan, fateIn};
 ghost use Rattle.log.specs.Ring.{readRing, Ring, EntriesOf, Entries};
-ghost use Rattle.run.specs.Run.{fateOf, Remembers};
+ghost use Rattle.run.specs.Run.{Remembers};
 
 // The place of a number; `used` where it is not remembered.
 pub fn find(numbers: &[u64], used: usize, number: u64) -> usize
@@ -44,39 +46,12 @@ pub fn forget(numbers: &mut [u64], closed: &mut [bool], used: usize, number: u64
     last
 }
 
-// With a number that is not remembered yet. Where all sixteen are used, they are forgotten. Answers how many there are.
-pub fn remember(
-    numbers: &mut [u64],
-    closed: &mut [bool],
-    used: usize,
-    number: u64,
-    is_closed: bool,
-) -> usize
-    requires { ⌜ (used ≤ 16) × (length (now numbers) ≡ 16) × (length (now closed) ≡ 16) ⌝ }
-    ensures { λ r. ⌜ (r ≤ 16) × ((fate : ℕ → Fate) → fate number ≡ fateOf «is_closed» → ((i : ℕ) → i < used → getD (now (numbers .entry)) i 0 ≡ number → ⊥)
-        → Remembers fate (now (numbers .entry)) (now (closed .entry)) used → Remembers fate (now (numbers .exit)) (now (closed .exit)) r) ⌝ }
+// How many of them a search leaves: where all sixteen are used, they are forgotten.
+fn kept(used: usize) -> usize
+    requires { ⌜ used ≤ 16 ⌝ }
+    ensures { λ r. ⌜ (r < 16) × (r ≤ used) ⌝ }
 {
-    if used == 16 {
-        numbers[0] = number;
-        closed[0] = is_closed;
-        return 1;
-    }
-    numbers[used] = number;
-    closed[used] = is_closed;
-    used + 1
-}
-
-// A fate, and how many are remembered now.
-pub struct Recalled {
-    pub used: usize,
-    pub fate: Fate,
-}
-
-// The fate that is remembered of a transaction that is closed, or is not.
-fn known_fate(closed: bool) -> Fate
-    ensures { λ r. ⌜ r ≡ fateOf closed ⌝ }
-{
-    if closed { Fate::Closed } else { Fate::Unclosed }
+    if used == 16 { 0 } else { used }
 }
 
 // A transaction's fate from a position on: remembered, or else searched for and remembered.
@@ -86,43 +61,32 @@ pub fn recall(
     used: usize,
     slots: &[u8],
     widths: &[u8],
-    logs: &[u64],
-    place: u64,
-    ring: u64,
+    ring: &[u64],
     tail: u64,
     from: u64,
     number: u64,
 ) -> Recalled
-    requires { ⌜ (used ≤ 16) × (length (now numbers) ≡ 16) × (length (now closed) ≡ 16) × Entries (now slots) (now widths) × Ring (now logs) place ring tail ⌝ }
+    requires { ⌜ (used ≤ 16) × (length (now numbers) ≡ 16) × (length (now closed) ≡ 16) × Entries (now slots) (now widths) × Ring (now ring) tail ⌝ }
     ensures { λ r. ⌜ (r .used ≤ 16) × ((s : Sizes) → EntriesOf s (now (slots .entry)) (now (widths .entry))
-        → Remembers (λ n. fateIn n (scan s (readRing (now (logs .entry)) place ring) tail from)) (now (numbers .entry)) (now (closed .entry)) used
-        → (r .fate ≡ fateIn number (scan s (readRing (now (logs .entry)) place ring) tail from))
-        × Remembers (λ n. fateIn n (scan s (readRing (now (logs .entry)) place ring) tail from)) (now (numbers .exit)) (now (closed .exit)) (r .used)) ⌝ }
+        → Remembers (λ n. fateIn n (scan s (readRing (now (ring .entry))) tail from)) (now (numbers .entry)) (now (closed .entry)) used
+        → (r .fate ≡ fateIn number (scan s (readRing (now (ring .entry))) tail from))
+        × Remembers (λ n. fateIn n (scan s (readRing (now (ring .entry))) tail from)) (now (numbers .exit)) (now (closed .exit)) (r .used)) ⌝ }
 {
     let i = find(numbers, used, number);
     if i < used {
         let fate = known_fate(closed[i]);
         return Recalled { used, fate };
     }
-    let fate = fate_in_ring(slots, widths, logs, place, ring, tail, from, number);
-    match fate {
-        Fate::Closed => {
-            let n = remember(numbers, closed, used, number, true);
-            Recalled {
-                used: n,
-                fate: Fate::Closed,
-            }
-        }
-        Fate::Unclosed => {
-            let n = remember(numbers, closed, used, number, false);
-            Recalled {
-                used: n,
-                fate: Fate::Unclosed,
-            }
-        }
-        Fate::Unreadable { position } => Recalled {
-            used,
-            fate: Fate::Unreadable { position },
-        },
-    }
+    let first = kept(used);
+    search_ahead(
+        numbers,
+        closed,
+        first,
+        slots,
+        widths,
+        ring,
+        tail,
+        from,
+        number,
+    )
 }

@@ -1,6 +1,7 @@
 // Restart run: steps of one source, as many as are asked for, or until the next would be refused.
 use crate::fates::forget;
 use crate::fates::recall;
+use crate::fault::record_fault;
 use frame::checks::first_refusal;
 use frame::settle::refuse;
 use frame::settle::refuse_at;
@@ -8,7 +9,7 @@ use frame::stages::is_replaying;
 use layout::disks::disk_at;
 use log::ring::advance;
 use log::ring::decode_ring;
-use log::ring::fate_in_ring;
+use log::ring::ring_words;
 use model::Answer;
 use model::Core;
 use model::Decoded;
@@ -25,16 +26,13 @@ ghost use mathlib.Core.Path.{_≡_};
 ghost use mathlib.Core.List.{List};
 ghost use Prim.Native.Nat.{ℕ, _*_, _<_, min};
 ghost use lib.ListN.{length, getD};
-ghost use Rattle.model.specs.declared.Sizes.{Sizes};
 ghost use Rattle.model.specs.Sizes.{total};
-ghost use Rattle.model.specs.Decode.{decodeAt};
 ghost use Rattle.model.specs.World.{worldOf};
 ghost use Rattle.model.specs.Moments.{old, new, oldWorld};
 ghost use Rattle.model.specs.Restart.{movedTo};
-ghost use Rattle.log.specs.Ring.{readRing, Ring, EntriesOf, Entries};
 ghost use Rattle.model.specs.Call.{Gives, restartRun};
 ghost use Rattle.replay.specs.Step.{Replays, OnLog};
-ghost use Rattle.run.specs.Run.{RunsOn, ranTo, Passes, RanOn, faultAt};
+ghost use Rattle.run.specs.Run.{RunsOn, ranTo, Passes, RanOn};
 
 // A log's next position.
 fn next_position(replay: Replay, disk: u64) -> u64
@@ -60,8 +58,9 @@ fn run_ring(core: Core, disk: u64, most: u64, pages: &mut [u64], logs: &[u64]) -
     let sizes = core.sizes;
     let slots = sizes.slots;
     let widths = sizes.widths;
-    let ring = sizes.ring;
     let place = disk_at(sizes, disk);
+    let ring = ring_words(logs, place, sizes.ring);
+    let size = ring.len() as u64;
     let tails = core.logs.tails;
     let tail = tails[disk as usize];
     let bases = page_bases(sizes);
@@ -69,13 +68,13 @@ fn run_ring(core: Core, disk: u64, most: u64, pages: &mut [u64], logs: &[u64]) -
     let mut closed = [false; 16];
     let mut used: usize = 0;
     let mut p = next_position(core.replay, disk);
-    let mut at = p % ring;
+    let mut at = p % size;
     let mut made: u64 = 0;
     while made < most {
         if tail <= p {
             return Ran { position: p, made };
         }
-        let here = decode_ring(&slots, &widths, logs, place, ring, tail, p, at);
+        let here = decode_ring(&slots, &widths, ring, tail, p, at);
         match here {
             Decoded::Change {
                 page,
@@ -92,8 +91,6 @@ fn run_ring(core: Core, disk: u64, most: u64, pages: &mut [u64], logs: &[u64]) -
                     used,
                     &slots,
                     &widths,
-                    logs,
-                    place,
                     ring,
                     tail,
                     next,
@@ -106,23 +103,14 @@ fn run_ring(core: Core, disk: u64, most: u64, pages: &mut [u64], logs: &[u64]) -
                 }
                 let replays = is_replayed(core.epoch, fate, copy);
                 let to = bases[page as usize] + slot * width;
-                replay_ring(
-                    replays,
-                    pages,
-                    to,
-                    logs,
-                    place,
-                    ring,
-                    advance(at, 3, ring),
-                    width,
-                );
-                at = advance(at, next - p, ring);
+                replay_ring(replays, pages, to, ring, advance(at, 3, size), width);
+                at = advance(at, next - p, size);
                 p = next;
                 made += 1;
             }
             Decoded::Close { number, next, .. } => {
                 used = forget(&mut numbers, &mut closed, used, number);
-                at = advance(at, next - p, ring);
+                at = advance(at, next - p, size);
                 p = next;
                 made += 1;
             }
@@ -145,34 +133,6 @@ fn ran_to(core: Core, made: u64) -> Reply
     }
 }
 
-// The fault of the record at a position, and of the search ahead from it.
-fn record_fault(
-    slots: &[u8],
-    widths: &[u8],
-    logs: &[u64],
-    disk: u64,
-    place: u64,
-    ring: u64,
-    tail: u64,
-    p: u64,
-) -> Fault
-    requires { ⌜ Entries (now slots) (now widths) × Ring (now logs) place ring tail × (p < tail) ⌝ }
-    ensures { λ r. ⌜ ((s : Sizes) → EntriesOf s (now (slots .entry)) (now (widths .entry)) → r ≡ faultAt s (readRing (now (logs .entry)) place ring) tail disk p (decodeAt s (readRing (now (logs .entry)) place ring) tail p)) ⌝ }
-{
-    let here = decode_ring(slots, widths, logs, place, ring, tail, p, p % ring);
-    match here {
-        Decoded::Change { number, next, .. } => {
-            let fate = fate_in_ring(slots, widths, logs, place, ring, tail, next, number);
-            match fate {
-                Fate::Closed | Fate::Unclosed => Fault::NoFault,
-                Fate::Unreadable { position } => Fault::BadRecord { disk, position },
-            }
-        }
-        Decoded::Close { .. } => Fault::NoFault,
-        Decoded::Malformed => Fault::BadRecord { disk, position: p },
-    }
-}
-
 // Steps of a log. Its first record is checked before any is taken: the rows are those of a step, however few are asked for.
 fn run_log(core: Core, disk: u64, most: u64, pages: &mut [u64], logs: &[u64]) -> Reply
     requires { ⌜ OnLog core disk (now pages) (now logs) ⌝ }
@@ -189,16 +149,8 @@ fn run_log(core: Core, disk: u64, most: u64, pages: &mut [u64], logs: &[u64]) ->
         return refuse(core, 15);
     }
     let place = disk_at(sizes, disk);
-    let fault = record_fault(
-        &slots,
-        &widths,
-        logs,
-        disk,
-        place,
-        sizes.ring,
-        tail,
-        position,
-    );
+    let ring = ring_words(logs, place, sizes.ring);
+    let fault = record_fault(&slots, &widths, ring, disk, tail, position);
     match fault {
         Fault::BadRecord {
             disk: bad,

@@ -12,7 +12,7 @@ use Rattle.log.proofs.ring.decode_ring.Tie as tie
 word-at-requires : tie.Need-word-at-requires
 word-at-requires c κs =
     let pre = c .before .before .before .pre in
-    (index-lt (pre .2) (pre .3), pre .2 .ring-max, pre .2 .place-fits)
+    index-lt (pre .2) (pre .3)
 
 returns : tie.Need-returns
 unfolding decodeAt

@@ -10,4 +10,4 @@ returns c = λ p e. rw e
 
 pub word-at-spec : {M : Type 1} → statement M
 word-at-spec =
-    tie.close (tie.spec (λ c. search needs) (λ c. search needs) (λ c. search needs) (λ c. search needs) returns)
+    tie.close (tie.spec (λ c. search needs) (λ c. search needs) returns)

@@ -4,12 +4,14 @@ use mathlib.Core.Path.{_≡_, refl, sym, _∙_}
 use native.Mathlib.Omega.{arith}
 use lib.ListN.{length}
 use borrow.Author.Needs.{needs}
+use Rattle.model.specs.Sizes.{ringOf}
 use Rattle.model.specs.State.{tailOf}
 use Rattle.model.specs.Restart.{positionOf}
 use Rattle.model.proofs.Restart.Steps.{remaining-log}
+use Rattle.model.proofs.Ring.{disk-within}
 use Rattle.log.proofs.Rings.{entries-long}
 use Rattle.replay.proofs.Facts.{extent-asked, eight}
-use Rattle.run.proofs.Facts.{log-ring, log-entries}
+use Rattle.run.proofs.Facts.{disk-ring, log-ring, log-entries}
 use Rattle.replay.proofs.Stepping.{step-none, fault-refused}
 use Rattle.run.proofs.Onward.{run-refused, run-given, step-accepted}
 use Rattle.run.proofs.Running.{fault-at}
@@ -34,44 +36,46 @@ returns c =
 disk-at-requires : tie.Need-disk-at-requires
 disk-at-requires c κs = let on = c .before .before .before .before .before .before .before .before .pre in extent-asked on
 
+ring-words-requires : tie.Need-ring-words-requires
+unfolding ringOf
+ring-words-requires c κs =
+    let on = c .before .before .before .before .before .before .before .before .before .pre in
+    omega (arith, c .disk-at .ensures .0, on .log-words, disk-within (c .before .before .before .before .before .before .before .before .before .args .core .sizes) (c .before .before .before .before .before .before .before .before .before .args .disk) (on .disk-in))
+
 slice-aggregate-record-fault : tie.Need-slice-aggregate-record-fault
 slice-aggregate-record-fault c =
-    let start = c .before .before .before .before .before .before .before .before .before .before in
-    sym (entries-long (record { sizes = start .args .core .sizes; are = log-entries (start .pre) }) .0)
+    sym (entries-long (record { sizes = c .before .before .before .before .before .before .before .before .before .before .before .args .core .sizes; are = log-entries (c .before .before .before .before .before .before .before .before .before .before .before .pre) }) .0)
 
 slice-aggregate-record-fault-2 : tie.Need-slice-aggregate-record-fault-2
 slice-aggregate-record-fault-2 c =
-    let start = c .before .before .before .before .before .before .before .before .before .before .before in
-    sym (entries-long (record { sizes = start .args .core .sizes; are = log-entries (start .pre) }) .1)
+    sym (entries-long (record { sizes = c .before .before .before .before .before .before .before .before .before .before .before .before .args .core .sizes; are = log-entries (c .before .before .before .before .before .before .before .before .before .before .before .before .pre) }) .1)
 
 record-fault-requires : tie.Need-record-fault-requires
 unfolding tailOf
 record-fault-requires c κs =
-    let start = c .before .before .before .before .before .before .before .before .before .before .before in
-    let core = start .args .core in
-    (record { sizes = core .sizes; are = log-entries (start .pre) }, log-ring (start .pre) (c .before .before .disk-at .ensures .0), c .before .before .before .if1 .left)
+    let core = c .before .before .before .before .before .before .before .before .before .before .before .before .args .core in
+    (record { sizes = core .sizes; are = log-entries (c .before .before .before .before .before .before .before .before .before .before .before .before .pre) }, log-ring (c .before .before .before .before .before .before .before .before .before .before .before .before .pre) (disk-ring (c .before .before .before .before .before .before .before .before .before .before .before .before .pre) (c .before .before .before .disk-at .ensures .0) (c .before .before .ring-words .ensures)), c .before .before .before .before .if1 .left)
 
 run-ring-requires : tie.Need-run-ring-requires
-run-ring-requires c κs = c .before .before .before .before .before .before .before .before .before .before .before .before .before .before .before .pre
+run-ring-requires c κs = c .before .before .before .before .before .before .before .before .before .before .before .before .before .before .before .before .pre
 
 move-on-requires : tie.Need-move-on-requires
-move-on-requires c κs = eight (c .before .before .before .before .before .before .before .before .before .before .before .before .before .before .before .before .before .before .pre)
+move-on-requires c κs = eight (c .before .before .before .before .before .before .before .before .before .before .before .before .before .before .before .before .before .before .before .pre)
 
 returns-2 : tie.Need-returns-2
 unfolding positionOf tailOf
 returns-2 c =
-    let start = c .before .before .before .before .before .before .before .before .before .before .before .before .before .before .before .before in
-    let on = start .pre in
-    let core = start .args .core in
-    let next = c .before .before .before .before .before .before .before .before .before .next-position .ensures in
-    let long : start .args .disk < length (core .replay .positions) = omega (arith, next .1, eight on) in
-    let some = rw (next .0) at (c .before .before .before .before .before .before .before .before .if1 .left) in
+    let on = c .before .before .before .before .before .before .before .before .before .before .before .before .before .before .before .before .before .pre in
+    let core = c .before .before .before .before .before .before .before .before .before .before .before .before .before .before .before .before .before .args .core in
+    let next = c .before .before .before .before .before .before .before .before .before .before .next-position .ensures in
+    let long : c .before .before .before .before .before .before .before .before .before .before .before .before .before .before .before .before .before .args .disk < length (core .replay .positions) = omega (arith, next .1, eight on) in
+    let some = rw (next .0) at (c .before .before .before .before .before .before .before .before .before .if1 .left) in
     let found = rw (next .0) at (c .before .before .before .before .record-fault .ensures (core .sizes) (log-entries on)) in
     λ anchor backups work pass.
     rw (c .refuse-at .ensures)
     (run-refused _ _ _ _ _ _ _
-    (fault-refused core _ (start .args .disk) _ _
-    (fault-at core _ (start .args .disk) (on .disk-in) long _ (c .before .before .before .before .before .before .before .disk-at .ensures .0) some found
+    (fault-refused core _ (c .before .before .before .before .before .before .before .before .before .before .before .before .before .before .before .before .before .args .disk) _ _
+    (fault-at core _ (c .before .before .before .before .before .before .before .before .before .before .before .before .before .before .before .before .before .args .disk) (on .disk-in) long _ (disk-ring on (c .before .before .before .before .before .before .before .before .disk-at .ensures .0) (c .before .before .before .before .before .before .before .ring-words .ensures)) some found
     ∙ c .before .before .fault .given .1)))
 
 same-length : tie.Need-same-length
@@ -80,17 +84,16 @@ same-length c = search needs
 returns-3 : tie.Need-returns-3
 unfolding positionOf tailOf
 returns-3 c =
-    let start = c .before .before .before .before .before .before .before .before .before .before .before .before .before .before .before .before .before .before .before .before in
-    let on = start .pre in
-    let core = start .args .core in
-    let next = c .before .before .before .before .before .before .before .before .before .before .before .before .before .next-position .ensures in
-    let long : start .args .disk < length (core .replay .positions) = omega (arith, next .1, eight on) in
-    let some = rw (next .0) at (c .before .before .before .before .before .before .before .before .before .before .before .before .if1 .left) in
+    let on = c .before .before .before .before .before .before .before .before .before .before .before .before .before .before .before .before .before .before .before .before .before .pre in
+    let core = c .before .before .before .before .before .before .before .before .before .before .before .before .before .before .before .before .before .before .before .before .before .args .core in
+    let next = c .before .before .before .before .before .before .before .before .before .before .before .before .before .before .next-position .ensures in
+    let long : c .before .before .before .before .before .before .before .before .before .before .before .before .before .before .before .before .before .before .before .before .before .args .disk < length (core .replay .positions) = omega (arith, next .1, eight on) in
+    let some = rw (next .0) at (c .before .before .before .before .before .before .before .before .before .before .before .before .before .if1 .left) in
     let found = rw (next .0) at (c .before .before .before .before .before .before .before .before .record-fault .ensures (core .sizes) (log-entries on)) in
     λ anchor backups work pass.
-    let sound = fault-at core _ (start .args .disk) (on .disk-in) long _ (c .before .before .before .before .before .before .before .before .before .before .before .disk-at .ensures .0) some found ∙ c .before .before .before .before .before .before .enum-told .given .1 in
+    let sound = fault-at core _ (c .before .before .before .before .before .before .before .before .before .before .before .before .before .before .before .before .before .before .before .before .before .args .disk) (on .disk-in) long _ (disk-ring on (c .before .before .before .before .before .before .before .before .before .before .before .before .disk-at .ensures .0) (c .before .before .before .before .before .before .before .before .before .before .before .ring-words .ensures)) some found ∙ c .before .before .before .before .before .before .enum-told .given .1 in
     rw (c .ran-to .ensures, c .before .move-on .ensures)
-    (run-given _ _ _ _ (step-accepted (start .args .disk) core _ sound (omega (arith, on .disk-in)) (omega (arith, remaining-log core (start .args .disk) (on .disk-in), some)))
+    (run-given _ _ _ _ (step-accepted (c .before .before .before .before .before .before .before .before .before .before .before .before .before .before .before .before .before .before .before .before .before .args .disk) core _ sound (omega (arith, on .disk-in)) (omega (arith, remaining-log core (c .before .before .before .before .before .before .before .before .before .before .before .before .before .before .before .before .before .before .before .before .before .args .disk) (on .disk-in), some)))
     (c .before .before .before .before .run-ring .ensures anchor backups work pass))
 
 pub run-log-spec : {M : Type 1} → statement M
@@ -103,6 +106,7 @@ run-log-spec =
     (λ c κs. search needs)
     returns
     disk-at-requires
+    ring-words-requires
     slice-aggregate-record-fault
     slice-aggregate-record-fault-2
     record-fault-requires

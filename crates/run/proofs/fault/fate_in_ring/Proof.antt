@@ -1,25 +1,26 @@
--- `log::ring::fate_in_ring` meets its contract. The loop's invariant: the fate from p on is the fate from the start on, and `at` is the
+-- `run::fault::fate_in_ring` meets its contract. The loop's invariant: the fate from p on is the fate from the start on, and `at` is the
 -- index of p. The measure is what is left of the log.
 use Prim.Native.Nat.{_-_, _%_}
 use mathlib.Core.Path.{_≡_, refl, _∙_}
 use native.Mathlib.Omega.{arith}
+use lib.ListN.{length}
 use borrow.Author.Needs.{needs}
 use Rattle.model.specs.declared.Sizes.{Sizes}
 use Rattle.model.specs.Scan.{scan, fateIn}
 use Rattle.log.specs.Ring.{readRing, EntriesOf}
 use Rattle.log.proofs.Rings.{entries-long, within, stepped, change-short, close-short}
 use Rattle.log.proofs.Scanning.{got-change, got-close, fate-end, fate-change, fate-other, fate-close, fate-bad}
-use Rattle.log.proofs.ring.fate_in_ring.Statement.{statement}
-use Rattle.log.proofs.ring.fate_in_ring.Tie as tie
+use Rattle.run.proofs.fault.fate_in_ring.Statement.{statement}
+use Rattle.run.proofs.fault.fate_in_ring.Tie as tie
 
 abbrev Inv-loop : tie.InvT-loop
-Inv-loop slots widths logs place ring tail from number p₀ at₀ p at =
-    (at ≡ p % ring)
+Inv-loop slots widths ring tail from number size p₀ at₀ p at =
+    (at ≡ p % length ring)
     × ((s : Sizes) → EntriesOf s slots widths
-    → fateIn number (scan s (readRing logs place ring) tail p) ≡ fateIn number (scan s (readRing logs place ring) tail from))
+    → fateIn number (scan s (readRing ring) tail p) ≡ fateIn number (scan s (readRing ring) tail from))
 
 abbrev μ-loop : tie.MeasureT-loop
-μ-loop slots widths logs place ring tail from number p₀ at₀ p at = tail - p
+μ-loop slots widths ring tail from number size p₀ at₀ p at = tail - p
 
 rem-at : tie.Need-rem-at Inv-loop μ-loop
 rem-at c = omega (arith, c .before .before .before .pre .1 .ring-min)
@@ -29,35 +30,30 @@ loop-holds c = (refl, λ s e. refl)
 
 decode-ring-requires : tie.Need-decode-ring-requires Inv-loop μ-loop
 decode-ring-requires c κs =
-    let start = c .before .before .before .before .before in
-    let long = entries-long (start .pre .0) in
-    (long .0, long .1, start .pre .1, record { before-tail = c .if1 .left; at-is = c .before .loop .inv .0 })
+    let long = entries-long (c .before .before .before .before .before .pre .0) in
+    (long .0, long .1, c .before .before .before .before .before .pre .1, record { before-tail = c .if1 .left; at-is = c .before .loop .inv .0 })
 
 sub-advance : tie.Need-sub-advance Inv-loop μ-loop
 sub-advance c =
-    let start = c .before .before .before .before .before .before .before .before .before in
-    let e = start .pre .0 .are in
+    let e = c .before .before .before .before .before .before .before .before .before .pre .0 .are in
     let f = change-short _ (e .bounds) (got-change _ _ _ (c .before .before .before .decode-ring .ensures _ e) (c .before .here .given .1)) in
     omega (arith, f .0)
 
 advance-requires : tie.Need-advance-requires Inv-loop μ-loop
 advance-requires c κs =
-    let start = c .before .before .before .before .before .before .before .before .before in
-    let e = start .pre .0 .are in
+    let e = c .before .before .before .before .before .before .before .before .before .pre .0 .are in
     let f = change-short _ (e .bounds) (got-change _ _ _ (c .before .before .before .decode-ring .ensures _ e) (c .before .here .given .1)) in
-    (within (start .pre .1) (c .before .before .before .before .before .loop .p) (c .before .before .before .before .before .loop .inv .0), omega (arith, f .1, start .pre .1 .ring-min), start .pre .1 .ring-max)
+    (within (c .before .before .before .before .before .before .before .before .before .pre .1) (c .before .before .before .before .before .loop .p) (c .before .before .before .before .before .loop .inv .0), omega (arith, f .1, c .before .before .before .before .before .before .before .before .before .pre .1 .ring-min), c .before .before .before .before .before .before .before .before .before .pre .1 .ring-max)
 
 loop-less : tie.Need-loop-less Inv-loop μ-loop
 loop-less c =
-    let start = c .before .before .before .before .before .before .before .before .before .before in
-    let e = start .pre .0 .are in
+    let e = c .before .before .before .before .before .before .before .before .before .before .pre .0 .are in
     let f = change-short _ (e .bounds) (got-change _ _ _ (c .before .before .before .before .decode-ring .ensures _ e) (c .before .before .here .given .1)) in
     omega (arith, f .0, f .2)
 
 loop-again : tie.Need-loop-again Inv-loop μ-loop
 loop-again c =
-    let start = c .before .before .before .before .before .before .before .before .before .before in
-    let e = start .pre .0 .are in
+    let e = c .before .before .before .before .before .before .before .before .before .before .pre .0 .are in
     let f = change-short _ (e .bounds) (got-change _ _ _ (c .before .before .before .before .decode-ring .ensures _ e) (c .before .before .here .given .1)) in
     let inv = c .before .before .before .before .before .before .loop .inv in (
       stepped _ _ _ _ (omega (arith, f .0)) (c .advance .ensures .1 _ (inv .0)),
@@ -66,26 +62,22 @@ loop-again c =
 
 sub-advance-2 : tie.Need-sub-advance-2 Inv-loop μ-loop
 sub-advance-2 c =
-    let start = c .before .before .before .before .before .before .before .before .before .before in
-    let f = close-short (got-close _ _ _ (c .before .before .before .before .decode-ring .ensures _ (start .pre .0 .are)) (c .before .before .here2 .given .1)) in
+    let f = close-short (got-close _ _ _ (c .before .before .before .before .decode-ring .ensures _ (c .before .before .before .before .before .before .before .before .before .before .pre .0 .are)) (c .before .before .here2 .given .1)) in
     omega (arith, f .0)
 
 advance-requires-2 : tie.Need-advance-requires-2 Inv-loop μ-loop
 advance-requires-2 c κs =
-    let start = c .before .before .before .before .before .before .before .before .before .before in
-    let f = close-short (got-close _ _ _ (c .before .before .before .before .decode-ring .ensures _ (start .pre .0 .are)) (c .before .before .here2 .given .1)) in
-    (within (start .pre .1) (c .before .before .before .before .before .before .loop .p) (c .before .before .before .before .before .before .loop .inv .0), omega (arith, f .1, start .pre .1 .ring-min), start .pre .1 .ring-max)
+    let f = close-short (got-close _ _ _ (c .before .before .before .before .decode-ring .ensures _ (c .before .before .before .before .before .before .before .before .before .before .pre .0 .are)) (c .before .before .here2 .given .1)) in
+    (within (c .before .before .before .before .before .before .before .before .before .before .pre .1) (c .before .before .before .before .before .before .loop .p) (c .before .before .before .before .before .before .loop .inv .0), omega (arith, f .1, c .before .before .before .before .before .before .before .before .before .before .pre .1 .ring-min), c .before .before .before .before .before .before .before .before .before .before .pre .1 .ring-max)
 
 loop-less-2 : tie.Need-loop-less-2 Inv-loop μ-loop
 loop-less-2 c =
-    let start = c .before .before .before .before .before .before .before .before .before .before .before in
-    let f = close-short (got-close _ _ _ (c .before .before .before .before .before .decode-ring .ensures _ (start .pre .0 .are)) (c .before .before .before .here2 .given .1)) in
+    let f = close-short (got-close _ _ _ (c .before .before .before .before .before .decode-ring .ensures _ (c .before .before .before .before .before .before .before .before .before .before .before .pre .0 .are)) (c .before .before .before .here2 .given .1)) in
     omega (arith, f .0, f .2)
 
 loop-again-2 : tie.Need-loop-again-2 Inv-loop μ-loop
 loop-again-2 c =
-    let start = c .before .before .before .before .before .before .before .before .before .before .before in
-    let f = close-short (got-close _ _ _ (c .before .before .before .before .before .decode-ring .ensures _ (start .pre .0 .are)) (c .before .before .before .here2 .given .1)) in
+    let f = close-short (got-close _ _ _ (c .before .before .before .before .before .decode-ring .ensures _ (c .before .before .before .before .before .before .before .before .before .before .before .pre .0 .are)) (c .before .before .before .here2 .given .1)) in
     let inv = c .before .before .before .before .before .before .before .loop .inv in (
       stepped _ _ _ _ (omega (arith, f .0)) (c .advance2 .ensures .1 _ (inv .0)),
       λ s u. fate-other _ _ _ (c .before .before .before .before .before .decode-ring .ensures s u) (c .before .before .before .before .before .before .if1 .left) _ (c .before .before .before .here2 .given .1) (c .before .if2 .left) ∙ inv .1 s u,
