@@ -2,6 +2,8 @@
 use frame::home::home_of;
 use frame::home::with_disk;
 use layout::memory::page_copy;
+use log::kinds::ABORT;
+use log::kinds::COMPENSATION;
 use log::write::Head;
 use log::write::Logged;
 use log::write::append_change;
@@ -57,7 +59,7 @@ pub fn log_compensation(
 {
     let home = home_of(sizes, state, work.len(), disk);
     let head = Head {
-        kind: 1,
+        kind: COMPENSATION,
         page,
         slot,
         number,
@@ -83,6 +85,6 @@ pub fn log_close(
         (worldOf anchor pages backups (now (logs .entry)) (now (work .entry))) (worldOf anchor pages backups (now (logs .exit)) (now (work .exit))) r) ⌝ }
 {
     let home = home_of(sizes, state, work.len(), disk);
-    let added = append_close(logs, work, home, 3, number, budget);
+    let added = append_close(logs, work, home, ABORT, number, budget);
     advanced(state, disk, added)
 }

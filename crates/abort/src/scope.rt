@@ -1,5 +1,6 @@
 // What an abort reads of a transaction's entry in the table.
 use model::Core;
+use table::place::CLOSE_WORDS;
 use table::place::has_update;
 use table::place::place_of;
 ghost use mathlib.Core.Path.{_≡_};
@@ -27,7 +28,7 @@ pub fn scope_of(core: Core, number: u64) -> Scope
     let place = place_of(table, number);
     let disk = table.disks[place];
     let first = table.firsts[place];
-    let words = table.reserved[place] - 2;
+    let words = table.reserved[place] - CLOSE_WORDS;
     let d = disk as usize;
     let end = logs.tails[d] + logs.fills[d];
     if has_update(table, place) {

@@ -1,12 +1,14 @@
 // The work of an update: its record appended, the slot changed, its owner set.
 use frame::home::with_disk;
 use layout::memory::page_copy;
+use log::kinds::UPDATE;
 use log::write::Head;
 use log::write::Home;
 use log::write::Logged;
 use log::write::append_change;
 use model::Core;
 use model::Table;
+use table::place::CLOSE_WORDS;
 use table::place::place_of;
 use table::place::put_place;
 use words::copy_words;
@@ -91,7 +93,7 @@ pub fn log_and_set(
 fn first_position(reserved: u64, first: u64, end: u64) -> u64
     ensures { λ r. ⌜ r ≡ cond (ltb 2 reserved) first end ⌝ }
 {
-    if 2 < reserved { first } else { end }
+    if CLOSE_WORDS < reserved { first } else { end }
 }
 
 // The table with the words of one more update of a transaction, whose disk is `home`.
@@ -111,7 +113,7 @@ pub fn head_of(core: Core, number: u64, page: u64, slot: u64, work: &[u64]) -> H
     ensures { λ r. ⌜ r ≡ record { kind = 0; page = page; slot = slot; number = number; copy = copyOf (core .sizes) (now (work .entry)) page } ⌝ }
 {
     Head {
-        kind: 0,
+        kind: UPDATE,
         page,
         slot,
         number,

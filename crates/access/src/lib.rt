@@ -1,5 +1,5 @@
 // The calls on a slot: update and read.
-pub mod change;
+mod change;
 pub mod read;
-pub mod slots;
+mod slots;
 pub mod update;

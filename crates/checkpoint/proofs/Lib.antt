@@ -1,6 +1,6 @@
--- A page copied; a checkpoint made current; the rows of the three calls.
+-- A page copied; the stores of an end; the rows of the three calls.
+pub mod Closing
 pub mod Copies
 pub mod Least
 pub mod Marks
-pub mod Switches
 pub mod Waiting

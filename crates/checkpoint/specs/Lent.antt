@@ -8,8 +8,8 @@ use Rattle.model.specs.declared.Sizes.{Sizes}
 use Rattle.model.specs.declared.Core.{Core}
 use Rattle.model.specs.Word.{part}
 use Rattle.model.specs.Sizes.{pageBase, pageWords, total, sizesInBounds}
-use Rattle.model.specs.Anchor.{anchorWords, epochWord, startWord, backupAt}
-use Rattle.model.specs.World.{Action, store, write, anchor, backups, work, each}
+use Rattle.model.specs.Anchor.{anchorWords, backupAt}
+use Rattle.model.specs.World.{Action, store, write, backups, work, each}
 use Rattle.model.specs.Memory.{copyAt, workWords}
 use Rattle.model.specs.State.{limit}
 use Rattle.frame.specs.Home.{Serves}
@@ -38,7 +38,3 @@ pub record Endable (c : Core) (anchor logs work : List ℕ) : Type 0 where
   pub bounded : c .epoch < limit
   pub anchor-words : length anchor ≡ anchorWords
   pub serves : Serves c logs work
-
--- starts go to the row of a checkpoint, then its number makes it current
-unfoldable pub startsStored : ℕ → List ℕ → List Action
-startsStored number starts = each (store anchor) (startWord number 0) starts ++ store anchor epochWord number ∷ []

@@ -1,7 +1,7 @@
 // A page goes to the backup of the checkpoint under way.
 use device::store_copy;
 use layout::backup::backup_at;
-use layout::memory::copy_at;
+use layout::memory::copy_place;
 use layout::places::page_base;
 use layout::places::page_words;
 use model::Sizes;
@@ -40,7 +40,7 @@ pub fn copy_page(
     ) {
         return false;
     }
-    let at = copy_at(sizes, page) as usize;
+    let at = copy_place(sizes, work.len(), page);
     work[at] = number;
     true
 }

@@ -2,12 +2,12 @@
 use crate::ends::ends_of;
 use crate::flush::flush_all;
 use crate::starts::new_starts;
-use crate::switch::switch_to;
 use frame::checks::common_refusal;
 use frame::settle::refuse;
 use frame::settle::settle;
 use frame::stages::When;
 use frame::states::no_checkpoint;
+use frame::switch::switch_to;
 use model::Core;
 use model::Logs;
 use model::Reply;

@@ -6,4 +6,3 @@ mod ends;
 mod flush;
 mod starts;
 pub mod step;
-pub mod switch;

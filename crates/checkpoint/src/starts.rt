@@ -1,6 +1,7 @@
 // Where the logs start once a checkpoint ends.
 use model::Core;
 use model::Table;
+use table::place::CLOSE_WORDS;
 ghost use mathlib.Core.Path.{_≡_};
 ghost use mathlib.Core.Bool.{cond, not, _&&_};
 ghost use Prim.Native.Nat.{_≤_, min};
@@ -18,7 +19,11 @@ fn first_of(number: u64, home: u64, first: u64, reserved: u64, disk: u64, rememb
     if home != disk {
         return remembered;
     }
-    if 2 < reserved { first } else { remembered }
+    if CLOSE_WORDS < reserved {
+        first
+    } else {
+        remembered
+    }
 }
 
 fn smaller(a: u64, b: u64) -> u64

@@ -1,5 +1,6 @@
 // Damaged images: one word of a good image changed, or words at random.
 use crate::devices::Devices;
+use crate::reading::LIMIT;
 use trial_table::random;
 use trial_table::words::get;
 use trial_table::words::less;
@@ -63,7 +64,7 @@ fn changed(word: u64, variant: u64, seed: u64) -> u64 {
         2 => sum(word, 1),
         3 => less(word, 1),
         4 => u64::MAX,
-        5 => word ^ 4611686018427387904,
+        5 => word ^ LIMIT,
         6 => word ^ (1u64 << (seed % 64)),
         _ => seed,
     }

@@ -13,6 +13,9 @@ use trial_table::words::sum;
 use trial_table::words::tally;
 use trial_table::words::times;
 
+// 2^62, the bound of positions and of checkpoint numbers.
+pub const LIMIT: u64 = 4611686018427387904;
+
 // A number of 01's table and the values that come with it; the number 0 for a taken call.
 pub struct Expected {
     number: u64,
@@ -50,7 +53,7 @@ fn wanted(anchor: &[u64], logs: &[u64], short: u64) -> Expected {
     }
     let start = start_of(anchor);
     let tail = get(logs, 0);
-    if tail < start || less(tail, start) > 128 || tail > 4611686018427387904 {
+    if tail < start || less(tail, start) > 128 || tail > LIMIT {
         return plain(6);
     }
     let position = first_malformed(anchor, logs, start, tail);
@@ -61,7 +64,7 @@ fn wanted(anchor: &[u64], logs: &[u64], short: u64) -> Expected {
             second: position,
         };
     }
-    if get(anchor, 3) >= 4611686018427387904 {
+    if get(anchor, 3) >= LIMIT {
         return plain(13);
     }
     plain(0)

@@ -15,6 +15,8 @@ use Rattle.model.specs.Anchor.{epochWord, slotsAt, widthsAt, rowsAt, backupAt}
 use Rattle.model.specs.World.{World, Action, worldOf, store, anchor, backups, logs, each}
 use Rattle.model.specs.State.{openCore}
 use Rattle.model.specs.Format.{formatStores, freshMemory, freshWork, formatTask}
+use Rattle.layout.specs.declared.anchor.RawSizes.{RawSizes}
+use Rattle.layout.specs.Raw.{sizesOf}
 use Rattle.device.specs.Ran.{Ran, Stored}
 use Rattle.device.proofs.Memory.{pages-written, fresh-written}
 use Rattle.device.proofs.Ran.{ran-then, ran-cut}
@@ -72,22 +74,22 @@ module _ (s : Sizes) where
       (each (store anchor) slotsAt (s .slots)) (each (store anchor) widthsAt (s .widths)) (each (store anchor) rowsAt (replicate 16 0))
       (tailStores s) (each (store backups) (total s) (replicate (total s) 0)) (store anchor epochWord 1 ∷ []))
 
-  module _ {budget rest : ℕ} {w v : World} {whole : Bool} {slots widths : List ℕ} (same : slots ≡ s .slots) (alike : widths ≡ s .widths)
-      (ran : Ran budget rest (frontStores (s .pages) (s .disks) (s .ring) ++ arrayStores slots widths) w v whole) where
-    ran' : Ran budget rest onAnchor w v whole
-    ran' = rw (same, alike) at ran
+  module _ {raw : RawSizes} {budget rest : ℕ} {w v : World} {whole : Bool} (same : s ≡ sizesOf raw)
+      (stored : Ran budget rest (frontStores (raw .pages) (raw .disks) (raw .ring) ++ arrayStores (raw .slots) (raw .widths)) w v whole) where
+    ran : Ran budget rest onAnchor w v whole
+    ran = rw same stored
 
     pub anchor-cut : whole ≡ false → Ran budget rest (formatStores s) w v false
-    anchor-cut e = rw (← parts) (ran-cut (ran-cut ran' (tailStores s) e) (lastStores (total s)) refl)
+    anchor-cut e = rw (← parts) (ran-cut (ran-cut ran (tailStores s) e) (lastStores (total s)) refl)
 
     module _ (e : whole ≡ true) {last : ℕ} {u : World} {all : Bool} (next : Ran rest last (tailStores s) v u all) where
       pub tails-cut : all ≡ false → Ran budget last (formatStores s) w u false
-      tails-cut f = rw (← parts) (ran-cut (ran-then ran' (tailStores s) e next) (lastStores (total s)) f)
+      tails-cut f = rw (← parts) (ran-cut (ran-then ran (tailStores s) e next) (lastStores (total s)) f)
 
       pub stores-whole : all ≡ true → {words end : ℕ} {t : World} {every : Bool} → words ≡ total s
           → Ran last end (lastStores words) u t every → Ran budget end (formatStores s) w t every
       stores-whole f long final =
-          rw (← parts) (ran-then (ran-then ran' (tailStores s) e next) (lastStores (total s)) f (rw long at final))
+          rw (← parts) (ran-then (ran-then ran (tailStores s) e next) (lastStores (total s)) f (rw long at final))
 
   -- memory made fresh
   pub fresh-ran : (budget words : ℕ) (anchor backups logs pages work : List ℕ) → words ≡ total s

@@ -2,6 +2,11 @@
 use device::store_copy;
 use device::store_fill;
 use device::store_word;
+use layout::anchor::EPOCH_WORD;
+use layout::anchor::ROWS_AT;
+use layout::anchor::RawSizes;
+use layout::anchor::SLOTS_AT;
+use layout::anchor::WIDTHS_AT;
 ghost use mathlib.Core.Path.{_≡_};
 ghost use mathlib.Core.List.{List, _++_};
 ghost use Prim.Native.Nat.{ℕ};
@@ -19,7 +24,7 @@ fn store_front(anchor: &mut [u64], pages: u64, disks: u64, ring: u64, budget: &m
         (worldOf (now (anchor .entry)) memory backups logs work)
         (worldOf (now (anchor .exit)) memory backups logs work) r) ⌝ }
 {
-    if !store_word(anchor, 3, 0, budget) {
+    if !store_word(anchor, EPOCH_WORD, 0, budget) {
         return false;
     }
     let words = [pages, disks, ring];
@@ -34,33 +39,27 @@ fn store_arrays(anchor: &mut [u64], slots: [u64; 64], widths: [u64; 64], budget:
         (worldOf (now (anchor .entry)) memory backups logs work)
         (worldOf (now (anchor .exit)) memory backups logs work) r) ⌝ }
 {
-    if !store_copy(anchor, 4, &slots, 0, 64, budget) {
+    if !store_copy(anchor, SLOTS_AT, &slots, 0, 64, budget) {
         return false;
     }
-    if !store_copy(anchor, 68, &widths, 0, 64, budget) {
+    if !store_copy(anchor, WIDTHS_AT, &widths, 0, 64, budget) {
         return false;
     }
-    store_fill(anchor, 132, 16, 0, budget)
+    store_fill(anchor, ROWS_AT, 16, 0, budget)
 }
 
 // The anchor but for its number; true if all is stored.
-pub fn store_anchor(
-    anchor: &mut [u64],
-    pages: u64,
-    disks: u64,
-    ring: u64,
-    slots: [u64; 64],
-    widths: [u64; 64],
-    budget: &mut u64,
-) -> bool
+pub fn store_anchor(anchor: &mut [u64], raw: RawSizes, budget: &mut u64) -> bool
     requires { ⌜ length (now anchor) ≡ anchorWords ⌝ }
     ensures { λ r. ⌜ ((memory backups logs work : List ℕ) → Ran (now (budget .entry)) (now (budget .exit))
-        (frontStores pages disks ring ++ arrayStores slots widths)
+        (frontStores (raw .pages) (raw .disks) (raw .ring) ++ arrayStores (raw .slots) (raw .widths))
         (worldOf (now (anchor .entry)) memory backups logs work)
         (worldOf (now (anchor .exit)) memory backups logs work) r) ⌝ }
 {
-    if !store_front(anchor, pages, disks, ring, budget) {
+    if !store_front(anchor, raw.pages, raw.disks, raw.ring, budget) {
         return false;
     }
+    let slots = raw.slots;
+    let widths = raw.widths;
     store_arrays(anchor, slots, widths, budget)
 }

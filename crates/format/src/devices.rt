@@ -3,6 +3,8 @@ use crate::anchor::store_anchor;
 use crate::tails::store_tails;
 use device::store_fill;
 use device::store_word;
+use layout::anchor::EPOCH_WORD;
+use layout::anchor::RawSizes;
 use layout::places::total;
 use model::Sizes;
 ghost use mathlib.Core.Path.{_≡_};
@@ -12,6 +14,7 @@ ghost use lib.ListN.{length};
 ghost use Rattle.model.specs.Anchor.{anchorWords};
 ghost use Rattle.model.specs.World.{worldOf};
 ghost use Rattle.model.specs.Format.{formatStores};
+ghost use Rattle.layout.specs.Raw.{sizesOf};
 ghost use Rattle.device.specs.Ran.{Ran};
 ghost use Rattle.format.specs.Parts.{lastStores, Devices};
 
@@ -27,35 +30,26 @@ fn store_last(anchor: &mut [u64], backups: &mut [u64], words: u64, budget: &mut 
     if !store_fill(backups, n, n, 0, budget) {
         return false;
     }
-    store_word(anchor, 3, 1, budget)
+    store_word(anchor, EPOCH_WORD, 1, budget)
 }
 
-// The list of stores, as far as the budget goes; true if all are made. `slots` and `widths` are those of the sizes, as words.
+// The list of stores, as far as the budget goes; true if all are made. The sizes come a second time as the words that are stored.
 pub fn store_devices(
     sizes: Sizes,
-    slots: [u64; 64],
-    widths: [u64; 64],
+    raw: RawSizes,
     anchor: &mut [u64],
     backups: &mut [u64],
     logs: &mut [u64],
     budget: &mut u64,
 ) -> bool
-    requires { ⌜ Devices sizes (now anchor) (now backups) (now logs) × (slots ≡ sizes .slots) × (widths ≡ sizes .widths) ⌝ }
+    requires { ⌜ Devices sizes (now anchor) (now backups) (now logs) × (sizes ≡ sizesOf raw) ⌝ }
     ensures { λ r. ⌜ ((memory work : List ℕ) → Ran (now (budget .entry)) (now (budget .exit))
         (formatStores sizes)
         (worldOf (now (anchor .entry)) memory (now (backups .entry)) (now (logs .entry)) work)
         (worldOf (now (anchor .exit)) memory (now (backups .exit)) (now (logs .exit)) work) r) ⌝ }
 {
     let words = total(sizes);
-    if !store_anchor(
-        anchor,
-        sizes.pages,
-        sizes.disks,
-        sizes.ring,
-        slots,
-        widths,
-        budget,
-    ) {
+    if !store_anchor(anchor, raw, budget) {
         return false;
     }
     if !store_tails(sizes, logs, budget) {

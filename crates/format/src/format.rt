@@ -5,6 +5,8 @@ use frame::settle::refuse;
 use frame::settle::settle;
 use frame::stages::is_shut;
 use frame::states::open_core;
+use layout::anchor::ANCHOR_WORDS;
+use layout::anchor::RawSizes;
 use layout::bounds::in_bounds;
 use layout::bounds::lengths_right;
 use layout::bounds::narrow;
@@ -13,15 +15,12 @@ use model::Reply;
 ghost use Rattle.model.specs.World.{worldOf};
 ghost use Rattle.model.specs.Moments.{old, new, oldWorld};
 ghost use Rattle.model.specs.Call.{format, Gives};
+ghost use Rattle.layout.specs.Raw.{sizesOf};
 
 // The checks, then the stores, and the memory once all of them are made.
 pub fn format(
     core: Core,
-    pages_count: u64,
-    disks: u64,
-    ring: u64,
-    slots: [u64; 64],
-    widths: [u64; 64],
+    raw: RawSizes,
     anchor: &mut [u64],
     pages: &mut [u64],
     backups: &mut [u64],
@@ -29,26 +28,26 @@ pub fn format(
     work: &mut [u64],
     budget: &mut u64,
 ) -> Reply
-    ensures { λ r. ⌜ Gives (format (record { pages = «pages_count»; disks = disks; ring = ring; slots = slots; widths = widths }) (old budget))
-        core (oldWorld anchor pages backups logs work) r (new budget) (worldOf (new anchor) (new pages) (new backups) (new logs) (new work)) ⌝ }
+    ensures { λ r. ⌜ Gives (format (sizesOf raw) (old budget)) core (oldWorld anchor pages backups logs work)
+        r (new budget) (worldOf (new anchor) (new pages) (new backups) (new logs) (new work)) ⌝ }
 {
     let stage = core.stage;
     if !is_shut(stage) {
         return refuse(core, 1);
     }
-    if anchor.len() != 148 {
+    if anchor.len() != ANCHOR_WORDS {
         return refuse(core, 2);
     }
-    if !in_bounds(pages_count, disks, ring, slots, widths) {
+    if !in_bounds(raw) {
         return refuse(core, 4);
     }
-    let sizes = narrow(pages_count, disks, ring, slots, widths);
+    let sizes = narrow(raw);
     if !lengths_right(sizes, pages.len(), backups.len(), logs.len(), work.len()) {
         return refuse(core, 5);
     }
     let before = *budget;
     let next = open_core(sizes, 1, [0u64; 8]);
-    if !store_devices(sizes, slots, widths, anchor, backups, logs, budget) {
+    if !store_devices(sizes, raw, anchor, backups, logs, budget) {
         return settle(false, before, *budget, 0, next);
     }
     make_fresh(sizes, pages, work);

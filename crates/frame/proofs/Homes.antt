@@ -1,7 +1,7 @@
 -- A disk of a serving state, as the functions of `log` are lent it.
 use mathlib.Core.Path.{_≡_, refl}
 use mathlib.Core.List.{List}
-use Prim.Native.Nat.{ℕ, _+_, _*_, _-_, _≤_, _<_}
+use Prim.Native.Nat.{ℕ, _≤_, _<_}
 use native.Mathlib.Omega.{arith}
 use lib.ListN.{length}
 use Rattle.model.specs.declared.Sizes.{Sizes}
@@ -22,12 +22,6 @@ use Rattle.frame.specs.Checks.{CommonRefusal}
 use Rattle.frame.specs.Home.{Serves, homeOf}
 use Rattle.frame.proofs.Verdicts.{Passed}
 use Rattle.frame.proofs.Given.{common-passed}
-
--- a buffer's place, counted from the end of the work memory
-pub buffer-from-end : (s : Sizes) (work disk : ℕ) → work ≡ workWords s → disk < s .disks
-    → work - 64 * (s .disks - disk + 1) ≡ bufferAt s disk
-unfolding workWords copyAt bufferAt
-buffer-from-end s work disk e below = omega (arith, e, below)
 
 pub home-lent : (s : Sizes) (l : Logs) (w : World) (disk : ℕ) → Lent s l w (homeOf s l disk) (w .logs) (w .work)
 unfolding homeOf

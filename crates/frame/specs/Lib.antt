@@ -1,3 +1,4 @@
 pub mod Checks
 pub mod Home
 pub mod Settle
+pub mod Switch

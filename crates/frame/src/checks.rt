@@ -5,6 +5,7 @@ use crate::stages::is_allowed;
 use crate::stages::is_open;
 use crate::stages::is_replaying;
 use crate::stages::is_shut;
+use layout::anchor::ANCHOR_WORDS;
 use layout::bounds::lengths_right;
 use layout::bounds::sizes_in_bounds;
 use model::Core;
@@ -71,7 +72,7 @@ fn length_refusal(
     requires { ⌜ sizesInBounds sizes ≡ true ⌝ }
     ensures { λ r. ⌜ r ≡ lengthRefusal sizes anchor pages backups logs work ⌝ }
 {
-    if anchor != 148 {
+    if anchor != ANCHOR_WORDS {
         return 2;
     }
     if lengths_right(sizes, pages, backups, logs, work) {

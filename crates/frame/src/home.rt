@@ -1,6 +1,7 @@
 // A disk of a serving state: the numbers that the functions of `log` are lent.
 use layout::disks::disk_at;
 use layout::disks::ring_of;
+use layout::memory::buffer_place;
 use log::write::Home;
 use model::Core;
 use model::Logs;
@@ -8,20 +9,12 @@ use model::Sizes;
 use table::place::place_of;
 ghost use mathlib.Core.Path.{_≡_};
 ghost use mathlib.Core.Bool.{true};
-ghost use Prim.Native.Nat.{_+_, _-_, _*_, _≤_, _<_};
+ghost use Prim.Native.Nat.{_≤_, _<_};
 ghost use lib.ListN.{length};
 ghost use Rattle.model.specs.Memory.{workWords};
 ghost use Rattle.model.specs.State.{isOpen, servingSound};
 ghost use Rattle.model.specs.Transaction.{diskOf};
 ghost use Rattle.frame.specs.Home.{homeOf, withDisk};
-
-// A disk's buffer in a work memory of this length: the buffers lie before its last 64 words, so that the pages need not be summed up.
-fn buffer_place(work: usize, disks: u64, disk: u64) -> u64
-    requires { ⌜ (disk < disks) × (disks ≤ 8) × (64 * disks + 64 ≤ work) ⌝ }
-    ensures { λ r. ⌜ r ≡ work - 64 * (disks - disk + 1) ⌝ }
-{
-    work as u64 - 64 * (disks - disk + 1)
-}
 
 // A disk, by the sizes and the logs' part of a state. `work` is the work memory's length.
 // That the arrays are as long as their types say is told here, where it is near: callers' proofs use it.
@@ -35,7 +28,7 @@ pub fn home_of(sizes: Sizes, logs: Logs, work: usize, disk: u64) -> Home
         disk,
         place: disk_at(sizes, disk),
         ring: ring_of(sizes, disk),
-        buffer: buffer_place(work, sizes.disks, disk),
+        buffer: buffer_place(sizes, work, disk),
         tail: logs.tails[d],
         fill: logs.fills[d],
     }

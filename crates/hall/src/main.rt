@@ -143,16 +143,8 @@ fn serve_some(
             failed: answer < 0,
         };
     }
-    let after = feed(
-        console,
-        &input[..got],
-        anchor,
-        pages,
-        backups,
-        logs,
-        work,
-        out,
-    );
+    let bytes = &input[..got];
+    let after = feed(console, bytes, anchor, pages, backups, logs, work, out);
     let flushed = flush(after, out);
     let console = flushed.console;
     Served {

@@ -1,14 +1,14 @@
 -- Laws that the proofs of this crate share: products, the bounds on the sizes, an array that is filled word by word, fresh memory.
 use mathlib.Core.Path.{_≡_, refl, sym, ap, _∙_}
 use mathlib.Core.Bool.{Bool, true, false, and-false, _&&_}
-use mathlib.Core.List.{List}
+use mathlib.Core.List.{List, _++_, append-nil}
 use Prim.Native.Nat.{ℕ, _+_, _*_, _≤_, _<_}
 use native.Mathlib.Omega.{arith}
 use native.Mathlib.Numerals.{add-one}
 use native.Mathlib.Nat.{le-trans, mul-le-mul-left, mul-le-mul-right}
 use lib.Dec.{ltb, eqb}
-use lib.ListN.{length, getD, set, take, replicate}
-use lib.Seq.{sets, take-suc, take-suc-set, take-all}
+use lib.ListN.{length, getD, set, take, drop-of-length-le, replicate}
+use lib.Seq.{sets, sets-eq, take-suc, take-suc-set, take-all}
 use borrow.Author.Tests.{eq-eqb, ltb-true, ltb-false}
 use Rattle.model.specs.declared.Sizes.{Sizes}
 use Rattle.model.specs.Word.{part}
@@ -19,7 +19,7 @@ use Rattle.model.specs.Format.{freshWork}
 use Rattle.model.proofs.Store.Puts.{fresh-is}
 use Rattle.model.proofs.Below.{all-stop}
 use Rattle.model.proofs.Bounds.{bounded}
-use Rattle.model.proofs.Parts.{length-part, getD-part}
+use Rattle.model.proofs.Parts.{length-part}
 
 pub product-max : (a b m n : ℕ) → a ≤ m → b ≤ n → a * b ≤ m * n
 product-max a b m n h k = le-trans (mul-le-mul-left a k) (mul-le-mul-right n h)
@@ -30,14 +30,16 @@ pub fill-more : (out source : List ℕ) (i v : ℕ) → i < length out → i < l
 fill-more out source i v h k e done =
     rw (add-one, take-suc-set out i v h, take-suc source i 0 k, done, e)
 
-pub read-more : (out anchor : List ℕ) (at n i : ℕ) → at + n ≤ length anchor → i < n → length out ≡ n
-    → take i out ≡ take i (part at n anchor) → take (i + 1) (set out i (getD anchor (at + i) 0)) ≡ take (i + 1) (part at n anchor)
-read-more out anchor at n i fits h long done =
-    fill-more out (part at n anchor) i (getD anchor (at + i) 0) (omega arith) (omega (arith, length-part at n anchor fits))
-    (sym (getD-part at n anchor i h)) done
-
 pub fill-end : (out source : List ℕ) (n i : ℕ) → i ≡ n → length out ≡ n → length source ≡ n → take i out ≡ take i source → out ≡ source
 fill-end out source n i last h k done = sym (take-all i out (omega arith)) ∙ done ∙ take-all i source (omega arith)
+
+-- An array that a part of a list is copied over.
+pub copied-part : (n at : ℕ) (source old : List ℕ) {after : List ℕ} → at + n ≤ length source → length old ≡ n
+    → after ≡ sets old 0 (part at n source) → after ≡ part at n source
+copied-part n at source old fits whole e =
+    let long = length-part at n source fits in
+    let none = drop-of-length-le old {i = 0 + length (part at n source)} (omega (arith, long, whole)) in
+    e ∙ sets-eq (part at n source) old 0 (omega (arith, long, whole)) ∙ rw (none, append-nil)
 
 -- The bounds on the entries speak of the pages and the two arrays alone.
 abbrev pub entriesOf : ℕ → List ℕ → List ℕ → Sizes

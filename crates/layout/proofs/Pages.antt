@@ -1,5 +1,4 @@
--- A page lies within the page memory, its copy within a backup, and its copy number within the work memory; the entries of pages that are
--- not there add no words.
+-- A page lies within the page memory, and its copy within a backup; the entries of pages that are not there add no words.
 use mathlib.Core.Path.{_≡_, refl, ap, _∙_}
 use mathlib.Core.Bool.{Bool, true, false}
 use Prim.Native.Nat.{ℕ, zero, suc, _+_, _-_, _*_, _≤_, _<_}
@@ -8,7 +7,6 @@ use lib.Dec.{ltb}
 use borrow.Author.Tests.{ltb-true, ltb-false}
 use Rattle.model.specs.declared.Sizes.{Sizes}
 use Rattle.model.specs.Sizes.{slotsIn, widthIn, pageBase, pageWords, total, sizesInBounds}
-use Rattle.model.specs.Memory.{copyAt, workWords}
 use Rattle.model.proofs.Bounds.{bounded}
 use Rattle.model.proofs.Geometry.{page-base-step, page-end}
 
@@ -18,10 +16,6 @@ module _ (s : Sizes) (page : ℕ) {base n : ℕ} (h : page < s .pages) (b : base
 
   pub copy-fits : (at : ℕ) {words : ℕ} → at + total s ≤ 2 * total s → words ≡ 2 * total s → at + base + n ≤ words
   copy-fits at k m = omega (arith, page-end s page h)
-
-pub copy-number-fits : (s : Sizes) (page : ℕ) {at words : ℕ} → page < 64 → at ≡ copyAt s page → words ≡ workWords s → at < words
-unfolding workWords copyAt
-copy-number-fits s page h e k = omega arith
 
 module _ (s : Sizes) (ok : sizesInBounds s ≡ true) where
   no-words : (page : ℕ) → s .pages ≤ page → page < 64 → pageWords s page ≡ 0

@@ -1,4 +1,5 @@
 // The bounds of the sizes, and the lengths that they give the lent slices.
+use crate::anchor::RawSizes;
 use crate::disks::disk_at;
 use crate::places::total_in_bounds;
 use crate::places::words_in_slots;
@@ -11,6 +12,7 @@ ghost use lib.ListN.{getD};
 ghost use Rattle.model.specs.Below.{within, allBelow};
 ghost use Rattle.model.specs.Sizes.{total, logWords, entryInBounds, sizesInBounds};
 ghost use Rattle.model.specs.Memory.{workWords};
+ghost use Rattle.layout.specs.Raw.{sizesOf};
 
 // Whether the lent slices have the lengths that the sizes give; the anchor's is fixed.
 pub fn lengths_right(sizes: Sizes, pages: usize, backups: usize, logs: usize, work: usize) -> bool
@@ -94,13 +96,15 @@ fn entry_in_bounds(used: bool, slots: u64, width: u64) -> bool
 }
 
 // Of any numbers.
-pub fn in_bounds(pages: u64, disks: u64, ring: u64, slots: [u64; 64], widths: [u64; 64]) -> bool
-    ensures { λ r. ⌜ r ≡ sizesInBounds (record { pages = pages; disks = disks; ring = ring; slots = slots; widths = widths }) ⌝ }
+pub fn in_bounds(raw: RawSizes) -> bool
+    ensures { λ r. ⌜ r ≡ sizesInBounds (sizesOf raw) ⌝ }
 {
-    if !counts_in_bounds(pages, disks, ring) {
+    if !counts_in_bounds(raw.pages, raw.disks, raw.ring) {
         return false;
     }
-    let end = pages as usize;
+    let end = raw.pages as usize;
+    let slots = raw.slots;
+    let widths = raw.widths;
     let mut i: usize = 0;
     while i < 64 {
         if !entry_in_bounds(i < end, slots[i], widths[i]) {
@@ -167,17 +171,17 @@ fn bytes_of(words: [u64; 64]) -> [u8; 64]
 }
 
 // The entries of sizes in bounds fit into bytes.
-pub fn narrow(pages: u64, disks: u64, ring: u64, slots: [u64; 64], widths: [u64; 64]) -> Sizes
-    requires { ⌜ sizesInBounds (record { pages = pages; disks = disks; ring = ring; slots = slots; widths = widths }) ≡ true ⌝ }
-    ensures { λ r. ⌜ r ≡ record { pages = pages; disks = disks; ring = ring; slots = slots; widths = widths } ⌝ }
+pub fn narrow(raw: RawSizes) -> Sizes
+    requires { ⌜ sizesInBounds (sizesOf raw) ≡ true ⌝ }
+    ensures { λ r. ⌜ r ≡ sizesOf raw ⌝ }
 {
-    let slot_bytes = bytes_of(slots);
-    let width_bytes = bytes_of(widths);
+    let slots = raw.slots;
+    let widths = raw.widths;
     Sizes {
-        pages,
-        disks,
-        ring,
-        slots: slot_bytes,
-        widths: width_bytes,
+        pages: raw.pages,
+        disks: raw.disks,
+        ring: raw.ring,
+        slots: bytes_of(slots),
+        widths: bytes_of(widths),
     }
 }

@@ -1,4 +1,5 @@
-// The work memory: where buffers and copy numbers lie in it, and the memory made fresh.
+// The work memory: where buffers and copy numbers lie in it, and the memory made fresh. Its last words are the copy numbers, and the
+// buffers lie before them: so both are found from its length, and the pages need not be summed up.
 use crate::places::total;
 use model::Sizes;
 use words::fill_words;
@@ -10,7 +11,7 @@ ghost use Rattle.model.specs.Sizes.{sizesInBounds};
 ghost use Rattle.model.specs.Memory.{bufferAt, copyAt, workWords, copyOf};
 ghost use Rattle.model.specs.Format.{freshWork};
 
-// The first buffer word of a disk; of disk D, the end of all buffers.
+// The first buffer word of a disk, by the sizes alone.
 pub fn buffer_at(sizes: Sizes, disk: u64) -> u64
     requires { ⌜ (sizes .pages ≤ 64) × (disk ≤ 8) ⌝ }
     ensures { λ r. ⌜ (r ≡ bufferAt sizes disk) × (r < 2 ^ 33) ⌝ }
@@ -18,20 +19,28 @@ pub fn buffer_at(sizes: Sizes, disk: u64) -> u64
     total(sizes) + 64 * disk
 }
 
-// The place of a page's copy number.
-pub fn copy_at(sizes: Sizes, page: u64) -> u64
-    requires { ⌜ (sizes .pages ≤ 64) × (sizes .disks ≤ 8) × (page ≤ 64) ⌝ }
-    ensures { λ r. ⌜ (r ≡ copyAt sizes page) × (r < 2 ^ 34) ⌝ }
+// The first buffer word of a disk in a work memory of this length.
+pub fn buffer_place(sizes: Sizes, work: usize, disk: u64) -> u64
+    requires { ⌜ (disk < sizes .disks) × (sizes .disks ≤ 8) × (work ≡ workWords sizes) ⌝ }
+    ensures { λ r. ⌜ r ≡ bufferAt sizes disk ⌝ }
 {
-    buffer_at(sizes, sizes.disks) + page
+    work as u64 - 64 * (sizes.disks - disk + 1)
 }
 
-// The copy number of a page. They are the last 64 words, so that the pages need not be summed up.
+// The place of a page's copy number in a work memory of this length.
+pub fn copy_place(sizes: Sizes, work: usize, page: u64) -> usize
+    requires { ⌜ (page < 64) × (work ≡ workWords sizes) ⌝ }
+    ensures { λ r. ⌜ (r ≡ copyAt sizes page) × (r < work) ⌝ }
+{
+    work - 64 + page as usize
+}
+
+// The copy number of a page.
 pub fn page_copy(sizes: Sizes, work: &[u64], page: u64) -> u64
     requires { ⌜ (page < 64) × (length (now work) ≡ workWords sizes) ⌝ }
     ensures { λ r. ⌜ r ≡ copyOf sizes (now (work .entry)) page ⌝ }
 {
-    let at = work.len() - 64 + page as usize;
+    let at = copy_place(sizes, work.len(), page);
     work[at]
 }
 
@@ -41,7 +50,7 @@ pub fn fresh_work(work: &mut [u64], sizes: Sizes, copy: u64)
     ensures { λ _. ⌜ now (work .exit) ≡ freshWork sizes copy (now (work .entry)) ⌝ }
 {
     let words = total(sizes) as usize;
-    let copies = copy_at(sizes, 0) as usize;
+    let copies = copy_place(sizes, work.len(), 0);
     fill_words(work, 0, words, 0);
     fill_words(work, copies, 64, copy);
 }

@@ -64,7 +64,7 @@ pub struct Head {
 }
 
 // Writes the first three words of a change into `words`, which has the difference from its fourth word on.
-pub fn encode_change(words: &mut [u64], head: Head, width: u64)
+fn encode_change(words: &mut [u64], head: Head, width: u64)
     requires { ⌜ Encodable head width × (3 + width ≤ length (now words)) ⌝ }
     ensures { λ _. ⌜ now (words .exit)
         ≡ sets (now (words .entry)) 0 (header (head .kind) (head .page) (head .slot) width ∷ head .number ∷ head .copy ∷ []) ⌝ }
@@ -76,7 +76,7 @@ pub fn encode_change(words: &mut [u64], head: Head, width: u64)
 }
 
 // Puts a record's words into the work memory from index `at` on.
-pub fn put_record(work: &mut [u64], at: u64, words: &[u64])
+fn put_record(work: &mut [u64], at: u64, words: &[u64])
     requires { ⌜ at + length (now words) ≤ length (now work) ⌝ }
     ensures { λ _. ⌜ now (work .exit) ≡ sets (now (work .entry)) at (now (words .entry)) ⌝ }
 {
@@ -91,13 +91,7 @@ pub struct Logged {
 }
 
 // Puts a record's words behind those that the buffer has; it is flushed first where they do not fit its free words.
-pub fn append(
-    logs: &mut [u64],
-    work: &mut [u64],
-    home: Home,
-    words: &[u64],
-    budget: &mut u64,
-) -> Logged
+fn append(logs: &mut [u64], work: &mut [u64], home: Home, words: &[u64], budget: &mut u64) -> Logged
     requires { ⌜ Within home (now logs) (now work) × (length (now words) ≤ 64) ⌝ }
     ensures { λ r. ⌜ ((s : Sizes) (l : Logs) (w : World) → Lent s l w home (now (logs .entry)) (now (work .entry))
         → Appends (now (budget .entry)) (now (budget .exit)) s l (home .disk) (now (words .entry)) w (withSlices w (now (logs .exit)) (now (work .exit))) r) ⌝ }

@@ -12,8 +12,8 @@ use Rattle.model.specs.World.{World, store, backups, each}
 use Rattle.device.specs.Ran.{Ran, Stored, withBackups}
 use Rattle.device.proofs.Ran.{ran-then, ran-cut}
 use Rattle.device.proofs.Runs.{backups-ran}
-use Rattle.checkpoint.specs.Lent.{startsStored}
-use Rattle.checkpoint.proofs.Switches.{switch-listed}
+use Rattle.frame.specs.Switch.{startsStored}
+use Rattle.frame.proofs.Switches.{switch-listed}
 use Rattle.replay.specs.Parts.{checkpointStores}
 
 module _ (s : Sizes) (epoch : ℕ) (starts pages : List ℕ) (w : World) {budget rest at : ℕ} {after : List ℕ} {whole : Bool}

@@ -1,4 +1,6 @@
 // What restart begin reads: the anchor's sizes and current starts, the tails, and what is wrong with the logs.
+use layout::anchor::ANCHOR_WORDS;
+use layout::anchor::EPOCH_WORD;
 use layout::anchor::read_rows;
 use layout::anchor::read_sizes;
 use layout::bounds::in_bounds;
@@ -32,20 +34,13 @@ pub struct Finding {
 pub fn anchor_refusal(anchor: &[u64]) -> u64
     ensures { λ r. ⌜ r ≡ anchorRefusal (now (anchor .entry)) ⌝ }
 {
-    if anchor.len() != 148 {
+    if anchor.len() != ANCHOR_WORDS {
         return 2;
     }
-    if anchor[3] == 0 {
+    if anchor[EPOCH_WORD] == 0 {
         return 3;
     }
-    let raw = read_sizes(anchor);
-    let slots = raw.slots;
-    let widths = raw.widths;
-    if in_bounds(raw.pages, raw.disks, raw.ring, slots, widths) {
-        0
-    } else {
-        4
-    }
+    if in_bounds(read_sizes(anchor)) { 0 } else { 4 }
 }
 
 // The sizes that an anchor gives.
@@ -53,10 +48,7 @@ pub fn anchor_sizes(anchor: &[u64]) -> Sizes
     requires { ⌜ (length (now anchor) ≡ anchorWords) × (sizesInBounds (sizesOn (now anchor)) ≡ true) ⌝ }
     ensures { λ r. ⌜ r ≡ sizesOn (now (anchor .entry)) ⌝ }
 {
-    let raw = read_sizes(anchor);
-    let slots = raw.slots;
-    let widths = raw.widths;
-    narrow(raw.pages, raw.disks, raw.ring, slots, widths)
+    narrow(read_sizes(anchor))
 }
 
 // The first n words of a row, then zeros.
@@ -79,7 +71,7 @@ pub fn current_starts(disks: u64, anchor: &[u64]) -> [u64; 8]
     ensures { λ r. ⌜ ((s : Sizes) → s .disks ≡ disks → r ≡ perDisk s (startOn (now (anchor .entry)))) ⌝ }
 {
     let rows = read_rows(anchor);
-    let current = (anchor[3] % 2) as usize;
+    let current = (anchor[EPOCH_WORD] % 2) as usize;
     keep_below(rows[current], disks)
 }
 
@@ -129,13 +121,12 @@ fn wrong_tail(sizes: Sizes, starts: [u64; 8], tails: [u64; 8]) -> u64
     disks
 }
 
-// Rows 6 and 7 of logs that are read from these starts: a wrong tail, then a malformed record.
-pub fn check_logs(sizes: Sizes, starts: [u64; 8], logs: &[u64]) -> Finding
-    requires { ⌜ (sizesInBounds sizes ≡ true) × (length (now logs) ≡ logWords sizes) ⌝ }
+// Rows 6 and 7 of logs with these tails that are read from these starts: a wrong tail, then a malformed record.
+pub fn check_logs(sizes: Sizes, starts: [u64; 8], tails: [u64; 8], logs: &[u64]) -> Finding
+    requires { ⌜ (sizesInBounds sizes ≡ true) × (length (now logs) ≡ logWords sizes) × (tails ≡ perDisk sizes (tailIn sizes (now logs))) ⌝ }
     ensures { λ r. ⌜ verdict (logRows sizes (λ d. getD starts d 0) (now (logs .entry))) ≡ findingOf r ⌝ }
 {
     let disks = sizes.disks;
-    let tails = tails_on(sizes, logs);
     let disk = wrong_tail(sizes, starts, tails);
     if disk < disks {
         return Finding {

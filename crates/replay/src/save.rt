@@ -1,6 +1,6 @@
 // What restart end stores.
-use checkpoint::switch::switch_to;
 use device::store_copy;
+use frame::switch::switch_to;
 use layout::backup::backup_at;
 use model::Sizes;
 ghost use mathlib.Core.Path.{_≡_};

@@ -3,6 +3,7 @@ use frame::settle::refuse;
 use frame::settle::refuse_at;
 use frame::stages::is_shut;
 use frame::states::replaying_core;
+use layout::anchor::EPOCH_WORD;
 use layout::bounds::lengths_right;
 use layout::places::total;
 use model::Answer;
@@ -34,15 +35,15 @@ fn begin_on(core: Core, sizes: Sizes, anchor: &[u64], pages: &mut [u64], logs: &
     ensures { λ r. ⌜ ((backups work : List ℕ) → BeginsOn core (worldOf (now (anchor .entry)) (now (pages .entry)) backups (now (logs .entry)) work) r (worldOf (now (anchor .entry)) (now (pages .exit)) backups (now (logs .entry)) work)) ⌝ }
 {
     let starts = current_starts(sizes.disks, anchor);
-    let found = check_logs(sizes, starts, logs);
+    let tails = tails_on(sizes, logs);
+    let found = check_logs(sizes, starts, tails, logs);
     if found.number != 0 {
         return refuse_at(core, found.number, found.first, found.second);
     }
-    let epoch = anchor[3];
+    let epoch = anchor[EPOCH_WORD];
     if epoch >= LIMIT {
         return refuse(core, 13);
     }
-    let tails = tails_on(sizes, logs);
     let words = total(sizes) as usize;
     fill_words(pages, 0, words, 0);
     Reply {

@@ -3,6 +3,7 @@ use crate::Called;
 use crate::State;
 use crate::core_of;
 use crate::hand_back;
+use layout::anchor::RawSizes;
 ghost use mathlib.Core.Path.{_≡_};
 ghost use mathlib.Core.Bool.{true};
 ghost use Rattle.model.specs.World.{worldOf};
@@ -31,19 +32,13 @@ pub fn format(
     ensures { λ r. ⌜ (sound (state .core) ≡ true → sound (r .state .core) ≡ true) ⌝ }
 {
     let core = core_of(state);
-    let reply = format::format::format(
-        core,
-        pages_count,
+    let raw = RawSizes {
+        pages: pages_count,
         disks,
         ring,
         slots,
         widths,
-        anchor,
-        pages,
-        backups,
-        logs,
-        work,
-        budget,
-    );
+    };
+    let reply = format::format::format(core, raw, anchor, pages, backups, logs, work, budget);
     hand_back(reply)
 }

@@ -4,6 +4,9 @@ ghost use mathlib.Core.Path.{_≡_};
 ghost use Prim.Native.Nat.{_<_};
 ghost use Rattle.model.specs.State.{places, placeOf, isOpen, withPlace, without, hasUpdate};
 
+// The words that a begin reserves: those of the closing record. What is reserved beyond them is for updates.
+pub const CLOSE_WORDS: u64 = 2;
+
 // The place of a transaction; for 0, the lowest free place; 16 where there is none.
 pub fn place_of(table: Table, number: u64) -> usize
     ensures { λ r. ⌜ r ≡ placeOf table number ⌝ }
@@ -34,7 +37,7 @@ pub fn has_update(table: Table, place: usize) -> bool
     requires { ⌜ place < places ⌝ }
     ensures { λ r. ⌜ r ≡ hasUpdate table place ⌝ }
 {
-    2 < table.reserved[place]
+    CLOSE_WORDS < table.reserved[place]
 }
 
 // The table with another entry at a place.

@@ -42,7 +42,7 @@ pub fn add_place(sums: &mut [u64], number: u64, disk: u64, words: u64)
 }
 
 // The words reserved on each disk, at most CAP: a table that no call made may hold any numbers.
-pub fn reserved_each<'a>(
+fn reserved_each<'a>(
     numbers: &'a [u64; 16],
     disks: &'a [u64; 16],
     reserved: &'a [u64; 16],

@@ -1,4 +1,5 @@
 // The tests that a state made by the calls passes, but for those of its sizes.
+use crate::place::CLOSE_WORDS;
 use crate::room::LIMIT;
 use crate::room::add_place;
 use crate::room::room_for;
@@ -82,10 +83,10 @@ fn entry_sound<'a>(
     if d >= disks {
         return false;
     }
-    if reserved < 2 {
+    if reserved < CLOSE_WORDS {
         return false;
     }
-    if reserved == 2 {
+    if reserved == CLOSE_WORDS {
         return true;
     }
     covers(starts[d], tails[d], fills[d], first)

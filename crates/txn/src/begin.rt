@@ -5,6 +5,7 @@ use frame::settle::refuse;
 use frame::stages::When;
 use model::Core;
 use model::Reply;
+use table::place::CLOSE_WORDS;
 use table::place::place_of;
 use table::place::put_place;
 use table::room::LIMIT;
@@ -22,7 +23,7 @@ fn enter(core: Core, place: usize, disk: usize) -> Core
     requires { ⌜ (place ≡ placeOf (core .table) 0) × (disk ≡ idlest core 2) × (place < 16) × (core .next < limit) ⌝ }
     ensures { λ r. ⌜ r ≡ begun core ⌝ }
 {
-    let table = put_place(core.table, place, core.next, disk as u64, 0, 2);
+    let table = put_place(core.table, place, core.next, disk as u64, 0, CLOSE_WORDS);
     Core {
         table,
         next: core.next + 1,
@@ -52,7 +53,7 @@ pub fn begin(
     if core.next >= LIMIT {
         return refuse(core, 13);
     }
-    let disk = idlest(core, 2);
+    let disk = idlest(core, CLOSE_WORDS);
     if disk >= 8 {
         return refuse(core, 14);
     }

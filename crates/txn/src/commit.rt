@@ -5,11 +5,13 @@ use frame::home::with_disk;
 use frame::settle::refuse;
 use frame::settle::settle;
 use frame::stages::When;
+use log::kinds::COMMIT;
 use log::write::Home;
 use log::write::append_close;
 use log::write::flush_disk;
 use model::Core;
 use model::Reply;
+use table::place::CLOSE_WORDS;
 use table::place::is_open;
 use table::place::without;
 ghost use mathlib.Core.Path.{_≡_};
@@ -40,7 +42,7 @@ fn store_close(
         → home .disk < length (l .tails) → home .disk < length (l .fills)
         → Ran (now (budget .entry)) (now (budget .exit)) (closing s l w (home .disk) number) w (withSlices w (now (logs .exit)) (now (work .exit))) r) ⌝ }
 {
-    let added = append_close(logs, work, home, 2, number, budget);
+    let added = append_close(logs, work, home, COMMIT, number, budget);
     if !added.finished {
         return false;
     }
@@ -57,7 +59,8 @@ fn closed_core(core: Core, number: u64, home: Home) -> Core
     requires { ⌜ (home .disk < 8) × (home .tail + home .fill ≤ limit) ⌝ }
     ensures { λ r. ⌜ r ≡ withLog core (withDisk (core .logs) (home .disk) (home .tail + home .fill + 2) 0) (without (core .table) number) ⌝ }
 {
-    let logs = with_disk(core.logs, home.disk, home.tail + home.fill + 2, 0);
+    let end = home.tail + home.fill + CLOSE_WORDS;
+    let logs = with_disk(core.logs, home.disk, end, 0);
     let table = without(core.table, number);
     Core {
         logs,

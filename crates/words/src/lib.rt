@@ -52,24 +52,12 @@ pub fn fill_words(target: &mut [u64], at: usize, n: usize, value: u64)
     }
 }
 
-// What is counted over a difference. A struct, so that a further count changes no caller.
-pub struct DifferenceCounts {
-    pub words: usize,
-}
-
 // Writes a slot's difference, before XOR after, into out at `at`.
 // Before is the slot as it is, at `from` in pages; after is value.
-pub fn difference(
-    out: &mut [u64],
-    at: usize,
-    pages: &[u64],
-    from: usize,
-    value: &[u64],
-) -> DifferenceCounts
+pub fn difference(out: &mut [u64], at: usize, pages: &[u64], from: usize, value: &[u64])
     requires { ⌜ at + length (now value) ≤ length (now out) ⌝ }
     requires { ⌜ from + length (now value) ≤ length (now pages) ⌝ }
     ensures { λ _. ⌜ now (out .exit) ≡ sets (now (out .entry)) at (xors (part from (length (now (value .entry))) (now (pages .entry))) (now (value .entry))) ⌝ }
-    ensures { λ r. ⌜ r .words ≡ length (now (value .entry)) ⌝ }
 {
     let n = value.len();
     let mut i = 0;
@@ -77,5 +65,4 @@ pub fn difference(
         out[at + i] = pages[from + i] ^ value[i];
         i += 1;
     }
-    DifferenceCounts { words: n }
 }

@@ -65,7 +65,7 @@ returns : tie.Need-returns Inv-loop μ-loop
 returns c =
     let s = c .before .before .args in
     let l = c .before .loop in
-    (rw (l .inv .2) (difference-whole (s .out .now) (s .at) (s .pages .now) (s .from) (s .value .now) (l .i) (omega arith)), omega arith)
+    rw (l .inv .2) (difference-whole (s .out .now) (s .at) (s .pages .now) (s .from) (s .value .now) (l .i) (omega arith))
 
 pub difference-spec : {M : Type 1} → statement M
 difference-spec =

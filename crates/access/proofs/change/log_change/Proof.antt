@@ -7,17 +7,29 @@ use Rattle.access.proofs.change.log_change.Statement.{statement}
 use Rattle.access.proofs.change.log_change.Tie as tie
 
 slice-aggregate-append-change : tie.Need-slice-aggregate-append-change
-slice-aggregate-append-change c = sym (ap length (difference-taken (c .before .before .before .before .before .before .before .before .before .before .args .at) (c .before .before .before .before .before .before .before .before .before .before .args .value .now) (c .before .before .before .before .before .before .before .before .before .before .args .pages .now) (c .before .before .before .before .before .before .before .before .before .before .pre .2) (c .before .before .before .before .before .before .before .before .before .before .pre .1 .width-small) (c .before .before .before .before .difference .ensures .0)) ∙ difference-length (c .before .before .before .before .before .before .before .before .before .before .args .at) (c .before .before .before .before .before .before .before .before .before .before .args .value .now) (c .before .before .before .before .before .before .before .before .before .before .args .pages .now) (c .before .before .before .before .before .before .before .before .before .before .pre .2))
+slice-aggregate-append-change c =
+    let start = c .before .before .before .before .before .before .before .before .before .before in
+    let x = start .args in
+    sym
+    (ap length (difference-taken (x .at) (x .value .now) (x .pages .now) (start .pre .2) (start .pre .1 .width-small) (c .before .before .before .before .difference .ensures))
+    ∙ difference-length (x .at) (x .value .now) (x .pages .now) (start .pre .2))
 
 append-change-requires : tie.Need-append-change-requires
 append-change-requires c κs =
-    (c .before .before .before .before .before .before .before .before .before .before .before .pre .0, rw (difference-taken (c .before .before .before .before .before .before .before .before .before .before .before .args .at) (c .before .before .before .before .before .before .before .before .before .before .before .args .value .now) (c .before .before .before .before .before .before .before .before .before .before .before .args .pages .now) (c .before .before .before .before .before .before .before .before .before .before .before .pre .2) (c .before .before .before .before .before .before .before .before .before .before .before .pre .1 .width-small) (c .before .before .before .before .before .difference .ensures .0), difference-length (c .before .before .before .before .before .before .before .before .before .before .before .args .at) (c .before .before .before .before .before .before .before .before .before .before .before .args .value .now) (c .before .before .before .before .before .before .before .before .before .before .before .args .pages .now) (c .before .before .before .before .before .before .before .before .before .before .before .pre .2)) (c .before .before .before .before .before .before .before .before .before .before .before .pre .1))
+    let start = c .before .before .before .before .before .before .before .before .before .before .before in
+    let x = start .args in
+    let built = difference-taken (x .at) (x .value .now) (x .pages .now) (start .pre .2) (start .pre .1 .width-small) (c .before .before .before .before .before .difference .ensures) in
+    let long = difference-length (x .at) (x .value .now) (x .pages .now) (start .pre .2) in
+    (start .pre .0, rw (built, long) (start .pre .1))
 
 returns : tie.Need-returns
 returns c =
-    let built = difference-taken (c .before .before .before .before .before .before .before .before .before .before .before .before .before .before .before .before .args .at) (c .before .before .before .before .before .before .before .before .before .before .before .before .before .before .before .before .args .value .now) (c .before .before .before .before .before .before .before .before .before .before .before .before .before .before .before .before .args .pages .now) (c .before .before .before .before .before .before .before .before .before .before .before .before .before .before .before .before .pre .2) (c .before .before .before .before .before .before .before .before .before .before .before .before .before .before .before .before .pre .1 .width-small) (c .before .before .before .before .before .before .before .before .before .before .difference .ensures .0) in
-    let long = difference-length (c .before .before .before .before .before .before .before .before .before .before .before .before .before .before .before .before .args .at) (c .before .before .before .before .before .before .before .before .before .before .before .before .before .before .before .before .args .value .now) (c .before .before .before .before .before .before .before .before .before .before .before .before .before .before .before .before .args .pages .now) (c .before .before .before .before .before .before .before .before .before .before .before .before .before .before .before .before .pre .2) in
-    (λ s l w lent. rw (← built) (c .before .before .before .before .append-change .ensures .0 s l w lent), rw (built, long) at (c .before .before .before .before .append-change .ensures .1))
+    let start = c .before .before .before .before .before .before .before .before .before .before .before .before .before .before .before .before in
+    let x = start .args in
+    let built = difference-taken (x .at) (x .value .now) (x .pages .now) (start .pre .2) (start .pre .1 .width-small) (c .before .before .before .before .before .before .before .before .before .before .difference .ensures) in
+    let long = difference-length (x .at) (x .value .now) (x .pages .now) (start .pre .2) in
+    let append = c .before .before .before .before .append-change in
+    (λ s l w lent. rw (← built) (append .ensures .0 s l w lent), rw (built, long) at (append .ensures .1))
 
 pub log-change-spec : {M : Type 1} → statement M
 log-change-spec =

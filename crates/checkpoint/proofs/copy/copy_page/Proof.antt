@@ -3,7 +3,7 @@ use native.Mathlib.Omega.{arith}
 use borrow.Author.Needs.{needs}
 use borrow.Author.Tests.{not-true, not-false}
 use Rattle.model.proofs.Bounds.{bounded}
-use Rattle.layout.proofs.Pages.{page-fits, copy-fits, copy-number-fits}
+use Rattle.layout.proofs.Pages.{page-fits, copy-fits}
 use Rattle.checkpoint.proofs.Copies.{copy-cut, copy-whole}
 use Rattle.checkpoint.proofs.copy.copy_page.Statement.{statement}
 use Rattle.checkpoint.proofs.copy.copy_page.Tie as tie
@@ -33,16 +33,10 @@ returns c =
     copy-cut _ _ _ (at-backup-at .before .before .page-base .ensures .0) (at-backup-at .before .page-words .ensures .0) (at-backup-at .backup-at .ensures .0)
     (at-store-copy .store-copy .ensures) anchor logs (not-true _ (c .if1 .taken))
 
-copy-at-requires : tie.Need-copy-at-requires
-copy-at-requires c κs =
+copy-place-requires : tie.Need-copy-place-requires
+copy-place-requires c κs =
     let pre = c .before .before .before .before .before .before .before .before .before .before .before .before .pre in
-    let b = bounded _ (pre .sizes) in
-    (b .pages-max, b .disks-max, omega (arith, pre .page-below, b .pages-max))
-
-slice-write-work : tie.Need-slice-write-work
-slice-write-work c =
-    let pre = c .before .before .before .before .before .before .before .before .before .before .before .before .before .pre in
-    copy-number-fits _ _ (omega (arith, pre .page-below, bounded _ (pre .sizes) .pages-max)) (c .copy-at .ensures .0) (pre .work-words)
+    (omega (arith, pre .page-below, bounded _ (pre .sizes) .pages-max), pre .work-words)
 
 returns-2 : tie.Need-returns-2
 returns-2 c =
@@ -51,7 +45,7 @@ returns-2 c =
     let at-backup-at = at-store-copy .before .before .before in
     λ anchor logs.
     copy-whole _ _ _ (at-backup-at .before .before .page-base .ensures .0) (at-backup-at .before .page-words .ensures .0) (at-backup-at .backup-at .ensures .0)
-    (at-store-copy .store-copy .ensures) anchor logs (not-false _ (at-if1 .if1 .left)) (c .copy-at .ensures .0)
+    (at-store-copy .store-copy .ensures) anchor logs (not-false _ (at-if1 .if1 .left)) (c .copy-place .ensures .0)
 
 pub copy-page-spec : {M : Type 1} → statement M
 copy-page-spec =
@@ -64,9 +58,9 @@ copy-page-spec =
     store-copy-requires
     (λ c. search needs)
     returns
-    copy-at-requires
+    copy-place-requires
     (λ c. search needs)
-    slice-write-work
+    (λ c. search needs)
     (λ c. search needs)
     (λ c. search needs)
     returns-2)

@@ -2,7 +2,7 @@
 use borrow.Author.Tests.{not-true, not-false}
 use Rattle.model.specs.World.{worldOf}
 use Rattle.model.proofs.Store.Accepted.{disks-max}
-use Rattle.checkpoint.proofs.Switches.{end-cut, end-whole}
+use Rattle.checkpoint.proofs.Closing.{end-cut, end-whole}
 use borrow.Author.Needs.{needs}
 use Rattle.checkpoint.proofs.end.store_end.Statement.{statement}
 use Rattle.checkpoint.proofs.end.store_end.Tie as tie

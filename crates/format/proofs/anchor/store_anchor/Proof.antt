@@ -11,7 +11,7 @@ returns c = λ memory backups logs work. ran-cut (c .before .before .before .sto
 returns-2 : tie.Need-returns-2
 returns-2 c =
     λ memory backups logs work.
-    ran-then (c .before .before .before .before .before .before .before .before .store-front .ensures memory backups logs work) _ (not-false _ (c .before .before .before .before .before .if1 .left)) (c .before .before .store-arrays .ensures memory backups logs work)
+    ran-then (c .before .before .before .before .before .before .before .before .before .before .store-front .ensures memory backups logs work) _ (not-false _ (c .before .before .before .before .before .before .before .if1 .left)) (c .before .before .store-arrays .ensures memory backups logs work)
 
 pub store-anchor-spec : {M : Type 1} → statement M
 store-anchor-spec =

@@ -14,14 +14,14 @@ returns c =
     let pre = c .before .before .before .before .before .before .before .before .before .before .pre in
     let x = c .before .before .before .before .before .before .before .before .before .before .args in
     λ memory work.
-    anchor-cut (x .sizes) (pre .1) (pre .2) (c .before .before .before .store-anchor .ensures memory (x .backups .now) (x .logs .now) work) (not-true _ (c .if1 .taken))
+    anchor-cut (x .sizes) (pre .1) (c .before .before .before .store-anchor .ensures memory (x .backups .now) (x .logs .now) work) (not-true _ (c .if1 .taken))
 
 returns-2 : tie.Need-returns-2
 returns-2 c =
     let pre = c .before .before .before .before .before .before .before .before .before .before .before .before .before .before .before .before .pre in
     let x = c .before .before .before .before .before .before .before .before .before .before .before .before .before .before .before .before .args in
     λ memory work.
-    tails-cut (x .sizes) (pre .1) (pre .2) (c .before .before .before .before .before .before .before .before .before .store-anchor .ensures memory (x .backups .now) (x .logs .now) work) (not-false _ (c .before .before .before .before .before .before .if1 .left))
+    tails-cut (x .sizes) (pre .1) (c .before .before .before .before .before .before .before .before .before .store-anchor .ensures memory (x .backups .now) (x .logs .now) work) (not-false _ (c .before .before .before .before .before .before .if1 .left))
     (c .before .before .before .store-tails .ensures _ memory (x .backups .now) work) (not-true _ (c .if2 .taken))
 
 returns-3 : tie.Need-returns-3
@@ -29,7 +29,7 @@ returns-3 c =
     let pre = c .before .before .before .before .before .before .before .before .before .before .before .before .before .before .before .before .before .before .before .before .before .before .before .before .pre in
     let x = c .before .before .before .before .before .before .before .before .before .before .before .before .before .before .before .before .before .before .before .before .before .before .before .before .args in
     λ memory work.
-    stores-whole (x .sizes) (pre .1) (pre .2) (c .before .before .before .before .before .before .before .before .before .before .before .before .before .before .before .before .before .store-anchor .ensures memory (x .backups .now) (x .logs .now) work) (not-false _ (c .before .before .before .before .before .before .before .before .before .before .before .before .before .before .if1 .left))
+    stores-whole (x .sizes) (pre .1) (c .before .before .before .before .before .before .before .before .before .before .before .before .before .before .before .before .before .store-anchor .ensures memory (x .backups .now) (x .logs .now) work) (not-false _ (c .before .before .before .before .before .before .before .before .before .before .before .before .before .before .if1 .left))
     (c .before .before .before .before .before .before .before .before .before .before .before .store-tails .ensures _ memory (x .backups .now) work) (not-false _ (c .before .before .before .before .before .before .before .before .if2 .left)) (c .before .before .before .before .before .before .before .before .before .before .before .before .before .before .before .before .before .before .before .before .total .ensures .0)
     (c .before .before .before .before .store-last .ensures memory _ work)
 

@@ -1,9 +1,8 @@
 -- `format::format::format` meets its contract: each refusal is the first row that applies, and memory is made fresh once all is stored.
 -- Assumes nothing.
 use native.Mathlib.Omega.{arith}
-use mathlib.Core.Path.{sym, ap, _∙_}
+use mathlib.Core.Path.{sym, _∙_}
 use borrow.Author.Tests.{not-true, not-false}
-use Rattle.model.specs.declared.Sizes.{Sizes}
 use Rattle.model.specs.World.{worldOf}
 use Rattle.frame.proofs.Verdicts.{refusal-given, task-given}
 use Rattle.format.proofs.Joined.{lay-cut, lay-whole}
@@ -54,11 +53,8 @@ store-devices-requires c κs =
     let x = c .before .before .before .before .before .before .before .before .before .before .before .before .before .before .before .before .before .before .before .args in
     let w = worldOf (x .anchor .now) (x .pages .now) (x .backups .now) (x .logs .now) (x .work .now) in
     let right = lengths-tested _ _ w (c .before .before .before .before .before .before .before .before .narrow .ensures) (c .before .before .before .before .before .before .before .lengths-right .ensures) ∙ not-false _ (c .before .before .before .before .before .before .if4 .left) in
-    let inside = sym (c .before .before .before .before .before .before .before .before .before .before .in-bounds .ensures) ∙ not-false _ (c .before .before .before .before .before .before .before .before .before .if3 .left) in (
-      devices-right _ _ w (c .before .before .before .before .before .before .before .before .narrow .ensures) inside right (omega (arith, c .before .before .before .before .before .before .before .before .before .before .before .if2 .left)),
-      sym (ap (λ (s : Sizes). s .slots) (c .before .before .before .before .before .before .before .before .narrow .ensures)),
-      sym (ap (λ (s : Sizes). s .widths) (c .before .before .before .before .before .before .before .before .narrow .ensures)),
-    )
+    let inside = sym (c .before .before .before .before .before .before .before .before .before .before .in-bounds .ensures) ∙ not-false _ (c .before .before .before .before .before .before .before .before .before .if3 .left) in
+    (devices-right _ _ w (c .before .before .before .before .before .before .before .before .narrow .ensures) inside right (omega (arith, c .before .before .before .before .before .before .before .before .before .before .before .if2 .left)), c .before .before .before .before .before .before .before .before .narrow .ensures)
 
 returns-5 : tie.Need-returns-5
 returns-5 c =

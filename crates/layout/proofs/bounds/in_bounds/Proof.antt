@@ -13,11 +13,11 @@ use Rattle.layout.proofs.bounds.in_bounds.Statement.{statement}
 use Rattle.layout.proofs.bounds.in_bounds.Tie as tie
 
 abbrev Inv-loop : tie.InvT-loop
-Inv-loop pages disks ring slots widths end i₀ i =
-    (i ≤ 64) × (allBelow (entryInBounds (entriesOf pages slots widths)) i ≡ true)
+Inv-loop end slots widths i₀ i =
+    (i ≤ 64) × (allBelow (entryInBounds (entriesOf end slots widths)) i ≡ true)
 
 abbrev μ-loop : tie.MeasureT-loop
-μ-loop pages disks ring slots widths end i₀ i = 64 - i
+μ-loop end slots widths i₀ i = 64 - i
 
 returns : tie.Need-returns Inv-loop μ-loop
 returns c = counts-out _ (sym (c .before .counts-in-bounds .ensures) ∙ not-true _ (c .if1 .taken))
@@ -40,7 +40,7 @@ loop-again c =
 returns-3 : tie.Need-returns-3 Inv-loop μ-loop
 returns-3 c =
     let last : c .before .loop .i ≡ 64 = omega arith in
-    all-in _ (sym (c .before .before .before .counts-in-bounds .ensures) ∙ not-false _ (c .before .before .if1 .left)) (search needs) (search needs)
+    all-in _ (sym (c .before .before .before .before .before .counts-in-bounds .ensures) ∙ not-false _ (c .before .before .before .before .if1 .left)) (search needs) (search needs)
     (rw last at (c .before .loop .inv .1))
 
 pub in-bounds-spec : {M : Type 1} → statement M

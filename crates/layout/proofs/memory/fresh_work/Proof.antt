@@ -10,11 +10,6 @@ use Rattle.layout.proofs.memory.fresh_work.Tie as tie
 total-requires : tie.Need-total-requires
 total-requires c κs = bounded _ (c .before .pre .0) .pages-max
 
-copy-at-requires : tie.Need-copy-at-requires
-copy-at-requires c κs =
-    let b = bounded _ (c .before .before .pre .0) in
-    (b .pages-max, b .disks-max, omega arith)
-
 fill-words-requires : tie.Need-fill-words-requires
 unfolding workWords copyAt bufferAt
 fill-words-requires c κs = omega arith
@@ -27,8 +22,8 @@ returns : tie.Need-returns
 returns c =
     let at-fill-words2 = c .before .before in
     let at-fill-words = at-fill-words2 .before .before .before .before in
-    let at-copy-at = at-fill-words .before .before in
-    fresh-set _ _ _ (at-copy-at .before .total .ensures .0) (at-copy-at .copy-at .ensures .0) (at-fill-words .fill-words .ensures)
+    let at-copy-place = at-fill-words .before .before in
+    fresh-set _ _ _ (at-copy-place .before .total .ensures .0) (at-copy-place .copy-place .ensures .0) (at-fill-words .fill-words .ensures)
     (at-fill-words2 .fill-words2 .ensures)
 
 pub fresh-work-spec : {M : Type 1} → statement M
@@ -36,7 +31,7 @@ fresh-work-spec =
     tie.close
     (tie.spec
     total-requires
-    copy-at-requires
+    (λ c κs. search needs)
     fill-words-requires
     fill-words-requires-2
     (λ c. search needs)

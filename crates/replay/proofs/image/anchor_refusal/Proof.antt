@@ -17,7 +17,7 @@ returns-2 c = rw (eq-eqb _ _ (c .before .before .if1 .left), eq-eqb _ _ (c .if2 
 returns-3 : tie.Need-returns-3
 unfolding anchorRefusal epochOn
 returns-3 c =
-    let at-read-sizes = c .before .before .before .before in
+    let at-read-sizes = c .before .before in
     let at-if2 = at-read-sizes .before in
     let at-if1 = at-if2 .before .before in
     rw (eq-eqb _ _ (at-if1 .if1 .left), ne-eqb _ _ (at-if2 .if2 .left), ← at-read-sizes .read-sizes .ensures, ← c .before .in-bounds .ensures, c .if3 .taken)
@@ -25,7 +25,7 @@ returns-3 c =
 returns-4 : tie.Need-returns-4
 unfolding anchorRefusal epochOn
 returns-4 c =
-    let at-read-sizes = c .before .before .before .before in
+    let at-read-sizes = c .before .before in
     let at-if2 = at-read-sizes .before in
     let at-if1 = at-if2 .before .before in
     rw (eq-eqb _ _ (at-if1 .if1 .left), ne-eqb _ _ (at-if2 .if2 .left), ← at-read-sizes .read-sizes .ensures, ← c .before .in-bounds .ensures, c .if3 .left)

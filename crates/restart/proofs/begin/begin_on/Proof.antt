@@ -11,10 +11,19 @@ use Rattle.restart.proofs.begin.begin_on.Tie as tie
 current-starts-requires : tie.Need-current-starts-requires
 current-starts-requires c κs = (bounded _ (c .before .before .before .pre .1) .disks-max, c .before .before .before .pre .2)
 
+tails-on-requires : tie.Need-tails-on-requires
+tails-on-requires c κs =
+    let pre = c .before .before .before .before .pre in
+    let b = bounded _ (pre .1) in
+    (b .disks-max, b .ring-max, omega (arith, pre .4))
+
+check-logs-requires : tie.Need-check-logs-requires
+check-logs-requires c κs = let pre = c .before .before .before .before .before .pre in (pre .1, pre .4, c .tails-on .ensures)
+
 returns : tie.Need-returns
 returns c =
     let at-check = c .before .before .before in
-    let at-starts = at-check .before in
+    let at-starts = at-check .before .before in
     let start = at-starts .before .before .before .before in
     λ backups work.
     let a = start .args in
@@ -27,19 +36,13 @@ unfolding epochOn
 returns-2 c =
     let at-if1 = c .before .before .before in
     let at-check = at-if1 .before .before in
-    let at-starts = at-check .before in
+    let at-starts = at-check .before .before in
     let start = at-starts .before .before .before .before in
     λ backups work.
     let a = start .args in
     let pre = start .pre in
     rw (c .refuse .ensures) (begin-spent (a .core) _ (a .sizes) (pre .0) (bounded _ (pre .1) .disks-max)
     (at-starts .current-starts .ensures _ refl) _ (at-check .check-logs .ensures) (at-if1 .if1 .left) (c .before .if2 .taken))
-
-tails-on-requires : tie.Need-tails-on-requires
-tails-on-requires c κs =
-    let pre = c .before .before .before .before .before .before .before .before .before .pre in
-    let b = bounded _ (pre .1) in
-    (b .disks-max, b .ring-max, omega (arith, pre .4))
 
 total-requires : tie.Need-total-requires
 total-requires c κs = bounded _ (c .before .before .before .before .before .before .before .before .before .before .pre .1) .pages-max
@@ -49,11 +52,11 @@ unfolding epochOn
 returns-3 c =
     let at-fill-words = c .before .before .before in
     let at-total = at-fill-words .before .before in
-    let at-tails = at-total .before in
-    let at-if2 = at-tails .before in
+    let at-if2 = at-total .before in
     let at-if1 = at-if2 .before .before in
     let at-check = at-if1 .before .before in
-    let at-starts = at-check .before in
+    let at-tails = at-check .before in
+    let at-starts = at-tails .before in
     let start = at-starts .before .before .before .before in
     λ backups work.
     let a = start .args in
@@ -67,13 +70,13 @@ begin-on-spec =
     tie.close
     (tie.spec
     current-starts-requires
-    (λ c κs. search needs)
+    tails-on-requires
+    check-logs-requires
     (λ c κs. search needs)
     returns
     (λ c. search needs)
     (λ c κs. search needs)
     returns-2
-    tails-on-requires
     total-requires
     (λ c κs. search needs)
     (λ c κs. search needs)

@@ -1,9 +1,9 @@
--- `checkpoint::switch::switch_to` meets its contract: the number is stored once the starts are. Assumes nothing.
+-- `frame::switch::switch_to` meets its contract: the number is stored once the starts are. Assumes nothing.
 use borrow.Author.Tests.{not-true, not-false}
-use Rattle.checkpoint.proofs.Switches.{switch-cut, switch-whole}
+use Rattle.frame.proofs.Switches.{switch-cut, switch-whole}
 use borrow.Author.Needs.{needs}
-use Rattle.checkpoint.proofs.switch.switch_to.Statement.{statement}
-use Rattle.checkpoint.proofs.switch.switch_to.Tie as tie
+use Rattle.frame.proofs.switch.switch_to.Statement.{statement}
+use Rattle.frame.proofs.switch.switch_to.Tie as tie
 
 returns : tie.Need-returns
 returns c = let args = c .before .before .before .before .before .before .before .before .args in
