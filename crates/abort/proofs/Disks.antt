@@ -60,8 +60,10 @@ module _ {s : Sizes} {l : Logs} {disk : ℕ} {logs work : List ℕ} (at : Servin
       }
 
   -- where its log ends and its buffered words lie
-  pub asked : (s .pages ≤ 64) × (disk < 8) × (endOf l disk ≤ limit)
-  asked = (bounds .pages-max, small .below, at .end-small)
+  pub asked : (disk < s .disks) × (s .disks ≤ 8) × (s .ring ≤ 65536) × (length work ≡ workWords s) × (length work ≤ 10000) × (endOf l disk ≤ limit)
+  unfolding workWords copyAt bufferAt
+  asked =
+      (at .disk-below, bounds .disks-max, bounds .ring-max, at .work-words, omega (arith, at .work-words, small .words, bounds .disks-max), at .end-small)
 
   pub extended : (disk ≤ 8) × (s .ring ≤ 65536)
   extended = (omega (arith, small .below), bounds .ring-max)

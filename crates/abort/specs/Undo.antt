@@ -18,12 +18,11 @@ use Rattle.abort.specs.declared.difference.Site.{Site}
 use Rattle.abort.specs.declared.window.Window.{Window}
 use Rattle.abort.specs.declared.record.Progress.{Progress}
 
--- a disk's log: its tail, its buffered words, its end, and where the buffered words lie in the work memory
+-- a disk's log: its tail, its end, and where the buffered words lie in the work memory
 unfoldable pub windowOf : Sizes → Logs → ℕ → Window
 windowOf s l disk =
     record {
       tail = tailOf l disk;
-      fill = fillOf l disk;
       end = endOf l disk;
       start = bufferAt s disk;
       stop = bufferAt s disk + fillOf l disk;

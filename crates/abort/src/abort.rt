@@ -48,10 +48,10 @@ fn roll_back(
 {
     let at = scope_of(core, number);
     let sizes = core.sizes;
-    let state = core.logs;
+    let heads = core.logs;
     let undone = undo_all(
         sizes,
-        state,
+        heads,
         at.disk,
         number,
         at.from,

@@ -25,16 +25,16 @@ pub struct Site {
 // The site of the update at a position, by its first word.
 pub fn site_at(
     sizes: Sizes,
-    state: Logs,
+    heads: Logs,
     disk: u64,
     position: u64,
     logs: &[u64],
     work: &[u64],
 ) -> Site
-    requires { ⌜ Serving sizes state disk (now logs) (now work) × (position < endOf state disk) ⌝ }
-    ensures { λ r. ⌜ r ≡ siteAt (reader sizes state disk (now (logs .entry)) (now (work .entry))) position ⌝ }
+    requires { ⌜ Serving sizes heads disk (now logs) (now work) × (position < endOf heads disk) ⌝ }
+    ensures { λ r. ⌜ r ≡ siteAt (reader sizes heads disk (now (logs .entry)) (now (work .entry))) position ⌝ }
 {
-    let log = window_of(sizes, state, disk);
+    let log = window_of(sizes, heads, work.len(), disk);
     let start = log.start as usize;
     let stop = log.stop as usize;
     let extent = extent_of(sizes, disk, log.tail, log.end);
@@ -81,18 +81,18 @@ fn copy_words_of_log(
 // The difference of the update at a position, in the first words of what is handed back.
 pub fn difference_at(
     sizes: Sizes,
-    state: Logs,
+    heads: Logs,
     disk: u64,
     position: u64,
     width: u64,
     logs: &[u64],
     work: &[u64],
 ) -> [u64; 32]
-    requires { ⌜ Serving sizes state disk (now logs) (now work) ⌝ }
-    requires { ⌜ (position + 3 + width ≤ endOf state disk) × (width ≤ 32) ⌝ }
-    ensures { λ r. ⌜ take width r ≡ span (reader sizes state disk (now (logs .entry)) (now (work .entry))) (position + 3) width ⌝ }
+    requires { ⌜ Serving sizes heads disk (now logs) (now work) ⌝ }
+    requires { ⌜ (position + 3 + width ≤ endOf heads disk) × (width ≤ 32) ⌝ }
+    ensures { λ r. ⌜ take width r ≡ span (reader sizes heads disk (now (logs .entry)) (now (work .entry))) (position + 3) width ⌝ }
 {
-    let log = window_of(sizes, state, disk);
+    let log = window_of(sizes, heads, work.len(), disk);
     let start = log.start as usize;
     let stop = log.stop as usize;
     let extent = extent_of(sizes, disk, log.tail, log.end);

@@ -20,12 +20,12 @@ pub fn fault_of(core: Core, number: u64, logs: &[u64], work: &[u64]) -> Fault
 {
     let at = scope_of(core, number);
     let sizes = core.sizes;
-    let state = core.logs;
-    let malformed = malformed_from(sizes, state, at.disk, at.from, logs, work);
+    let heads = core.logs;
+    let malformed = malformed_from(sizes, heads, at.disk, at.from, logs, work);
     if let Fault::BadRecord { disk, position } = malformed {
         return Fault::BadRecord { disk, position };
     }
-    let words = words_from(sizes, state, at.disk, number, at.from, logs, work);
+    let words = words_from(sizes, heads, at.disk, number, at.from, logs, work);
     if at.words < words {
         return Fault::BadRecord {
             disk: at.disk,

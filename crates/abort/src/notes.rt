@@ -19,7 +19,7 @@ pub struct Notes {
 // Reads the log on in groups, and notes where each begins.
 pub fn notes_from(
     sizes: Sizes,
-    state: Logs,
+    heads: Logs,
     disk: u64,
     number: u64,
     from: u64,
@@ -27,15 +27,15 @@ pub fn notes_from(
     logs: &[u64],
     work: &[u64],
 ) -> Notes
-    requires { ⌜ Serving sizes state disk (now logs) (now work) × (end ≤ endOf state disk) ⌝ }
-    requires { ⌜ length (positionsIn number (scan sizes (reader sizes state disk (now logs) (now work)) end from)) ≤ 16384 ⌝ }
-    ensures { λ r. ⌜ Noted number (scan sizes (reader sizes state disk (now (logs .entry)) (now (work .entry))) end) from r ⌝ }
+    requires { ⌜ Serving sizes heads disk (now logs) (now work) × (end ≤ endOf heads disk) ⌝ }
+    requires { ⌜ length (positionsIn number (scan sizes (reader sizes heads disk (now logs) (now work)) end from)) ≤ 16384 ⌝ }
+    ensures { λ r. ⌜ Noted number (scan sizes (reader sizes heads disk (now (logs .entry)) (now (work .entry))) end) from r ⌝ }
 {
     let mut at = [0u64; 128];
     let mut count: u64 = 0;
     let mut p = from;
     loop {
-        let group = group_from(sizes, state, disk, number, p, end, logs, work);
+        let group = group_from(sizes, heads, disk, number, p, end, logs, work);
         if group.count == 0 {
             return Notes { count, at };
         }

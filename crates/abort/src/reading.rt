@@ -29,16 +29,16 @@ fn larger(a: u64, b: u64) -> u64
 // The first malformed record from a position on: up to the tail, then in the buffer.
 pub fn malformed_from(
     sizes: Sizes,
-    state: Logs,
+    heads: Logs,
     disk: u64,
     from: u64,
     logs: &[u64],
     work: &[u64],
 ) -> Fault
-    requires { ⌜ Serving sizes state disk (now logs) (now work) ⌝ }
-    ensures { λ r. ⌜ r ≡ faultIn disk (partsFrom sizes state disk (now (logs .entry)) (now (work .entry)) from) NoFault ⌝ }
+    requires { ⌜ Serving sizes heads disk (now logs) (now work) ⌝ }
+    ensures { λ r. ⌜ r ≡ faultIn disk (partsFrom sizes heads disk (now (logs .entry)) (now (work .entry)) from) NoFault ⌝ }
 {
-    let log = window_of(sizes, state, disk);
+    let log = window_of(sizes, heads, work.len(), disk);
     let start = log.start as usize;
     let stop = log.stop as usize;
     let buffer = &work[start..stop];
@@ -56,7 +56,7 @@ pub fn malformed_from(
 // The positions of a transaction's first 128 updates, from a position on, in the log up to an end.
 pub fn group_from(
     sizes: Sizes,
-    state: Logs,
+    heads: Logs,
     disk: u64,
     number: u64,
     from: u64,
@@ -64,10 +64,10 @@ pub fn group_from(
     logs: &[u64],
     work: &[u64],
 ) -> Group
-    requires { ⌜ Serving sizes state disk (now logs) (now work) × (end ≤ endOf state disk) ⌝ }
-    ensures { λ r. ⌜ Gathered number (scan sizes (reader sizes state disk (now (logs .entry)) (now (work .entry))) end) from r ⌝ }
+    requires { ⌜ Serving sizes heads disk (now logs) (now work) × (end ≤ endOf heads disk) ⌝ }
+    ensures { λ r. ⌜ Gathered number (scan sizes (reader sizes heads disk (now (logs .entry)) (now (work .entry))) end) from r ⌝ }
 {
-    let log = window_of(sizes, state, disk);
+    let log = window_of(sizes, heads, work.len(), disk);
     let start = log.start as usize;
     let stop = log.stop as usize;
     let extent = extent_of(sizes, disk, log.tail, end);
@@ -77,17 +77,17 @@ pub fn group_from(
 // The words of the update records from a position on.
 pub fn words_from(
     sizes: Sizes,
-    state: Logs,
+    heads: Logs,
     disk: u64,
     number: u64,
     from: u64,
     logs: &[u64],
     work: &[u64],
 ) -> u64
-    requires { ⌜ Serving sizes state disk (now logs) (now work) ⌝ }
-    ensures { λ r. ⌜ r ≡ updateWords (updatesIn number (logFrom sizes state disk (now (logs .entry)) (now (work .entry)) from)) ⌝ }
+    requires { ⌜ Serving sizes heads disk (now logs) (now work) ⌝ }
+    ensures { λ r. ⌜ r ≡ updateWords (updatesIn number (logFrom sizes heads disk (now (logs .entry)) (now (work .entry)) from)) ⌝ }
 {
-    let log = window_of(sizes, state, disk);
+    let log = window_of(sizes, heads, work.len(), disk);
     let start = log.start as usize;
     let stop = log.stop as usize;
     let extent = extent_of(sizes, disk, log.tail, log.end);

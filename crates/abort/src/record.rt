@@ -28,20 +28,20 @@ pub struct Progress {
 }
 
 // The logs of a state after an append on a disk.
-fn advanced(state: Logs, disk: u64, added: Logged) -> Progress
+fn advanced(heads: Logs, disk: u64, added: Logged) -> Progress
     requires { ⌜ disk < 8 ⌝ }
-    ensures { λ r. ⌜ (r .finished ≡ added .finished) × (r .logs ≡ withDisk state disk (added .tail) (added .fill)) ⌝ }
+    ensures { λ r. ⌜ (r .finished ≡ added .finished) × (r .logs ≡ withDisk heads disk (added .tail) (added .fill)) ⌝ }
 {
     Progress {
         finished: added.finished,
-        logs: with_disk(state, disk, added.tail, added.fill),
+        logs: with_disk(heads, disk, added.tail, added.fill),
     }
 }
 
 // Appends the compensation of an update, with the page's present copy number.
 pub fn log_compensation(
     sizes: Sizes,
-    state: Logs,
+    heads: Logs,
     disk: u64,
     number: u64,
     page: u64,
@@ -51,13 +51,13 @@ pub fn log_compensation(
     work: &mut [u64],
     budget: &mut u64,
 ) -> Progress
-    requires { ⌜ Serving sizes state disk (now logs) (now work) ⌝ }
+    requires { ⌜ Serving sizes heads disk (now logs) (now work) ⌝ }
     requires { ⌜ InSlot sizes page slot (length (now difference)) ⌝ }
     ensures { λ r. ⌜ ((anchor pages backups : List ℕ) → Did (now (budget .entry)) (now (budget .exit))
-        (append sizes state (now (work .entry)) disk (encode (change compensationKind page slot number (copyOf sizes (now (work .entry)) page) (now (difference .entry)))))
+        (append sizes heads (now (work .entry)) disk (encode (change compensationKind page slot number (copyOf sizes (now (work .entry)) page) (now (difference .entry)))))
         (worldOf anchor pages backups (now (logs .entry)) (now (work .entry))) (worldOf anchor pages backups (now (logs .exit)) (now (work .exit))) r) ⌝ }
 {
-    let home = home_of(sizes, state, work.len(), disk);
+    let home = home_of(sizes, heads, work.len(), disk);
     let head = Head {
         kind: COMPENSATION,
         page,
@@ -66,25 +66,25 @@ pub fn log_compensation(
         copy: page_copy(sizes, work, page),
     };
     let added = append_change(logs, work, home, head, difference, budget);
-    advanced(state, disk, added)
+    advanced(heads, disk, added)
 }
 
 // Appends the closing record of an abort.
 pub fn log_close(
     sizes: Sizes,
-    state: Logs,
+    heads: Logs,
     disk: u64,
     number: u64,
     logs: &mut [u64],
     work: &mut [u64],
     budget: &mut u64,
 ) -> Progress
-    requires { ⌜ Serving sizes state disk (now logs) (now work) ⌝ }
+    requires { ⌜ Serving sizes heads disk (now logs) (now work) ⌝ }
     ensures { λ r. ⌜ ((anchor pages backups : List ℕ) → Did (now (budget .entry)) (now (budget .exit))
-        (append sizes state (now (work .entry)) disk (encode (close abortKind number)))
+        (append sizes heads (now (work .entry)) disk (encode (close abortKind number)))
         (worldOf anchor pages backups (now (logs .entry)) (now (work .entry))) (worldOf anchor pages backups (now (logs .exit)) (now (work .exit))) r) ⌝ }
 {
-    let home = home_of(sizes, state, work.len(), disk);
+    let home = home_of(sizes, heads, work.len(), disk);
     let added = append_close(logs, work, home, ABORT, number, budget);
-    advanced(state, disk, added)
+    advanced(heads, disk, added)
 }

@@ -23,7 +23,7 @@ ghost use Rattle.abort.specs.Groups.{lastFirst, Takeable};
 // Takes back the update at a site: its compensation is appended, and the slot changed back.
 fn undo_one(
     sizes: Sizes,
-    state: Logs,
+    heads: Logs,
     disk: u64,
     number: u64,
     site: Site,
@@ -32,18 +32,18 @@ fn undo_one(
     work: &mut [u64],
     budget: &mut u64,
 ) -> Progress
-    requires { ⌜ Compensable sizes state disk site (now pages) (now logs) (now work) ⌝ }
+    requires { ⌜ Compensable sizes heads disk site (now pages) (now logs) (now work) ⌝ }
     ensures { λ r. ⌜ ((anchor backups : List ℕ) → Did (now (budget .entry)) (now (budget .exit))
-        (compensate sizes state (worldOf anchor (now (pages .entry)) backups (now (logs .entry)) (now (work .entry))) number disk
-        (updateAt sizes state disk (now (logs .entry)) (now (work .entry)) site))
+        (compensate sizes heads (worldOf anchor (now (pages .entry)) backups (now (logs .entry)) (now (work .entry))) number disk
+        (updateAt sizes heads disk (now (logs .entry)) (now (work .entry)) site))
         (worldOf anchor (now (pages .entry)) backups (now (logs .entry)) (now (work .entry)))
         (worldOf anchor (now (pages .exit)) backups (now (logs .exit)) (now (work .exit))) r) ⌝ }
 {
-    let words = difference_at(sizes, state, disk, site.position, site.width, logs, work);
+    let words = difference_at(sizes, heads, disk, site.position, site.width, logs, work);
     let n = site.width as usize;
     let one = log_compensation(
         sizes,
-        state,
+        heads,
         disk,
         number,
         site.page,
@@ -64,7 +64,7 @@ fn undo_one(
 // Takes back the updates of a group, the last first, as far as the budget goes.
 fn undo_group(
     sizes: Sizes,
-    state: Logs,
+    heads: Logs,
     disk: u64,
     number: u64,
     group: Group,
@@ -73,15 +73,15 @@ fn undo_group(
     work: &mut [u64],
     budget: &mut u64,
 ) -> Progress
-    requires { ⌜ (group .count ≤ 128) × Takeable sizes state disk (take (group .count) (group .at)) (now pages) (now logs) (now work) ⌝ }
+    requires { ⌜ (group .count ≤ 128) × Takeable sizes heads disk (take (group .count) (group .at)) (now pages) (now logs) (now work) ⌝ }
     ensures { λ r. ⌜ ((anchor backups : List ℕ) → Did (now (budget .entry)) (now (budget .exit))
-        (undoAll sizes state (worldOf anchor (now (pages .entry)) backups (now (logs .entry)) (now (work .entry))) number disk
-        (lastFirst (updateRead (reader sizes state disk (now (logs .entry)) (now (work .entry)))) (take (group .count) (group .at))))
+        (undoAll sizes heads (worldOf anchor (now (pages .entry)) backups (now (logs .entry)) (now (work .entry))) number disk
+        (lastFirst (updateRead (reader sizes heads disk (now (logs .entry)) (now (work .entry)))) (take (group .count) (group .at))))
         (worldOf anchor (now (pages .entry)) backups (now (logs .entry)) (now (work .entry)))
         (worldOf anchor (now (pages .exit)) backups (now (logs .exit)) (now (work .exit))) r) ⌝ }
 {
     let at = group.at;
-    let mut after = state;
+    let mut after = heads;
     let mut n = group.count;
     while 0 < n {
         n -= 1;
@@ -102,7 +102,7 @@ fn undo_group(
 // to first, each read once from where it begins.
 pub fn undo_all(
     sizes: Sizes,
-    state: Logs,
+    heads: Logs,
     disk: u64,
     number: u64,
     from: u64,
@@ -111,18 +111,18 @@ pub fn undo_all(
     work: &mut [u64],
     budget: &mut u64,
 ) -> Progress
-    requires { ⌜ Undoable sizes state disk number from (now pages) (now logs) (now work) ⌝ }
+    requires { ⌜ Undoable sizes heads disk number from (now pages) (now logs) (now work) ⌝ }
     ensures { λ r. ⌜ ((anchor backups : List ℕ) → Did (now (budget .entry)) (now (budget .exit))
-        (undoAll sizes state (worldOf anchor (now (pages .entry)) backups (now (logs .entry)) (now (work .entry))) number disk
-        (updatesIn number (logFrom sizes state disk (now (logs .entry)) (now (work .entry)) from)))
+        (undoAll sizes heads (worldOf anchor (now (pages .entry)) backups (now (logs .entry)) (now (work .entry))) number disk
+        (updatesIn number (logFrom sizes heads disk (now (logs .entry)) (now (work .entry)) from)))
         (worldOf anchor (now (pages .entry)) backups (now (logs .entry)) (now (work .entry)))
         (worldOf anchor (now (pages .exit)) backups (now (logs .exit)) (now (work .exit))) r) ⌝ }
 {
     let d = disk as usize;
-    let end = state.tails[d] + state.fills[d];
-    let notes = notes_from(sizes, state, disk, number, from, end, logs, work);
+    let end = heads.tails[d] + heads.fills[d];
+    let notes = notes_from(sizes, heads, disk, number, from, end, logs, work);
     let at = notes.at;
-    let mut after = state;
+    let mut after = heads;
     let mut k = notes.count;
     while 0 < k {
         k -= 1;

@@ -1,34 +1,33 @@
 // Where a disk's log ends, and where its buffered words lie in the work memory.
-use layout::memory::buffer_at;
+use frame::home::home_of;
 use model::Logs;
 use model::Sizes;
 ghost use mathlib.Core.Path.{_≡_};
 ghost use Prim.Native.Nat.{_≤_, _<_};
+ghost use Rattle.model.specs.Memory.{workWords};
 ghost use Rattle.model.specs.State.{limit, endOf};
 ghost use Rattle.abort.specs.Undo.{windowOf};
 
 // `end` is the tail plus the buffered words; these are the words of the work memory from `start` up to `stop`.
 pub struct Window {
     pub tail: u64,
-    pub fill: u64,
     pub end: u64,
     pub start: u64,
     pub stop: u64,
 }
 
-pub fn window_of(sizes: Sizes, state: Logs, disk: u64) -> Window
-    requires { ⌜ (sizes .pages ≤ 64) × (disk < 8) × (endOf state disk ≤ limit) ⌝ }
-    ensures { λ r. ⌜ r ≡ windowOf sizes state disk ⌝ }
+// `work` is the work memory's length: by it the place of the buffer is known, and the pages need not be summed up.
+pub fn window_of(sizes: Sizes, heads: Logs, work: usize, disk: u64) -> Window
+    requires { ⌜ (disk < sizes .disks) × (sizes .disks ≤ 8) × (sizes .ring ≤ 65536) × (work ≡ workWords sizes) × (work ≤ 10000) × (endOf heads disk ≤ limit) ⌝ }
+    ensures { λ r. ⌜ r ≡ windowOf sizes heads disk ⌝ }
 {
-    let d = disk as usize;
-    let tail = state.tails[d];
-    let fill = state.fills[d];
-    let start = buffer_at(sizes, disk);
+    let home = home_of(sizes, heads, work, disk);
+    let end = home.tail + home.fill;
+    let stop = home.buffer + home.fill;
     Window {
-        tail,
-        fill,
-        end: tail + fill,
-        start,
-        stop: start + fill,
+        tail: home.tail,
+        end,
+        start: home.buffer,
+        stop,
     }
 }
