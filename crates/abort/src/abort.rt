@@ -4,11 +4,11 @@ use crate::record::Progress;
 use crate::record::log_close;
 use crate::scope::scope_of;
 use crate::undo::undo_all;
-use frame::checks::first_refusal;
+use frame::checks::common_refusal;
 use frame::settle::refuse;
 use frame::settle::refuse_at;
 use frame::settle::settle;
-use frame::stages::is_serving;
+use frame::stages::When;
 use model::Core;
 use model::Fault;
 use model::Reply;
@@ -80,9 +80,7 @@ pub fn abort(
     ensures { λ r. ⌜ Gives (abort number (old budget)) core (oldWorld anchor pages backups logs work)
         r (new budget) (worldOf (old anchor) (new pages) (old backups) (new logs) (new work)) ⌝ }
 {
-    let stage = core.stage;
-    let allowed = is_serving(stage);
-    let refusal = first_refusal(allowed, core, anchor, pages, backups, logs, work);
+    let refusal = common_refusal(When::Serving, core, anchor, pages, backups, logs, work);
     if refusal != 0 {
         return refuse(core, refusal);
     }

@@ -44,7 +44,7 @@ fn has_update_room(core: Core, number: u64, page: u64) -> bool
     has_room(core.sizes.ring, core.logs, table, 2 * (3 + width), disk)
 }
 
-// The number of the first row after those of `first_refusal` that refuses an update, 0 where none does.
+// The number of the first row after those of `common_refusal` that refuses an update, 0 where none does.
 fn slot_refusal(core: Core, number: u64, page: u64, slot: u64, value: &[u64], work: &[u64]) -> u64
     requires { ⌜ (servingSound core ≡ true) × (length (now work) ≡ workWords (core .sizes)) ⌝ }
     ensures { λ r. ⌜ ((w : World) → w .work ≡ now (work .entry) → verdict (slotRows core w number page slot (now (value .entry))) ≡ verdictOf r) ⌝ }

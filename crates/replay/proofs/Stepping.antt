@@ -5,7 +5,6 @@ use mathlib.Core.Logic.{_⊎_, inl, inr}
 use mathlib.Core.List.{List, []}
 use Prim.Native.Nat.{ℕ, _+_, _≤_, _<_}
 use native.Mathlib.Omega.{arith}
-use lib.ListN.{length}
 use borrow.Author.Tests.{lt-ltb, le-ltb, eq-eqb, ne-eqb}
 use Rattle.model.specs.declared.Core.{Core}
 use Rattle.model.specs.declared.Decoded.{Decoded}
@@ -29,9 +28,10 @@ use Rattle.model.specs.Call.{Gives, resultOf, restartStep}
 use Rattle.model.proofs.Storeless.{storeless-finishes}
 use Rattle.model.proofs.Restart.Words.{withPages, perform-xor}
 use Rattle.model.proofs.Restart.Steps.{remaining-log, remaining-backup}
-use Rattle.frame.specs.Checks.{firstRefusal}
+use Rattle.frame.specs.Checks.{CommonRefusal}
 use Rattle.frame.specs.Settle.{refusedWith}
-use Rattle.frame.proofs.Verdicts.{first-refused, first-accepted, refusal-given}
+use Rattle.frame.proofs.Verdicts.{refusal-given}
+use Rattle.frame.proofs.Given.{common-decided}
 use Rattle.replay.specs.Step.{finished, stepRest, StepsOn}
 use Rattle.replay.proofs.Storeless.{nothing-spent}
 
@@ -145,14 +145,8 @@ module _ (c : Core) (w : World) where
       (rw (le-ltb (c .sizes .disks) (c .sizes .disks) (omega arith)))
       (rw did (perform-xor at diff w))
 
--- The rows before these.
-module _ (c : Core) (w : World) (source : ℕ) {a : Bool} {n : ℕ} (stage : a ≡ whenReplaying (c .stage))
-    (first : n ≡ firstRefusal a c (length (w .anchor)) (length (w .pages)) (length (w .backups)) (length (w .logs)) (length (w .work)))
-  where
-    pub step-refused : (n ≡ 0 → ⊥) → Gives (restartStep source) c w (refusedWith c n 0 0) 0 w
-    unfolding restartStepRows
-    step-refused ne = refusal-given (restartStep source) c w n 0 0 (first-refused whenReplaying c w stage first ne _)
-
-    pub step-given : n ≡ 0 → (r : Reply) (v : World) → StepsOn c w source r v → Gives (restartStep source) c w r 0 v
-    unfolding restartStepRows Gives resultOf StepsOn stepRest
-    step-given z r v did = rw (first-accepted whenReplaying c w stage first z (stepRest c w source)) did
+-- What a step gives after the common checks.
+pub step-given : {c : Core} {w : World} {n : ℕ} → CommonRefusal whenReplaying c w n → n ≡ 0 → (source : ℕ) (r : Reply) (v : World)
+    → StepsOn c w source r v → Gives (restartStep source) c w r 0 v
+unfolding restartStepRows Gives resultOf StepsOn stepRest
+step-given {c} {w} checks none source r v did = rw (common-decided checks none (stepRest c w source)) did

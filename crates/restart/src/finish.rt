@@ -1,9 +1,9 @@
 // Restart end: the replayed pages become checkpoint c + 1, and the state opens.
 use crate::remain::is_done;
-use frame::checks::first_refusal;
+use frame::checks::common_refusal;
 use frame::settle::refuse;
 use frame::settle::settle;
-use frame::stages::is_replaying;
+use frame::stages::When;
 use frame::states::open_core;
 use layout::memory::fresh_work;
 use model::Core;
@@ -60,9 +60,7 @@ pub fn end(
     ensures { λ r. ⌜ Gives (restartEnd (old budget)) core (oldWorld anchor pages backups logs work)
         r (new budget) (worldOf (new anchor) (old pages) (new backups) (old logs) (new work)) ⌝ }
 {
-    let stage = core.stage;
-    let allowed = is_replaying(stage);
-    let refusal = first_refusal(allowed, core, anchor, pages, backups, logs, work);
+    let refusal = common_refusal(When::Replaying, core, anchor, pages, backups, logs, work);
     if refusal != 0 {
         return refuse(core, refusal);
     }

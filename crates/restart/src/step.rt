@@ -1,8 +1,8 @@
 // Restart step: the next record of a log, or the next page of the backup.
-use frame::checks::first_refusal;
+use frame::checks::common_refusal;
 use frame::settle::refuse;
 use frame::settle::refuse_at;
-use frame::stages::is_replaying;
+use frame::stages::When;
 use layout::places::slot_base;
 use log::read::decode_at;
 use log::read::extent_of;
@@ -110,9 +110,7 @@ pub fn step(
     ensures { λ r. ⌜ Gives (restartStep source) core (oldWorld anchor pages backups logs work)
         r 0 (worldOf (old anchor) (new pages) (old backups) (old logs) (old work)) ⌝ }
 {
-    let stage = core.stage;
-    let allowed = is_replaying(stage);
-    let refusal = first_refusal(allowed, core, anchor, pages, backups, logs, work);
+    let refusal = common_refusal(When::Replaying, core, anchor, pages, backups, logs, work);
     if refusal != 0 {
         return refuse(core, refusal);
     }

@@ -12,13 +12,11 @@ use Rattle.model.specs.declared.Reply.{Reply}
 use Rattle.model.specs.declared.Fault.the-variants.{NoFault}
 use Rattle.model.specs.World.{World, Action, perform, finishes}
 use Rattle.model.specs.Refusal.{Verdict, accepted, rejected, verdict, Task, Result, conclude}
-use Rattle.model.specs.Causes.{whenReplaying, stageForbids, anchorWrong, lengthsWrong, sourceMissing}
+use Rattle.model.specs.Causes.{stageForbids, anchorWrong, lengthsWrong, sourceMissing}
 use Rattle.model.specs.Restart.{remaining, stepFault, restartStepRows, restartStepTask, stepThen, restartRunTask}
 use Rattle.model.specs.Call.{restartStep, restartRun, resultOf, Gives}
 use Rattle.model.proofs.Run.{perform-append, finished-run}
 use Rattle.model.proofs.Storeless.{nothing-stored, storeless-finishes}
-use Rattle.frame.specs.Checks.{firstRefusal}
-use Rattle.frame.proofs.Verdicts.{first-refused}
 use Rattle.frame.specs.Settle.{refusedWith}
 use Rattle.replay.specs.Step.{finished, stepRest, StepsOn}
 use Rattle.run.specs.Run.{RunsOn, ranTo, Passes, RanOn, Onward}
@@ -142,9 +140,3 @@ step-accepted source c w e h left =
 pub call-given : (source most : ℕ) (c : Core) (w : World) (r : Reply) (v : World) → Passes c w → RunsOn c w source most r v → Gives (restartRun source most) c w r 0 v
 unfolding Gives resultOf RunsOn
 call-given source most c w r v pass did = rw (rest-decides pass source) did
-
-pub call-refused : (source most : ℕ) (c : Core) (w : World) {a : Bool} {n : ℕ} → a ≡ whenReplaying (c .stage)
-    → n ≡ firstRefusal a c (length (w .anchor)) (length (w .pages)) (length (w .backups)) (length (w .logs)) (length (w .work))
-    → (n ≡ 0 → ⊥) → Gives (restartRun source most) c w (refusedWith c n 0 0) 0 w
-unfolding Gives resultOf restartStepRows
-call-refused source most c w stage first ne = rw (first-refused whenReplaying c w stage first ne _)

@@ -2,10 +2,10 @@
 use crate::fates::forget;
 use crate::fates::recall;
 use crate::fault::record_fault;
-use frame::checks::first_refusal;
+use frame::checks::common_refusal;
 use frame::settle::refuse;
 use frame::settle::refuse_at;
-use frame::stages::is_replaying;
+use frame::stages::When;
 use layout::disks::disk_at;
 use log::ring::advance;
 use log::ring::decode_ring;
@@ -216,9 +216,7 @@ pub fn run(
     ensures { λ r. ⌜ Gives (restartRun source most) core (oldWorld anchor pages backups logs work)
         r 0 (worldOf (old anchor) (new pages) (old backups) (old logs) (old work)) ⌝ }
 {
-    let stage = core.stage;
-    let allowed = is_replaying(stage);
-    let refusal = first_refusal(allowed, core, anchor, pages, backups, logs, work);
+    let refusal = common_refusal(When::Replaying, core, anchor, pages, backups, logs, work);
     if refusal != 0 {
         return refuse(core, refusal);
     }
