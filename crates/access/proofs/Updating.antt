@@ -176,11 +176,11 @@ module _ {c : Core} {w : World} {r : ℕ} (checks : CommonRefusal whenServing c 
       → h ≡ homeOf (c .sizes) (c .logs) (diskOf c number)
       → head ≡ record { kind = updateKind; page = page; slot = slot; number = number; copy = copyOf (c .sizes) (w .work) page }
       → at ≡ slotBase (c .sizes) page slot → Replaced budget rest (c .sizes) (c .logs) (h .disk) head at value w v added
-      → {core : Core} → core ≡ withLog c (withDisk (c .logs) (diskOf c number) (added .tail) (added .fill)) (updated c number (3 + length value))
+      → {core : Core} → (added .finished ≡ true → core ≡ withLog c (withDisk (c .logs) (diskOf c number) (added .tail) (added .fill)) (updated c number (3 + length value)))
       → {reply : Reply} → reply ≡ settled (added .finished) budget rest 0 core → Gives (update number page slot value budget) c w reply rest v
   unfolding updateRows updateTask
   update-given zero {budget = budget} {v = v} home head at replaced same e =
       let ok = update-changes zero in
       let did = change-task c w v number page slot value (ok .width) (changes-pages ok) home head at replaced in
       given-settled checks (update number page slot value budget) refl none (taken-number slots zero) (did .ran)
-      (λ finished. same ∙ sym (did .state finished)) e
+      (λ finished. same finished ∙ sym (did .state finished)) e

@@ -96,6 +96,9 @@ pub fn update(
     let head = head_of(core, number, page, slot, work);
     let at = slot_base(core.sizes, page, slot) as usize;
     let added = log_and_set(home, head, at, value, pages, logs, work, budget);
+    if !added.finished {
+        return settle(false, before, *budget, 0, core);
+    }
     let next = changed_core(core, number, home, added, value.len());
-    settle(added.finished, before, *budget, 0, next)
+    settle(true, before, *budget, 0, next)
 }

@@ -102,7 +102,7 @@ module _ {c : Core} {w : World} {r : ℕ} (checks : CommonRefusal whenServing c 
   pub commit-given : isOpen (c .table) number ≡ true → SizedLogs (c .logs) → {h : Home} → h ≡ homeOf (c .sizes) (c .logs) (diskOf c number)
       → {rest : ℕ} {v : World} {whole : Bool}
       → (h .disk < length (c .logs .tails) → h .disk < length (c .logs .fills) → Ran budget rest (closing (c .sizes) (c .logs) w (h .disk) number) w v whole)
-      → {core : Core} → core ≡ withLog c (withDisk (c .logs) (h .disk) (h .tail + h .fill + 2) 0) (without (c .table) number)
+      → {core : Core} → (whole ≡ true → core ≡ withLog c (withDisk (c .logs) (h .disk) (h .tail + h .fill + 2) 0) (without (c .table) number))
       → reply ≡ settled whole budget rest 0 core → Gives (commit number budget) c w reply rest v
   unfolding commitRows verdict notOpen commitTask closing homeOf
   commit-given opened sized e ran same reply =
@@ -111,4 +111,4 @@ module _ {c : Core} {w : World} {r : ℕ} (checks : CommonRefusal whenServing c 
       let there = disk-there (c .sizes) (c .logs) (diskOf c number) e in
       given-settled checks (commit number budget) refl none (rw opened refl)
       (rw e at (ran (omega (arith, there, eight, sized .tails)) (omega (arith, there, eight, sized .fills))))
-      (λ _. same ∙ rw e (committed-logs c w number sized eight)) reply
+      (λ f. same f ∙ rw e (committed-logs c w number sized eight)) reply

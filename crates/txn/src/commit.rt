@@ -91,6 +91,9 @@ pub fn commit(
     }
     let before = *budget;
     let home = home_of_transaction(core, work.len(), number);
-    let whole = store_close(home, number, logs, work, budget);
-    settle(whole, before, *budget, 0, closed_core(core, number, home))
+    if !store_close(home, number, logs, work, budget) {
+        return settle(false, before, *budget, 0, core);
+    }
+    let next = closed_core(core, number, home);
+    settle(true, before, *budget, 0, next)
 }

@@ -1,10 +1,12 @@
 -- `txn::commit::commit` meets its contract: each refusal is the first row that applies, and then the task. Assumes nothing.
-use mathlib.Core.Path.{refl, sym, _∙_}
+use mathlib.Core.Path.{_≡_, refl, sym, _∙_}
+use mathlib.Core.Bool.{true, false}
 use native.Mathlib.Omega.{arith}
 use borrow.Author.Tests.{not-true, not-false}
 use Rattle.model.specs.State.{endOf}
 use Rattle.model.specs.Transaction.{diskOf, commitRows}
 use Rattle.model.specs.Call.{commit}
+use Rattle.model.proofs.Booleans.{true-false}
 use Rattle.model.proofs.Store.Accepted.{disks-max, open-entry, open-below, own-room}
 use Rattle.frame.specs.Home.{homeOf}
 use Rattle.frame.proofs.Given.{given-first}
@@ -37,24 +39,35 @@ store-close-requires c κs =
       rw home (own-room (x .core) (x .number) (serves .state) opened 2 (open-entry (x .core) (x .number) (serves .state) opened .sound .reserved) .1),
     )
 
-closed-core-requires : tie.Need-closed-core-requires
-closed-core-requires c κs =
-    let x = c .before .before .before .before .before .before .before .before .before .before .before .before .before .before .before .before .before .before .before .before .before .args in
-    let serves = serves-common (c .before .before .before .before .before .before .before .before .before .before .before .before .before .common-refusal .ensures) (c .before .before .before .before .before .before .before .before .before .before .before .before .if1 .left) in
-    let below = open-below (x .core) (x .number) (serves .state) (sym (c .before .before .before .before .before .before .before .before .before .before .before .is-open .ensures) ∙ not-false _ (c .before .before .before .before .before .before .before .before .before .before .if2 .left)) in
-    let home = c .before .before .before .before .before .before .before .before .home-of-transaction .ensures .0 in (
-      omega (arith, disk-there (x .core .sizes) (x .core .logs) (diskOf (x .core) (x .number)) home, below, disks-max (x .core) (serves .state)),
-      omega (arith, within-there (x .core) (diskOf (x .core) (x .number)) home (x .logs .now) (x .work .now) serves below .end-small),
-    )
-
 returns-3 : tie.Need-returns-3
 returns-3 c =
     let x = c .before .before .before .before .before .before .before .before .before .before .before .before .before .before .before .before .before .before .before .before .before .before .before .args in
     let home = c .before .before .before .before .before .before .before .before .before .before .home-of-transaction .ensures in
+    let cut : c .before .before .before .before .before .before .store-close .result ≡ false = not-true _ (c .before .if3 .taken) in
     commit-given (c .before .before .before .before .before .before .before .before .before .before .before .before .before .before .before .common-refusal .ensures) (c .before .before .before .before .before .before .before .before .before .before .before .before .before .before .if1 .left) (x .number) (x .budget .now)
     (sym (c .before .before .before .before .before .before .before .before .before .before .before .before .before .is-open .ensures) ∙ not-false _ (c .before .before .before .before .before .before .before .before .before .before .before .before .if2 .left)) (record { starts = home .1 .0; tails = home .1 .1; fills = home .1 .2 }) (home .0)
     (c .before .before .before .before .before .before .store-close .ensures (x .core .sizes) (x .core .logs) _ (lent-there (x .core .sizes) (x .core .logs) _ (home .0) _ refl refl))
-    (c .before .closed-core .ensures) (c .settle .ensures)
+    {core = x .core} (λ f. true-false f cut) (rw cut (c .settle .ensures))
+
+closed-core-requires : tie.Need-closed-core-requires
+closed-core-requires c κs =
+    let x = c .before .before .before .before .before .before .before .before .before .before .before .before .before .before .before .before .before .before .before .before .before .before .args in
+    let serves = serves-common (c .before .before .before .before .before .before .before .before .before .before .before .before .before .before .common-refusal .ensures) (c .before .before .before .before .before .before .before .before .before .before .before .before .before .if1 .left) in
+    let below = open-below (x .core) (x .number) (serves .state) (sym (c .before .before .before .before .before .before .before .before .before .before .before .before .is-open .ensures) ∙ not-false _ (c .before .before .before .before .before .before .before .before .before .before .before .if2 .left)) in
+    let home = c .before .before .before .before .before .before .before .before .before .home-of-transaction .ensures .0 in (
+      omega (arith, disk-there (x .core .sizes) (x .core .logs) (diskOf (x .core) (x .number)) home, below, disks-max (x .core) (serves .state)),
+      omega (arith, within-there (x .core) (diskOf (x .core) (x .number)) home (x .logs .now) (x .work .now) serves below .end-small),
+    )
+
+returns-4 : tie.Need-returns-4
+returns-4 c =
+    let x = c .before .before .before .before .before .before .before .before .before .before .before .before .before .before .before .before .before .before .before .before .before .before .before .before .args in
+    let home = c .before .before .before .before .before .before .before .before .before .before .before .home-of-transaction .ensures in
+    let whole : c .before .before .before .before .before .before .before .store-close .result ≡ true = not-false _ (c .before .before .if3 .left) in
+    commit-given (c .before .before .before .before .before .before .before .before .before .before .before .before .before .before .before .before .common-refusal .ensures) (c .before .before .before .before .before .before .before .before .before .before .before .before .before .before .before .if1 .left) (x .number) (x .budget .now)
+    (sym (c .before .before .before .before .before .before .before .before .before .before .before .before .before .before .is-open .ensures) ∙ not-false _ (c .before .before .before .before .before .before .before .before .before .before .before .before .before .if2 .left)) (record { starts = home .1 .0; tails = home .1 .1; fills = home .1 .2 }) (home .0)
+    (c .before .before .before .before .before .before .before .store-close .ensures (x .core .sizes) (x .core .logs) _ (lent-there (x .core .sizes) (x .core .logs) _ (home .0) _ refl refl))
+    (λ _. c .before .closed-core .ensures) (rw whole (c .settle2 .ensures))
 
 pub commit-spec : {M : Type 1} → statement M
 commit-spec =
@@ -72,8 +85,12 @@ commit-spec =
     returns-2
     home-of-transaction-requires
     store-close-requires
+    (λ c κs. search needs)
+    (λ c. search needs)
+    (λ c. search needs)
+    returns-3
     closed-core-requires
     (λ c κs. search needs)
     (λ c. search needs)
     (λ c. search needs)
-    returns-3)
+    returns-4)
