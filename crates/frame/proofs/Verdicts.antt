@@ -65,30 +65,6 @@ module _ (allowed : Stage → Bool) (c : Core) (w : World) {a : Bool} {r : ℕ} 
         rw (first, stage)
         (first-tests (allowed (c .stage) && sound c) (eqb (length (w .anchor)) anchorWords) (fourRight (c .sizes) w) rest)
 
-    -- one of them applies
-    pub first-refused : (r ≡ 0 → ⊥) → (rest : List Row)
-        → verdict (row 1 (stageForbids allowed c) ∷ row 2 (anchorWrong (w .anchor)) ∷ row 5 (lengthsWrong (c .sizes) w) ∷ rest) ≡ rejected r 0 0
-    first-refused some rest = first-verdict rest ∙ rw (ne-eqb r 0 some) refl
-
-    -- none does: the other rows decide
-    pub first-accepted : r ≡ 0 → (rest : List Row)
-        → verdict (row 1 (stageForbids allowed c) ∷ row 2 (anchorWrong (w .anchor)) ∷ row 5 (lengthsWrong (c .sizes) w) ∷ rest) ≡ verdict rest
-    first-accepted none rest = first-verdict rest ∙ rw (eq-eqb r 0 none) refl
-
-    pub first-passed : r ≡ 0 → Passed allowed c w
-    unfolding firstRefusal lengthRefusal lengthsRight
-    first-passed none =
-        go (allowed (c .stage)) (sound c) (eqb (length (w .anchor)) anchorWords) (fourRight (c .sizes) w) refl refl refl refl
-        (rw stage at (sym first ∙ none))
-      where
-        go : (p s b d : Bool) → allowed (c .stage) ≡ p → sound c ≡ s → eqb (length (w .anchor)) anchorWords ≡ b → fourRight (c .sizes) w ≡ d
-            → _≡_ {A = ℕ} (cond (p && s) (cond b (cond d 0 5) 2) 1) 0 → Passed allowed c w
-        go false s b d e f g h z = absurd (omega (arith, z))
-        go true false b d e f g h z = absurd (omega (arith, z))
-        go true true false d e f g h z = absurd (omega (arith, z))
-        go true true true false e f g h z = absurd (omega (arith, z))
-        go true true true true e f g h z = record { stage = e; state = f; anchor = eqb-true _ _ g; lengths = h }
-
 -- A refusal gives what its row says.
 pub refusal-given : (k : Call) (c : Core) (w : World) (number first second : ℕ)
     → verdict (rowsOf k c w) ≡ rejected number first second → Gives k c w (refusedWith c number first second) (budgetOf k) w

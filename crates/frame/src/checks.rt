@@ -105,7 +105,7 @@ fn refusal_of_lengths(
 }
 
 // The number of the first of rows 1, 2 and 5 that applies, 0 where none does. A shut state is for no call that asks here.
-pub fn first_refusal(
+fn first_refusal(
     allowed: bool,
     core: Core,
     anchor: &[u64],

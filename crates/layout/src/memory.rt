@@ -11,14 +11,6 @@ ghost use Rattle.model.specs.Sizes.{sizesInBounds};
 ghost use Rattle.model.specs.Memory.{bufferAt, copyAt, workWords, copyOf};
 ghost use Rattle.model.specs.Format.{freshWork};
 
-// The first buffer word of a disk, by the sizes alone.
-pub fn buffer_at(sizes: Sizes, disk: u64) -> u64
-    requires { ⌜ (sizes .pages ≤ 64) × (disk ≤ 8) ⌝ }
-    ensures { λ r. ⌜ (r ≡ bufferAt sizes disk) × (r < 2 ^ 33) ⌝ }
-{
-    total(sizes) + 64 * disk
-}
-
 // The first buffer word of a disk in a work memory of this length.
 pub fn buffer_place(sizes: Sizes, work: usize, disk: u64) -> u64
     requires { ⌜ (disk < sizes .disks) × (sizes .disks ≤ 8) × (work ≡ workWords sizes) ⌝ }

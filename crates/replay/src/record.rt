@@ -1,5 +1,5 @@
 // A record of a log at restart: whether it is XORed in, and the state after it.
-use model::Answer;
+use frame::settle::finish;
 use model::Core;
 use model::Fate;
 use model::Replay;
@@ -33,14 +33,11 @@ pub fn move_on(core: Core, disk: u64, next: u64) -> Reply
         positions,
         page: replay.page,
     };
-    Reply {
-        answer: Answer::Finished {
-            stores: 0,
-            value: 0,
-        },
-        core: Core {
+    finish(
+        Core {
             replay: moved,
             ..core
         },
-    }
+        0,
+    )
 }

@@ -1,4 +1,5 @@
 // Restart begin: all checks of the devices, then zeroed pages and a replaying state.
+use frame::settle::finish;
 use frame::settle::refuse;
 use frame::settle::refuse_at;
 use frame::stages::is_shut;
@@ -6,7 +7,6 @@ use frame::states::replaying_core;
 use layout::anchor::EPOCH_WORD;
 use layout::bounds::lengths_right;
 use layout::places::total;
-use model::Answer;
 use model::Core;
 use model::Reply;
 use model::Sizes;
@@ -46,13 +46,7 @@ fn begin_on(core: Core, sizes: Sizes, anchor: &[u64], pages: &mut [u64], logs: &
     }
     let words = total(sizes) as usize;
     fill_words(pages, 0, words, 0);
-    Reply {
-        answer: Answer::Finished {
-            stores: 0,
-            value: 0,
-        },
-        core: replaying_core(sizes, epoch, starts, tails),
-    }
+    finish(replaying_core(sizes, epoch, starts, tails), 0)
 }
 
 // Rows 1 to 5 come first. A shut state needs no test of its own.

@@ -1,5 +1,6 @@
 // Restart step: the next record of a log, or the next page of the backup.
 use frame::checks::common_refusal;
+use frame::settle::finish;
 use frame::settle::refuse;
 use frame::settle::refuse_at;
 use frame::stages::When;
@@ -7,7 +8,6 @@ use layout::places::slot_base;
 use log::read::decode_at;
 use log::read::extent_of;
 use log::scan::fate_from;
-use model::Answer;
 use model::Core;
 use model::Decoded;
 use model::Fate;
@@ -86,16 +86,13 @@ fn backup_step(core: Core, pages: &mut [u64], backups: &[u64]) -> Reply
         positions,
         page: page + 1,
     };
-    Reply {
-        answer: Answer::Finished {
-            stores: 0,
-            value: 0,
-        },
-        core: Core {
+    finish(
+        Core {
             replay: moved,
             ..core
         },
-    }
+        0,
+    )
 }
 
 pub fn step(

@@ -17,9 +17,9 @@ use Rattle.model.specs.Restart.{remaining, stepFault, restartStepRows, restartS
 use Rattle.model.specs.Call.{restartStep, restartRun, resultOf, Gives}
 use Rattle.model.proofs.Run.{perform-append, finished-run}
 use Rattle.model.proofs.Storeless.{nothing-stored, storeless-finishes}
-use Rattle.frame.specs.Settle.{refusedWith}
+use Rattle.frame.specs.Settle.{refusedWith, finishedWith}
 use Rattle.replay.specs.Step.{finished, stepRest, StepsOn}
-use Rattle.run.specs.Run.{RunsOn, ranTo, Passes, RanOn, Onward}
+use Rattle.run.specs.Run.{RunsOn, Passes, RanOn, Onward}
 use Rattle.replay.proofs.Storeless.{nothing-spent}
 
 -- the first rows have passed: the others decide
@@ -110,7 +110,7 @@ module _ (source most : ℕ) (c : Core) (w : World) where
 
 -- What a run that is not refused gives.
 pub run-given : (source most : ℕ) (c : Core) (w : World) {made : ℕ} {k : Core} {v : World} → verdict (stepRest c w source) ≡ accepted
-    → RanOn source most c w made k v → RunsOn c w source most (ranTo made k) v
+    → RanOn source most c w made k v → RunsOn c w source most (finishedWith k made) v
 unfolding RunsOn finishes
 run-given source most c w {made} {k} {v} e ran =
     let none = nothing-stored (restartRun source most) c w refl in

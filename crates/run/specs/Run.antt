@@ -28,10 +28,6 @@ RunsOn c w source most r v =
     record { answer = r .answer; budget = 0; core = r .core; world = v }
     ≡ conclude (verdict (stepRest c w source)) 0 (restartRunTask most c w source) c w
 
--- a run done: the steps made, and the state after them
-abbrev pub ranTo : ℕ → Core → Reply
-ranTo made c = record { answer = Finished 0 made; core = c }
-
 -- The first rows have passed: a replaying state that a call made, and slices of the right lengths.
 pub record Passes (c : Core) (w : World) : Type 0 where
   pub replays : Replays c

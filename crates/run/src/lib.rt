@@ -1,5 +1,5 @@
 // Many restart steps of one source in one call.
-pub mod ahead;
-pub mod fates;
-pub mod fault;
+mod ahead;
+mod fates;
+mod fault;
 pub mod run;

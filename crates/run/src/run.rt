@@ -3,6 +3,7 @@ use crate::fates::forget;
 use crate::fates::recall;
 use crate::fault::record_fault;
 use frame::checks::common_refusal;
+use frame::settle::finish;
 use frame::settle::refuse;
 use frame::settle::refuse_at;
 use frame::stages::When;
@@ -10,7 +11,6 @@ use layout::disks::disk_at;
 use log::ring::advance;
 use log::ring::decode_ring;
 use log::ring::ring_words;
-use model::Answer;
 use model::Core;
 use model::Decoded;
 use model::Fate;
@@ -32,7 +32,7 @@ ghost use Rattle.model.specs.Moments.{old, new, oldWorld};
 ghost use Rattle.model.specs.Restart.{movedTo};
 ghost use Rattle.model.specs.Call.{Gives, restartRun};
 ghost use Rattle.replay.specs.Step.{Replays, OnLog};
-ghost use Rattle.run.specs.Run.{RunsOn, ranTo, Passes, RanOn};
+ghost use Rattle.run.specs.Run.{RunsOn, Passes, RanOn};
 
 // A log's next position.
 fn next_position(replay: Replay, disk: u64) -> u64
@@ -120,19 +120,6 @@ fn run_ring(core: Core, disk: u64, most: u64, pages: &mut [u64], logs: &[u64]) -
     Ran { position: p, made }
 }
 
-// A run done.
-fn ran_to(core: Core, made: u64) -> Reply
-    ensures { λ r. ⌜ r ≡ ranTo made core ⌝ }
-{
-    Reply {
-        answer: Answer::Finished {
-            stores: 0,
-            value: made,
-        },
-        core,
-    }
-}
-
 // Steps of a log. Its first record is checked before any is taken: the rows are those of a step, however few are asked for.
 fn run_log(core: Core, disk: u64, most: u64, pages: &mut [u64], logs: &[u64]) -> Reply
     requires { ⌜ OnLog core disk (now pages) (now logs) ⌝ }
@@ -159,7 +146,7 @@ fn run_log(core: Core, disk: u64, most: u64, pages: &mut [u64], logs: &[u64]) ->
         Fault::NoFault => {
             let ran = run_ring(core, disk, most, pages, logs);
             let moved = move_on(core, disk, ran.position);
-            ran_to(moved.core, ran.made)
+            finish(moved.core, ran.made)
         }
     }
 }
@@ -193,7 +180,7 @@ fn run_backup(core: Core, most: u64, pages: &mut [u64], backups: &[u64]) -> Repl
         positions,
         page: first + made,
     };
-    ran_to(
+    finish(
         Core {
             replay: moved,
             ..core

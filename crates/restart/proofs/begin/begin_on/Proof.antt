@@ -50,7 +50,7 @@ total-requires c κs = bounded _ (c .before .before .before .before .before .bef
 returns-3 : tie.Need-returns-3
 unfolding epochOn
 returns-3 c =
-    let at-fill-words = c .before .before .before in
+    let at-fill-words = c .before .before .before .before in
     let at-total = at-fill-words .before .before in
     let at-if2 = at-total .before in
     let at-if1 = at-if2 .before .before in
@@ -61,9 +61,9 @@ returns-3 c =
     λ backups work.
     let a = start .args in
     let pre = start .pre in
-    begin-taken (a .core) _ (a .sizes) (pre .0) (bounded _ (pre .1) .disks-max)
+    rw (c .finish .ensures) (begin-taken (a .core) _ (a .sizes) (pre .0) (bounded _ (pre .1) .disks-max)
     (at-starts .current-starts .ensures _ refl) _ (at-check .check-logs .ensures) (at-if1 .if1 .left) (at-tails .tails-on .ensures)
-    (omega (arith, at-if2 .if2 .left)) (rw (at-total .total .ensures .0) at (at-fill-words .fill-words .ensures)) (c .replaying-core .ensures)
+    (omega (arith, at-if2 .if2 .left)) (rw (at-total .total .ensures .0) at (at-fill-words .fill-words .ensures)) (c .before .replaying-core .ensures))
 
 pub begin-on-spec : {M : Type 1} → statement M
 begin-on-spec =
@@ -78,6 +78,7 @@ begin-on-spec =
     (λ c κs. search needs)
     returns-2
     total-requires
+    (λ c κs. search needs)
     (λ c κs. search needs)
     (λ c κs. search needs)
     (λ c. search needs)

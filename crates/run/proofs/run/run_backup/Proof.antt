@@ -98,7 +98,7 @@ returns-2 c =
     let all = c .before .before .before .before .before .before .before .lesser .ensures in
     let some = c .before .before .before .before .before .before .before .before .before .if1 .left in
     λ anchor logs work pass.
-    rw (c .ran-to .ensures)
+    rw (c .finish .ensures)
     (run-given _ _ _ _ (step-accepted (core .sizes .disks) core _ (no-fault core _) (omega arith) (omega (arith, remaining-backup core, some)))
     (pages-done core _ pass (omega (arith, all, some, inv .0)) (inv .1) (inv .2 anchor logs work pass) (omega (arith, all, inv .0, c .before .before .before .before .before .loop-test .left))))
 

@@ -92,7 +92,7 @@ returns-3 c =
     let found = rw (next .0) at (c .before .before .before .before .before .before .before .before .record-fault .ensures (core .sizes) (log-entries on)) in
     λ anchor backups work pass.
     let sound = fault-at core _ (c .before .before .before .before .before .before .before .before .before .before .before .before .before .before .before .before .before .before .before .before .before .args .disk) (on .disk-in) long _ (disk-ring on (c .before .before .before .before .before .before .before .before .before .before .before .before .disk-at .ensures .0) (c .before .before .before .before .before .before .before .before .before .before .before .ring-words .ensures)) some found ∙ c .before .before .before .before .before .before .enum-told .given .1 in
-    rw (c .ran-to .ensures, c .before .move-on .ensures)
+    rw (c .finish .ensures, c .before .move-on .ensures)
     (run-given _ _ _ _ (step-accepted (c .before .before .before .before .before .before .before .before .before .before .before .before .before .before .before .before .before .before .before .before .before .args .disk) core _ sound (omega (arith, on .disk-in)) (omega (arith, remaining-log core (c .before .before .before .before .before .before .before .before .before .before .before .before .before .before .before .before .before .before .before .before .before .args .disk) (on .disk-in), some)))
     (c .before .before .before .before .run-ring .ensures anchor backups work pass))
 
