@@ -1,6 +1,6 @@
 // The three commands of a checkpoint.
 use crate::outcome::Done;
-use crate::outcome::settled;
+use crate::outcome::done_of;
 use store::State;
 ghost use Rattle.model.specs.World.{worldOf};
 ghost use Rattle.model.specs.Moments.{old, new, oldWorld};
@@ -19,7 +19,7 @@ pub fn run_mark(
         r (oldWorld anchor pages backups logs work) ⌝ }
 {
     let called = store::checkpoints::checkpoint_begin(state, anchor, pages, backups, logs, work);
-    settled(called, 0)
+    done_of(called, 0)
 }
 
 pub fn run_copy(
@@ -43,7 +43,7 @@ pub fn run_copy(
         work,
         &mut budget,
     );
-    settled(called, 0)
+    done_of(called, 0)
 }
 
 pub fn run_close(
@@ -67,5 +67,5 @@ pub fn run_close(
         work,
         &mut budget,
     );
-    settled(called, 0)
+    done_of(called, 0)
 }

@@ -64,7 +64,7 @@ pub fn value_of(answer: Answer) -> u64
 }
 
 // A call's line, with a value.
-pub fn settled(called: Called, value: u64) -> Done
+pub fn done_of(called: Called, value: u64) -> Done
     ensures { λ r. ⌜ (r .outcome ≡ shownOf (called .answer) value) × (r .state .core ≡ called .state .core) ⌝ }
 {
     let answer = called.answer;

@@ -1,7 +1,7 @@
 // A restart: each source to its end, then the end of the restart. It stops at its first refusal.
 use crate::outcome::Done;
+use crate::outcome::done_of;
 use crate::outcome::is_finished;
-use crate::outcome::settled;
 use crate::outcome::value_of;
 use store::Called;
 use store::State;
@@ -70,7 +70,7 @@ pub fn run_restart(
     let replayed = replay_all(state, anchor, pages, backups, logs, work);
     let answer = replayed.answer;
     if !is_finished(answer) {
-        return settled(replayed, 0);
+        return done_of(replayed, 0);
     }
     let state = replayed.state;
     let mut budget = u64::MAX;
@@ -85,5 +85,5 @@ pub fn run_restart(
     );
     let answer = called.answer;
     let value = value_of(answer);
-    settled(called, value)
+    done_of(called, value)
 }

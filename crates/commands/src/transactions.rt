@@ -1,6 +1,6 @@
 // The commands of a transaction, and get.
 use crate::outcome::Done;
-use crate::outcome::settled;
+use crate::outcome::done_of;
 use crate::outcome::shown;
 use crate::outcome::value_of;
 use store::State;
@@ -25,7 +25,7 @@ pub fn run_begin(
     let called = store::transactions::begin(state, anchor, pages, backups, logs, work);
     let answer = called.answer;
     let value = value_of(answer);
-    settled(called, value)
+    done_of(called, value)
 }
 
 // A slot, and the number of the transaction that sees it; 0 has no transaction.
@@ -94,7 +94,7 @@ pub fn run_set(
         work,
         &mut budget,
     );
-    settled(called, before ^ value)
+    done_of(called, before ^ value)
 }
 
 pub fn run_commit(
@@ -121,7 +121,7 @@ pub fn run_commit(
         work,
         &mut budget,
     );
-    settled(called, 0)
+    done_of(called, 0)
 }
 
 pub fn run_abort(
@@ -147,7 +147,7 @@ pub fn run_abort(
         work,
         &mut budget,
     );
-    settled(called, 0)
+    done_of(called, 0)
 }
 
 pub fn run_get(

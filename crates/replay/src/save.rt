@@ -11,6 +11,7 @@ ghost use lib.ListN.{length};
 ghost use Rattle.model.specs.Sizes.{total, sizesInBounds};
 ghost use Rattle.model.specs.Anchor.{anchorWords};
 ghost use Rattle.model.specs.World.{worldOf};
+ghost use Rattle.model.specs.Moments.{old, new};
 ghost use Rattle.device.specs.Ran.{Ran};
 ghost use Rattle.replay.specs.Parts.{checkpointStores};
 
@@ -25,7 +26,8 @@ pub fn store_checkpoint(
     budget: &mut u64,
 ) -> bool
     requires { ⌜ (sizesInBounds sizes ≡ true) × (length (now anchor) ≡ anchorWords) × (length (now pages) ≡ total sizes) × (length (now backups) ≡ 2 * total sizes) ⌝ }
-    ensures { λ r. ⌜ ((logs work : List ℕ) → Ran (now (budget .entry)) (now (budget .exit)) (checkpointStores sizes epoch starts (now (pages .entry))) (worldOf (now (anchor .entry)) (now (pages .entry)) (now (backups .entry)) logs work) (worldOf (now (anchor .exit)) (now (pages .entry)) (now (backups .exit)) logs work) r) ⌝ }
+    ensures { λ r. ⌜ ((logs work : List ℕ) → Ran (old budget) (new budget) (checkpointStores sizes epoch starts (old pages))
+        (worldOf (old anchor) (old pages) (old backups) logs work) (worldOf (new anchor) (old pages) (new backups) logs work) r) ⌝ }
 {
     let at = backup_at(sizes, epoch) as usize;
     if !store_copy(backups, at, pages, 0, pages.len(), budget) {

@@ -33,7 +33,9 @@ fn open_replayed(
     budget: &mut u64,
 ) -> Reply
     requires { ⌜ Replays core × (length (now anchor) ≡ anchorWords) × (length (now pages) ≡ total (core .sizes)) × (length (now backups) ≡ 2 * total (core .sizes)) × (length (now work) ≡ workWords (core .sizes)) ⌝ }
-    ensures { λ r. ⌜ ((logs : List ℕ) → Concludes (now (budget .entry)) (now (budget .exit)) (restartEndTask core (worldOf (now (anchor .entry)) (now (pages .entry)) (now (backups .entry)) logs (now (work .entry)))) (worldOf (now (anchor .entry)) (now (pages .entry)) (now (backups .entry)) logs (now (work .entry))) (worldOf (now (anchor .exit)) (now (pages .entry)) (now (backups .exit)) logs (now (work .exit))) r) ⌝ }
+    ensures { λ r. ⌜ ((logs : List ℕ) → Concludes (old budget) (new budget)
+        (restartEndTask core (worldOf (old anchor) (old pages) (old backups) logs (old work)))
+        (worldOf (old anchor) (old pages) (old backups) logs (old work)) (worldOf (new anchor) (old pages) (new backups) logs (new work)) r) ⌝ }
 {
     let sizes = core.sizes;
     let logs = core.logs;

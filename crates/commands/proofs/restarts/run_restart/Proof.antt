@@ -13,8 +13,8 @@ replay-all-requires c κs = tt
 is-finished-requires : tie.Need-is-finished-requires
 is-finished-requires c κs = tt
 
-settled-requires : tie.Need-settled-requires
-settled-requires c κs = tt
+done-of-requires : tie.Need-done-of-requires
+done-of-requires c κs = tt
 
 same-length : tie.Need-same-length
 same-length c = refl
@@ -34,8 +34,8 @@ returns c =
     let test = c .before in
     restart-refused _ _ _ (test .before .before .before .before .replay-all .ensures)
     (sym (test .before .is-finished .ensures) ∙ not-true _ (test .if1 .taken))
-    (c .settled .ensures .0)
-    (c .settled .ensures .1)
+    (c .done-of .ensures .0)
+    (c .done-of .ensures .1)
 
 restart-end-requires : tie.Need-restart-end-requires
 restart-end-requires c κs = tt
@@ -43,8 +43,8 @@ restart-end-requires c κs = tt
 value-of-requires : tie.Need-value-of-requires
 value-of-requires c κs = tt
 
-settled-requires-2 : tie.Need-settled-requires-2
-settled-requires-2 c κs = tt
+done-of-requires-2 : tie.Need-done-of-requires-2
+done-of-requires-2 c κs = tt
 
 same-length-5 : tie.Need-same-length-5
 same-length-5 c = c .before .before .before .before .before .before .before .anchor .given
@@ -64,7 +64,7 @@ returns-2 c =
     let end = c .before .before .before .before .before .before .before .before in
     let test = end .before .before .before .before .before .before .before in
     restart-ended _ _ _ (test .before .before .before .before .replay-all .ensures) (sym (test .before .is-finished .ensures) ∙ not-false _ (test .if1 .left))
-    (shows-own _ _ _ _ _ _ _ (end .restart-end .ensures .0) (c .settled2 .ensures .1) (rw (c .before .value-of .ensures) at (c .settled2 .ensures .0)))
+    (shows-own _ _ _ _ _ _ _ (end .restart-end .ensures .0) (c .done-of2 .ensures .1) (rw (c .before .value-of .ensures) at (c .done-of2 .ensures .0)))
 
 pub run-restart-spec : {M : Type 1} → statement M
 run-restart-spec =
@@ -72,7 +72,7 @@ run-restart-spec =
     (tie.spec
     replay-all-requires
     is-finished-requires
-    settled-requires
+    done-of-requires
     same-length
     same-length-2
     same-length-3
@@ -80,7 +80,7 @@ run-restart-spec =
     returns
     restart-end-requires
     value-of-requires
-    settled-requires-2
+    done-of-requires-2
     same-length-5
     same-length-6
     same-length-7

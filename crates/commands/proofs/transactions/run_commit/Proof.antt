@@ -7,7 +7,7 @@ use Rattle.commands.proofs.transactions.run_commit.Tie as tie
 
 returns : tie.Need-returns
 unfolding lineOf
-returns c = shows _ _ _ _ _ _ _ (c .before .before .before .before .before .commit .ensures .0) (c .settled .ensures .1) 0 (c .settled .ensures .0)
+returns c = shows _ _ _ _ _ _ _ (c .before .before .before .before .before .commit .ensures .0) (c .done-of .ensures .1) 0 (c .done-of .ensures .0)
 
 pub run-commit-spec : {M : Type 1} → statement M
 run-commit-spec =

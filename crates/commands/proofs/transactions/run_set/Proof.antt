@@ -11,8 +11,8 @@ slot-word-requires c κs = tt
 update-requires : tie.Need-update-requires
 update-requires c κs = tt
 
-settled-requires : tie.Need-settled-requires
-settled-requires c κs = tt
+done-of-requires : tie.Need-done-of-requires
+done-of-requires c κs = tt
 
 same-length : tie.Need-same-length
 same-length c = c .before .before .before .before .before .before .pages .given
@@ -27,7 +27,7 @@ returns : tie.Need-returns
 unfolding lineOf
 returns c =
     let update = c .before .before .before .before .before .before .before in
-    shows-difference _ _ _ _ _ _ _ (update .update .ensures .0) (c .settled .ensures .1) _ (update .before .before .before .before .before .before .slot-word .ensures) (c .settled .ensures .0)
+    shows-difference _ _ _ _ _ _ _ (update .update .ensures .0) (c .done-of .ensures .1) _ (update .before .before .before .before .before .before .slot-word .ensures) (c .done-of .ensures .0)
 
 pub run-set-spec : {M : Type 1} → statement M
 run-set-spec =
@@ -36,7 +36,7 @@ run-set-spec =
     slot-word-requires
     (λ c. search needs)
     update-requires
-    settled-requires
+    done-of-requires
     same-length
     same-length-2
     same-length-3
