@@ -1,12 +1,12 @@
 -- From the first checks and the end of a call to what `Gives` says of it.
-use mathlib.Core.Path.{_≡_, refl, sym, ap, _∙_}
+use mathlib.Core.Path.{_≡_, refl, _∙_}
 use mathlib.Core.List.{List, [], _∷_}
 use mathlib.Core.Bool.{Bool, true, false, cond, not, _&&_}
-use Prim.Native.Nat.{ℕ, _-_, _*_, _≤_, min}
+use Prim.Native.Nat.{ℕ, _-_, _*_, _≤_}
 use native.Mathlib.Omega.{arith}
-use lib.Dec.{leb, eqb}
+use lib.Dec.{eqb}
 use lib.ListN.{length}
-use borrow.Author.Tests.{eqb-true, eq-eqb, ne-eqb, not-false}
+use borrow.Author.Tests.{not-false}
 use Rattle.model.specs.declared.Stage.{Stage}
 use Rattle.model.specs.declared.Sizes.{Sizes}
 use Rattle.model.specs.declared.Core.{Core}
@@ -17,7 +17,7 @@ use Rattle.model.specs.Anchor.{anchorWords}
 use Rattle.model.specs.World.{World, made, finishes}
 use Rattle.model.specs.Memory.{lengthsRight, workWords}
 use Rattle.model.specs.State.{newCore, sound}
-use Rattle.model.specs.Refusal.{Row, row, Task, Verdict, accepted, rejected, verdict, conclude}
+use Rattle.model.specs.Refusal.{Row, row, Task, accepted, rejected, verdict, conclude}
 use Rattle.model.specs.Causes.{stageForbids, anchorWrong, lengthsWrong}
 use Rattle.model.specs.Call.{Call, rowsOf, taskOf, budgetOf, resultOf, Gives}
 use Rattle.model.proofs.Booleans.{both}

@@ -30,7 +30,6 @@ use Rattle.model.proofs.Restart.Words.{withPages, perform-xor}
 use Rattle.model.proofs.Restart.Steps.{remaining-log, remaining-backup}
 use Rattle.frame.specs.Checks.{CommonRefusal}
 use Rattle.frame.specs.Settle.{refusedWith}
-use Rattle.frame.proofs.Verdicts.{refusal-given}
 use Rattle.frame.proofs.Given.{common-decided}
 use Rattle.replay.specs.Step.{finished, stepRest, StepsOn}
 use Rattle.replay.proofs.Storeless.{nothing-spent}
