@@ -1,8 +1,8 @@
 -- What the checks leave an abort to rely on: its log can be read, and there is room for what takes its updates back.
-use mathlib.Core.Path.{_≡_, refl, sym, ap, _∙_}
+use mathlib.Core.Path.{_≡_, refl, sym, ap, subst, _∙_}
 use mathlib.Core.List.{List, []}
 use mathlib.Core.Bool.{Bool, true, false, cond}
-use Prim.Native.Nat.{ℕ, _≤_, _<_}
+use Prim.Native.Nat.{ℕ, _+_, _≤_, _<_}
 use native.Mathlib.Omega.{arith}
 use lib.Dec.{ltb}
 use lib.ListN.{length}
@@ -10,12 +10,13 @@ use borrow.Author.Tests.{lt-ltb, le-ltb}
 use Rattle.model.specs.declared.Core.{Core}
 use Rattle.model.specs.declared.Fault.{Fault}
 use Rattle.model.specs.declared.Fault.the-variants.{NoFault, BadRecord}
-use Rattle.model.specs.Sizes.{total}
-use Rattle.model.specs.Scan.{Scan, end, ringThenBuffer, faultIn, updatesIn, updateWords}
+use Rattle.model.specs.Sizes.{ringOf, total}
+use Rattle.model.specs.Scan.{Scan, end, scan, ringThenBuffer, faultIn, updatesIn, updateWords}
 use Rattle.model.specs.World.{World, worldOf}
 use Rattle.model.specs.State.{limit, startOf, tailOf, endOf, placeOf, firstAt, reservedAt, isOpen, hasUpdate, servingSound}
 use Rattle.model.specs.Transaction.{diskOf}
 use Rattle.model.specs.Abort.{abortScan, updatesLeft, abortFault}
+use Rattle.model.proofs.Bounds.{bounded}
 use Rattle.model.proofs.Reading.{ending}
 use Rattle.model.proofs.Faults.{fault-end, fault-own, fault-rest}
 use Rattle.model.proofs.RingThenBuffer.{parts-as-one, parts-end}
@@ -25,8 +26,10 @@ use Rattle.model.proofs.Store.Rows.{sizes-sound, disk-sound}
 use Rattle.model.proofs.Store.Accepted.{small-buffers, open-entry, open-below, own-room, disks-max}
 use Rattle.frame.specs.Home.{Serves}
 use Rattle.abort.specs.declared.scope.Scope.{Scope}
+use Rattle.abort.specs.declared.notes.Notes.{Notes}
+use Rattle.abort.specs.Groups.{Noted}
 use Rattle.abort.specs.Undo.{Serving, reader, logFrom, partsFrom, Undoable}
-use Rattle.abort.specs.Scope.{scopeOf}
+use Rattle.abort.specs.Scope.{scopeOf, NotedFor}
 use Rattle.abort.proofs.Malformed.{sound-end}
 
 -- its disk, and what `scope_of` requires
@@ -53,6 +56,21 @@ module _ (c : Core) (number : ℕ) {logs work : List ℕ} (serves : Serves c log
     pub scope-serves : Serving (c .sizes) (c .logs) (at .disk) logs work
     unfolding scopeOf
     scope-serves = rw is disk-serves
+
+-- where its updates are read from
+pub scope-noted : (c : Core) (number : ℕ) {at : Scope} → at ≡ scopeOf c number → (logs work : List ℕ) {notes : Notes}
+    → Noted number (scan (c .sizes) (reader (c .sizes) (c .logs) (at .disk) logs work) (endOf (c .logs) (at .disk))) (at .from) notes
+    → NotedFor c number logs work notes
+unfolding NotedFor
+scope-noted c number is logs work noted = rw is at noted
+
+pub noted-scope : (c : Core) (number : ℕ) {at : Scope} → at ≡ scopeOf c number → (logs work : List ℕ) {notes : Notes} → NotedFor c number logs work notes
+    → Noted number (scan (c .sizes) (reader (c .sizes) (c .logs) (at .disk) logs work) (endOf (c .logs) (at .disk))) (at .from) notes
+unfolding NotedFor
+noted-scope c number is logs work noted = rw is noted
+
+pub noted-own : {number : ℕ} {log : ℕ → Scan} {from : ℕ} {r : Notes} → Noted number log from r → Noted number log (r .from) r
+noted-own {number} {log} {from} {r} n = subst (λ (f : ℕ). Noted number log f r) (sym (n .starts)) n
 
 -- the anchor and the backups are not read
 pub fault-apart : (c : Core) (number : ℕ) (anchor pages backups logs work : List ℕ)
@@ -135,6 +153,15 @@ module _ (c : Core) (number : ℕ) (opened : isOpen (c .table) number ≡ true) 
       go true e = open-entry c number state opened .sound .first e .0
       go false e =
           omega (arith, disk-sound c (diskOf c number) state (open-below c number state opened) .ordered, tail-end (c .logs) (diskOf c number))
+
+  -- and is no longer than the ring
+  pub scope-near : servingSound c ≡ true → endOf (c .logs) (at .disk) ≤ at .from + 65536
+  unfolding ringOf
+  scope-near state =
+      let mine = open-entry c number state opened in
+      let room = own-room c number state opened 0 (omega arith) in
+      rw scope-disk
+      (omega (arith, room .0, behind-start state, kept-le (c .logs) (diskOf c number), bounded (c .sizes) (sizes-sound c state) .ring-max))
 
   -- where there is none, its updates are those of the log as one, and can be taken back
   module _ (none : abortFault c w number ≡ NoFault) where

@@ -1,5 +1,6 @@
 // Abort: its checks, then its work. Of a transaction that is not open nothing is read, so No. 9 can be asked before No. 7.
-use crate::fault::fault_of;
+use crate::fault::examine;
+use crate::notes::Notes;
 use crate::record::Progress;
 use crate::record::log_close;
 use crate::scope::scope_of;
@@ -28,7 +29,7 @@ ghost use Rattle.model.specs.Abort.{abortFault};
 ghost use Rattle.model.specs.Call.{abort, Gives};
 ghost use Rattle.frame.specs.Home.{Serves};
 ghost use Rattle.abort.specs.Undo.{Did};
-ghost use Rattle.abort.specs.Scope.{rolledBack};
+ghost use Rattle.abort.specs.Scope.{rolledBack, NotedFor};
 
 // The work: every update taken back, then the closing record, as far as the budget goes.
 fn roll_back(
@@ -38,9 +39,10 @@ fn roll_back(
     logs: &mut [u64],
     work: &mut [u64],
     budget: &mut u64,
+    notes: Notes,
 ) -> Progress
     requires { ⌜ Serves core (now logs) (now work) × (isOpen (core .table) number ≡ true) × (length (now pages) ≡ total (core .sizes)) ⌝ }
-    requires { ⌜ abortFault core (worldOf [] (now pages) [] (now logs) (now work)) number ≡ NoFault ⌝ }
+    requires { ⌜ (abortFault core (worldOf [] (now pages) [] (now logs) (now work)) number ≡ NoFault) × NotedFor core number (now logs) (now work) notes ⌝ }
     ensures { λ r. ⌜ ((anchor backups : List ℕ) → Did (now (budget .entry)) (now (budget .exit))
         (rolledBack core (worldOf anchor (now (pages .entry)) backups (now (logs .entry)) (now (work .entry))) number)
         (worldOf anchor (now (pages .entry)) backups (now (logs .entry)) (now (work .entry)))
@@ -54,7 +56,7 @@ fn roll_back(
         heads,
         at.disk,
         number,
-        at.from,
+        notes,
         pages,
         logs,
         work,
@@ -87,12 +89,13 @@ pub fn abort(
     if !is_open(core.table, number) {
         return refuse(core, 9);
     }
-    let fault = fault_of(core, number, logs, work);
+    let found = examine(core, number, logs, work);
+    let fault = found.fault;
     if let Fault::BadRecord { disk, position } = fault {
         return refuse_at(core, 7, disk, position);
     }
     let allowance = *budget;
-    let done = roll_back(core, number, pages, logs, work, budget);
+    let done = roll_back(core, number, pages, logs, work, budget, found.notes);
     let after = done.logs;
     let table = without(core.table, number);
     let next = Core {

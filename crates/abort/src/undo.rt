@@ -2,7 +2,7 @@
 use crate::difference::Site;
 use crate::difference::difference_at;
 use crate::difference::site_at;
-use crate::notes::notes_from;
+use crate::notes::Notes;
 use crate::reading::group_from;
 use crate::record::Progress;
 use crate::record::log_compensation;
@@ -11,14 +11,16 @@ use log::updates::Group;
 use model::Logs;
 use model::Sizes;
 use words::xor_in;
+ghost use mathlib.Core.Path.{_≡_};
 ghost use mathlib.Core.List.{List};
-ghost use Prim.Native.Nat.{ℕ, _+_, _≤_};
+ghost use Prim.Native.Nat.{ℕ, _+_, _≤_, min};
 ghost use lib.ListN.{take};
-ghost use Rattle.model.specs.Scan.{updatesIn};
+ghost use Rattle.model.specs.Scan.{scan, updatesIn};
 ghost use Rattle.model.specs.World.{worldOf};
+ghost use Rattle.model.specs.State.{endOf};
 ghost use Rattle.model.specs.Abort.{compensate, undoAll};
 ghost use Rattle.abort.specs.Undo.{Did, reader, logFrom, updateAt, updateRead, Compensable, Undoable};
-ghost use Rattle.abort.specs.Groups.{lastFirst, Takeable};
+ghost use Rattle.abort.specs.Groups.{Noted, lastFirst, Takeable};
 
 // Takes back the update at a site: its compensation is appended, and the slot changed back.
 fn undo_one(
@@ -98,35 +100,46 @@ fn undo_group(
     }
 }
 
-// Takes back all updates of a transaction in the log of its disk from a position on, as far as the budget goes: the groups of 128, last
-// to first, each read once from where it begins.
+// The smaller of two numbers.
+fn smaller(a: u64, b: u64) -> u64
+    ensures { λ r. ⌜ r ≡ min a b ⌝ }
+{
+    if a < b {
+        return a;
+    }
+    b
+}
+
+// Takes back all updates of a transaction that were noted in the log of its disk, as far as the budget goes: the groups of 128, last to
+// first, each read once from where it begins.
 pub fn undo_all(
     sizes: Sizes,
     heads: Logs,
     disk: u64,
     number: u64,
-    from: u64,
+    notes: Notes,
     pages: &mut [u64],
     logs: &mut [u64],
     work: &mut [u64],
     budget: &mut u64,
 ) -> Progress
-    requires { ⌜ Undoable sizes heads disk number from (now pages) (now logs) (now work) ⌝ }
+    requires { ⌜ Undoable sizes heads disk number (notes .from) (now pages) (now logs) (now work) ⌝ }
+    requires { ⌜ Noted number (scan sizes (reader sizes heads disk (now logs) (now work)) (endOf heads disk)) (notes .from) notes ⌝ }
     ensures { λ r. ⌜ ((anchor backups : List ℕ) → Did (now (budget .entry)) (now (budget .exit))
         (undoAll sizes heads (worldOf anchor (now (pages .entry)) backups (now (logs .entry)) (now (work .entry))) number disk
-        (updatesIn number (logFrom sizes heads disk (now (logs .entry)) (now (work .entry)) from)))
+        (updatesIn number (logFrom sizes heads disk (now (logs .entry)) (now (work .entry)) (notes .from))))
         (worldOf anchor (now (pages .entry)) backups (now (logs .entry)) (now (work .entry)))
         (worldOf anchor (now (pages .exit)) backups (now (logs .exit)) (now (work .exit))) r) ⌝ }
 {
     let d = disk as usize;
     let end = heads.tails[d] + heads.fills[d];
-    let notes = notes_from(sizes, heads, disk, number, from, end, logs, work);
-    let at = notes.at;
     let mut after = heads;
-    let mut k = notes.count;
+    let mut k = (notes.count + 127) / 128;
     while 0 < k {
         k -= 1;
-        let group = group_from(sizes, after, disk, number, at[k as usize], end, logs, work);
+        let n = smaller(notes.count - 128 * k, 128);
+        let p = notes.at[k as usize];
+        let group = group_from(sizes, after, disk, number, p, end, n, logs, work);
         let part = undo_group(sizes, after, disk, number, group, pages, logs, work, budget);
         if !part.finished {
             return part;

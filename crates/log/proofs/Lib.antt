@@ -2,7 +2,8 @@
 pub mod Decoding
 pub mod Scanning
 pub mod Rings
-pub mod Gathering
+pub mod Fronts
+pub mod Surveying
 pub mod Ready
 -- Writing: runs of words set in a list, and runs of words stored in a ring.
 pub mod Words

@@ -1,10 +1,8 @@
 -- A loop over a log, by what is decoded at its position: the answer from there is the answer from the next position.
 use Prim.Native.Nat.{ℕ, suc, _+_, _-_, _≤_, _<_}
 use mathlib.Core.Path.{_≡_, refl, sym, ap, _∙_}
-use mathlib.Core.List.{List, [], _∷_}
-use mathlib.Core.Bool.{Bool, true, false, cond, _&&_}
+use mathlib.Core.List.{List, []}
 use native.Mathlib.Omega.{arith}
-use lib.Dec.{eqb}
 use borrow.Author.Tests.{eq-eqb, ne-eqb}
 use Rattle.model.specs.declared.Sizes.{Sizes}
 use Rattle.model.specs.declared.Decoded.{Decoded}
@@ -12,15 +10,11 @@ use Rattle.model.specs.declared.Decoded.the-variants.{Change, Close, Malformed}
 use Rattle.model.specs.declared.Fate.the-variants.{Closed, Unclosed, Unreadable}
 use Rattle.model.specs.declared.Fault.{Fault}
 use Rattle.model.specs.declared.Fault.the-variants.{NoFault, BadRecord}
-use Rattle.model.specs.Record.{updateKind}
-use Rattle.model.specs.Decode.{readLog, span, decodeAt}
-use Rattle.model.specs.Scan.{Scan, scan, fateIn, faultIn, Update, updatesIn, updateWords}
+use Rattle.model.specs.Decode.{readLog, decodeAt}
+use Rattle.model.specs.Scan.{Scan, scan, fateIn, faultIn}
 use Rattle.model.specs.Causes.{tailIn, retainedFrom, faultFrom}
 use Rattle.model.proofs.Decode.{ChangeAt, CloseAt, found-change, found-close}
-use Rattle.model.proofs.Restart.Gain.{length-span}
-use Rattle.model.proofs.Updates.{update-words-append}
 use Rattle.model.proofs.Scan.{scan-end, scan-change, scan-close, scan-bad}
-use Rattle.log.specs.Reading.{isUpdateOf}
 
 module _ (s : Sizes) (read : ℕ → ℕ) (stop : ℕ) where
   -- what is known of a record r that was decoded at p
@@ -76,47 +70,6 @@ module _ (s : Sizes) (read : ℕ → ℕ) (stop : ℕ) where
     pub fault-bad : r ≡ Malformed → BadRecord disk p ≡ faultIn disk (scan s read stop p) rest
     unfolding faultIn
     fault-bad e = sym (ap (λ (x : Scan). faultIn disk x rest) (scan-bad s read stop h (sym is ∙ e)))
-
-  -- the words of a transaction's updates: n of them counted before p
-  pub words-end : {n sum : ℕ} (t p : ℕ) → stop ≤ p → n + updateWords (updatesIn t (scan s read stop p)) ≡ sum → n ≡ sum
-  unfolding updatesIn updateWords
-  words-end t p h e = omega (arith, ap (λ (x : Scan). updateWords (updatesIn t x)) (scan-end s read stop p h))
-
-  module _ {p : ℕ} {r : Decoded} (is : r ≡ decodeAt s read stop p) (h : p < stop) (t : ℕ) where
-    words-change : {kind page slot number copy width next : ℕ} → r ≡ Change kind page slot number copy width next
-        → updateWords (updatesIn t (scan s read stop p))
-        ≡ updateWords (updatesIn t (scan s read stop next)) + cond (isUpdateOf t (Change kind page slot number copy width next)) (next - p) 0
-    unfolding updatesIn updateWords
-    words-change {kind} {page} {slot} {number} {width} {next} e =
-        ap (λ (x : Scan). updateWords (updatesIn t x)) (scan-change s read stop h (sym is ∙ e))
-        ∙ update-words-append (updatesIn t (scan s read stop next)) _
-        ∙ ap (λ (n : ℕ). updateWords (updatesIn t (scan s read stop next)) + n) (go (eqb kind updateKind && eqb number t))
-      where
-        u : Update
-        u = record { position = p; page = page; slot = slot; diff = span read (p + 3) width }
-
-        go : (b : Bool) → updateWords (cond b (u ∷ []) []) ≡ cond b (next - p) 0
-        go true = let f = got-change is e in omega (arith, length-span read (p + 3) width)
-        go false = refl
-
-    pub words-update : {kind page slot number copy width next : ℕ} {b : Bool}
-        → r ≡ Change kind page slot number copy width next → b ≡ isUpdateOf t (Change kind page slot number copy width next) → b ≡ true
-        → updateWords (updatesIn t (scan s read stop p)) ≡ updateWords (updatesIn t (scan s read stop next)) + (next - p)
-    words-update e u v = words-change e ∙ rw (sym u ∙ v)
-
-    pub words-other : {kind page slot number copy width next : ℕ} {b : Bool}
-        → r ≡ Change kind page slot number copy width next → b ≡ isUpdateOf t (Change kind page slot number copy width next) → b ≡ false
-        → updateWords (updatesIn t (scan s read stop p)) ≡ updateWords (updatesIn t (scan s read stop next)) + 0
-    words-other e u v = words-change e ∙ rw (sym u ∙ v)
-
-    pub words-close : {kind number next : ℕ} → r ≡ Close kind number next
-        → updateWords (updatesIn t (scan s read stop p)) ≡ updateWords (updatesIn t (scan s read stop next))
-    unfolding updatesIn updateWords
-    words-close e = ap (λ (x : Scan). updateWords (updatesIn t x)) (scan-close s read stop h (sym is ∙ e))
-
-    pub words-bad : {n sum : ℕ} → r ≡ Malformed → n + updateWords (updatesIn t (scan s read stop p)) ≡ sum → n ≡ sum
-    unfolding updatesIn updateWords
-    words-bad e u = omega (arith, ap (λ (x : Scan). updateWords (updatesIn t x)) (scan-bad s read stop h (sym is ∙ e)))
 
 -- the check of all disks, a disk at a time
 module _ (s : Sizes) (start : ℕ → ℕ) (logs : List ℕ) where

@@ -1,3 +1,4 @@
 pub mod Reading
 pub mod Ring
+pub mod Front
 pub mod Write

@@ -2,8 +2,8 @@
 use mathlib.Core.Path.{_≡_}
 use Prim.Native.Nat.{ℕ, _+_, _/_, _^_, _≤_, _<_}
 use mathlib.Core.List.{List, [], _∷_}
-use mathlib.Core.Bool.{Bool, true, false, cond, _&&_}
-use lib.ListN.{length, getD, take, drop}
+use mathlib.Core.Bool.{true, cond, _&&_}
+use lib.ListN.{length, getD}
 use lib.Dec.{eqb}
 use Rattle.model.specs.declared.Sizes.{Sizes}
 use Rattle.model.specs.declared.Decoded.{Decoded}
@@ -13,7 +13,6 @@ use Rattle.model.specs.Record.{change, close, updateKind}
 use Rattle.model.specs.Decode.{kindField, pageField, slotField, widthField, misplaced}
 use Rattle.model.specs.Scan.{Scan, end, bad, item}
 use Rattle.log.specs.declared.read.Extent.{Extent}
-use Rattle.log.specs.declared.updates.Group.{Group}
 
 -- a change by its first three words, a closing record by its two: what decodeWords makes of a known kind
 abbrev pub decodedChange : Sizes → ℕ → ℕ → ℕ → ℕ → Decoded
@@ -51,12 +50,6 @@ pub record Checkable (s : Sizes) (logs : List ℕ) : Type 0 where
   pub logs-length : logWords s ≤ length logs
   pub tails-low : (d : ℕ) → d < s .disks → getD logs (diskAt s d) 0 ≤ 2 ^ 63
 
--- is it an update record of the transaction
-abbrev pub isUpdateOf : ℕ → Decoded → Bool
-isUpdateOf number (Change kind page slot n copy width next) = eqb kind updateKind && eqb n number
-isUpdateOf number (Close kind n next) = false
-isUpdateOf number Malformed = false
-
 -- the positions of a transaction's updates, oldest first
 unfoldable pub positionsIn : ℕ → Scan → List ℕ
 positionsIn number end = []
@@ -64,11 +57,3 @@ positionsIn number (bad p) = []
 positionsIn number (item p (close kind n) rest) = positionsIn number rest
 positionsIn number (item p (change kind page slot n copy diff) rest) =
     cond (eqb kind updateKind && eqb n number) (p ∷ positionsIn number rest) (positionsIn number rest)
-
--- In a log read from a position on: the positions of a transaction's first 128 updates, and a position from which the others are read.
-pub record Gathered (number : ℕ) (log : ℕ → Scan) (from : ℕ) (r : Group) : Type 0 where
-  pub few : r .count ≤ 128
-  pub many : r .count ≡ length (take 128 (positionsIn number (log from)))
-  pub behind : from ≤ r .next
-  pub first : take (r .count) (r .at) ≡ take 128 (positionsIn number (log from))
-  pub others : positionsIn number (log (r .next)) ≡ drop 128 (positionsIn number (log from))

@@ -38,7 +38,7 @@ fn word_at(ring: &[u64], at: u64) -> u64
 }
 
 // Are the fields of a change's first word not those of a page? Entries from P on are 0: a page that is not there has no slot.
-fn is_outside(slots: &[u8], widths: &[u8], w: u64) -> bool
+pub fn is_outside(slots: &[u8], widths: &[u8], w: u64) -> bool
     requires { ⌜ (length (now slots) ≡ 64) × (length (now widths) ≡ 64) ⌝ }
     ensures { λ r. ⌜ ((s : Sizes) → EntriesOf s (now (slots .entry)) (now (widths .entry)) → r ≡ misplaced s w) ⌝ }
 {

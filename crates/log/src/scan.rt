@@ -14,7 +14,7 @@ ghost use Prim.Native.Nat.{ℕ};
 ghost use lib.ListN.{getD};
 ghost use Rattle.model.specs.Decode.{readLog};
 ghost use Rattle.model.specs.declared.Fault.the-variants.{NoFault};
-ghost use Rattle.model.specs.Scan.{scan, fateIn, faultIn};
+ghost use Rattle.model.specs.Scan.{scan, fateIn};
 ghost use Rattle.model.specs.Causes.{faultFrom};
 ghost use Rattle.log.specs.Reading.{LiesAt, OfDisk, Readable, Checkable};
 
@@ -54,30 +54,6 @@ pub fn fate_from(
         }
     };
     fate
-}
-
-// The first malformed record of a disk's log, from a position on.
-pub fn first_malformed(
-    sizes: Sizes,
-    logs: &[u64],
-    disk: u64,
-    extent: Extent,
-    buffer: &[u64],
-    from: u64,
-) -> Fault
-    requires { ⌜ Readable extent (now logs) (now buffer) × LiesAt sizes disk (extent .place) (extent .ring) ⌝ }
-    ensures { λ r. ⌜ r ≡ faultIn disk (scan sizes (readLog sizes (now (logs .entry)) disk (extent .tail) (now (buffer .entry))) (extent .end) from) NoFault ⌝ }
-{
-    let end = extent.end;
-    let mut p = from;
-    while p < end {
-        let here = decode_at(sizes, logs, extent, buffer, p);
-        let (Decoded::Change { next, .. } | Decoded::Close { next, .. }) = here else {
-            return Fault::BadRecord { disk, position: p };
-        };
-        p = next;
-    }
-    Fault::NoFault
 }
 
 // The check of every disk's log, read from its start: the first malformed record of the lowest disk that has one.

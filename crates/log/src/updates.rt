@@ -1,106 +1,122 @@
-// The updates that an abort takes back: the positions of 128 at a time, and the words of all.
+// The updates that an abort takes back: a survey of the log that it reads, and the positions of some of them.
+use crate::front::Turn;
+use crate::front::front_at;
+use crate::front::is_update_of;
+use crate::front::part_end;
+use crate::front::record_words;
+use crate::front::turn_at;
 use crate::read::Extent;
-use crate::read::decode_at;
-use model::Decoded;
+use crate::read::words_of;
+use model::Fault;
 use model::Sizes;
 ghost use mathlib.Core.Path.{_≡_};
-ghost use Prim.Native.Nat.{ℕ};
+ghost use mathlib.Core.Bool.{true, cond};
+ghost use Prim.Native.Nat.{ℕ, _+_, _*_, _/_, _%_, _≤_, _<_};
+ghost use lib.Dec.{eqb};
+ghost use lib.ListN.{length, set};
+ghost use Rattle.model.specs.Sizes.{sizesInBounds};
 ghost use Rattle.model.specs.Decode.{readLog};
-ghost use Rattle.model.specs.Scan.{scan, updatesIn, updateWords};
-ghost use Rattle.log.specs.Reading.{LiesAt, OfDisk, Readable, isUpdateOf, Gathered};
+ghost use Rattle.model.specs.Scan.{scan, ringThenBuffer};
+ghost use Rattle.log.specs.Reading.{LiesAt, Readable, positionsIn};
+ghost use Rattle.log.specs.Front.{Surveyed, Has, Gathered};
 
-// Positions of a transaction's updates, oldest first, and where the reading of them stopped.
+// What a survey of a log finds: its first malformed record, and a transaction's updates up to there, counted and in words.
+pub struct Survey {
+    pub fault: Fault,
+    pub count: u64,
+    pub words: u64,
+}
+
+// Positions of a transaction's updates, oldest first.
 pub struct Group {
     pub count: u64,
-    pub next: u64,
     pub at: [u64; 128],
 }
 
-// Is it an update record of the transaction?
-fn is_update_of(here: Decoded, number: u64) -> bool
-    ensures { λ r. ⌜ r ≡ isUpdateOf number here ⌝ }
+// Notes where an update stands if it is the first of 128.
+fn note(notes: &mut [u64], count: u64, p: u64)
+    requires { ⌜ count < 128 * length (now notes) ⌝ }
+    ensures { λ _. ⌜ now (notes .exit) ≡ cond (eqb (count % 128) 0) (set (now (notes .entry)) (count / 128) p) (now (notes .entry)) ⌝ }
 {
-    match here {
-        Decoded::Change {
-            kind,
-            number: n,
-            ..
-        } => {
-            if kind != 0 {
-                return false;
-            }
-            n == number
-        }
-        Decoded::Close { .. } => false,
-        Decoded::Malformed => false,
+    if count % 128 == 0 {
+        notes[(count / 128) as usize] = p;
     }
 }
 
-// The positions of a transaction's first 128 updates, among the records from a position on.
-pub fn first_updates(
+// Reads a disk's log up to its tail and then the buffer, each record once, and notes every 128th update of a transaction.
+pub fn survey_log(
     sizes: Sizes,
     logs: &[u64],
+    disk: u64,
     extent: Extent,
     buffer: &[u64],
     from: u64,
     number: u64,
-) -> Group
-    requires { ⌜ Readable extent (now logs) (now buffer) × OfDisk sizes extent ⌝ }
-    ensures { λ r. ⌜ ((disk : ℕ) → LiesAt sizes disk (extent .place) (extent .ring)
-        → Gathered number (scan sizes (readLog sizes (now (logs .entry)) disk (extent .tail) (now (buffer .entry))) (extent .end)) from r) ⌝ }
+    notes: &mut [u64],
+) -> Survey
+    requires { ⌜ Readable extent (now logs) (now buffer) × LiesAt sizes disk (extent .place) (extent .ring) × (sizesInBounds sizes ≡ true) ⌝ }
+    requires { ⌜ (extent .ring ≤ 65536) × (extent .tail ≤ extent .end) × (extent .end ≤ from + 65536) × (length (now notes) ≡ 128) ⌝ }
+    ensures { λ r. ⌜ Surveyed disk number (ringThenBuffer sizes (readLog sizes (now (logs .entry)) disk (extent .tail) (now (buffer .entry))) (extent .tail) (extent .end)) from r (now (notes .exit)) ⌝ }
 {
-    let end = extent.end;
-    let mut at = [0u64; 128];
+    let slots = sizes.slots;
+    let widths = sizes.widths;
+    let mut turn = Turn { low: 0, near: 0 };
     let mut count: u64 = 0;
-    let mut p = from;
-    while p < end {
-        let here = decode_at(sizes, logs, extent, buffer, p);
-        match here {
-            Decoded::Change { next, .. } => {
-                if is_update_of(here, number) {
-                    if count == 128 {
-                        break;
-                    }
-                    at[count as usize] = p;
-                    count += 1;
-                }
-                p = next;
-            }
-            Decoded::Close { next, .. } => p = next,
-            Decoded::Malformed => break,
-        }
-    }
-    Group { count, next: p, at }
-}
-
-// The words of a transaction's update records, up to the end or to the first malformed record.
-pub fn abort_words(
-    sizes: Sizes,
-    logs: &[u64],
-    extent: Extent,
-    buffer: &[u64],
-    from: u64,
-    number: u64,
-) -> u64
-    requires { ⌜ Readable extent (now logs) (now buffer) × OfDisk sizes extent ⌝ }
-    ensures { λ r. ⌜ ((disk : ℕ) → LiesAt sizes disk (extent .place) (extent .ring)
-        → r ≡ updateWords (updatesIn number (scan sizes (readLog sizes (now (logs .entry)) disk (extent .tail) (now (buffer .entry))) (extent .end) from))) ⌝ }
-{
-    let end = extent.end;
     let mut words: u64 = 0;
     let mut p = from;
-    while p < end {
-        let here = decode_at(sizes, logs, extent, buffer, p);
-        match here {
-            Decoded::Change { next, .. } => {
-                if is_update_of(here, number) {
-                    words += next - p;
-                }
-                p = next;
-            }
-            Decoded::Close { next, .. } => p = next,
-            Decoded::Malformed => return words,
+    while p < extent.end {
+        turn = turn_at(turn, extent.ring, extent.tail, p);
+        let front = front_at(logs, extent, buffer, turn, p);
+        let size = record_words(&slots, &widths, front);
+        let stop = part_end(extent.tail, extent.end, p);
+        let next = p + size;
+        if size == 0 {
+            let fault = Fault::BadRecord { disk, position: p };
+            return Survey { fault, count, words };
         }
+        if stop < next {
+            let fault = Fault::BadRecord { disk, position: p };
+            return Survey { fault, count, words };
+        }
+        if is_update_of(front, number) {
+            note(notes, count, p);
+            count += 1;
+            words += size;
+        }
+        p = next;
     }
-    words
+    let fault = Fault::NoFault;
+    Survey { fault, count, words }
+}
+
+// The positions of a transaction's next n updates. Nothing is asked of records that a survey has seen.
+pub fn next_updates(
+    logs: &[u64],
+    extent: Extent,
+    buffer: &[u64],
+    from: u64,
+    number: u64,
+    n: u64,
+) -> Group
+    requires { ⌜ Readable extent (now logs) (now buffer) × Has number n extent (now logs) (now buffer) from × (extent .ring ≤ 65536) × (n ≤ 128) ⌝ }
+    ensures { λ r. ⌜ ((s : Sizes) (disk : ℕ) → LiesAt s disk (extent .place) (extent .ring)
+        → n ≤ length (positionsIn number (scan s (readLog s (now (logs .entry)) disk (extent .tail) (now (buffer .entry))) (extent .end) from))
+        → Gathered number n (scan s (readLog s (now (logs .entry)) disk (extent .tail) (now (buffer .entry))) (extent .end) from) r) ⌝ }
+{
+    let mut at = [0u64; 128];
+    let mut turn = Turn { low: 0, near: 0 };
+    let mut count: u64 = 0;
+    let mut p = from;
+    while count < n {
+        turn = turn_at(turn, extent.ring, extent.tail, p);
+        let front = front_at(logs, extent, buffer, turn, p);
+        let w = front.first;
+        let next = p + words_of(w % 8, w / 65536);
+        if is_update_of(front, number) {
+            at[count as usize] = p;
+            count += 1;
+        }
+        p = next;
+    }
+    Group { count, at }
 }

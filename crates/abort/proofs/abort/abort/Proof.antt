@@ -19,11 +19,11 @@ returns c = given-first (c .before .before .common-refusal .ensures) (abort _ _)
 returns-2 : tie.Need-returns-2
 returns-2 c = given-shut (c .before .before .before .before .common-refusal .ensures) (c .before .before .before .if1 .left) _ _ (sym (c .before .before .is-open .ensures) ∙ not-true _ (c .before .if2 .taken)) (c .refuse2 .ensures)
 
-fault-of-requires : tie.Need-fault-of-requires
-fault-of-requires c κs = (serves-common (c .before .before .before .before .before .common-refusal .ensures) (c .before .before .before .before .if1 .left), sym (c .before .before .before .is-open .ensures) ∙ not-false _ (c .before .before .if2 .left))
+examine-requires : tie.Need-examine-requires
+examine-requires c κs = (serves-common (c .before .before .before .before .before .common-refusal .ensures) (c .before .before .before .before .if1 .left), sym (c .before .before .before .is-open .ensures) ∙ not-false _ (c .before .before .if2 .left))
 
 returns-3 : tie.Need-returns-3
-returns-3 c = given-fault (c .before .before .before .before .before .before .before .before .before .before .common-refusal .ensures) (c .before .before .before .before .before .before .before .before .before .if1 .left) _ _ (sym (c .before .before .before .before .fault-of .ensures _ _ _) ∙ c .before .before .fault .given .1) (c .refuse-at .ensures)
+returns-3 c = given-fault (c .before .before .before .before .before .before .before .before .before .before .common-refusal .ensures) (c .before .before .before .before .before .before .before .before .before .if1 .left) _ _ (sym (c .before .before .before .before .examine .ensures .0 _ _ _) ∙ c .before .before .fault .given .1) (c .refuse-at .ensures)
 
 roll-back-requires : tie.Need-roll-back-requires
 roll-back-requires c κs = (
@@ -32,14 +32,17 @@ roll-back-requires c κs = (
     sym (c .before .before .before .before .before .before .before .before .before .before .before .is-open .ensures) ∙ not-false _ (c .before .before .before .before .before .before .before .before .before .before .if2 .left),
     given-pages (c .before .before .before .before .before .before .before .before .before .before .before .before .before .common-refusal .ensures) (c .before .before .before .before .before .before .before .before .before .before .before .before .if1 .left),
   ),
-  sym (c .before .before .before .before .before .before .before .fault-of .ensures [] _ []) ∙ c .before .before .before .before .before .enum-told .given .1,
+  (
+    sym (c .before .before .before .before .before .before .before .examine .ensures .0 [] _ []) ∙ c .before .before .before .before .before .enum-told .given .1,
+    c .before .before .before .before .before .before .before .examine .ensures .1 (c .before .before .before .before .before .enum-told .given .1),
+  ),
 )
 
 returns-4 : tie.Need-returns-4
 unfolding withLog
 returns-4 c =
     given-work (c .before .before .before .before .before .before .before .before .before .before .before .before .before .before .before .before .before .before .before .before .before .before .before .before .before .before .common-refusal .ensures) (c .before .before .before .before .before .before .before .before .before .before .before .before .before .before .before .before .before .before .before .before .before .before .before .before .before .if1 .left) _ _ (sym (c .before .before .before .before .before .before .before .before .before .before .before .before .before .before .before .before .before .before .before .before .before .before .before .before .is-open .ensures) ∙ not-false _ (c .before .before .before .before .before .before .before .before .before .before .before .before .before .before .before .before .before .before .before .before .before .before .before .if2 .left))
-    (sym (c .before .before .before .before .before .before .before .before .before .before .before .before .before .before .before .before .before .before .before .before .fault-of .ensures _ _ _) ∙ c .before .before .before .before .before .before .before .before .before .before .before .before .before .before .before .before .before .before .enum-told .given .1) (c .before .before .before .before .before .before .before .before .before .before .before .before .roll-back .ensures _ _) (c .before .before .before .before .without .ensures) (c .settle .ensures)
+    (sym (c .before .before .before .before .before .before .before .before .before .before .before .before .before .before .before .before .before .before .before .before .examine .ensures .0 _ _ _) ∙ c .before .before .before .before .before .before .before .before .before .before .before .before .before .before .before .before .before .before .enum-told .given .1) (c .before .before .before .before .before .before .before .before .before .before .before .before .roll-back .ensures _ _) (c .before .before .before .before .without .ensures) (c .settle .ensures)
 
 pub abort-spec : {M : Type 1} → statement M
 abort-spec =
@@ -57,7 +60,7 @@ abort-spec =
     (λ c. search needs)
     (λ c. search needs)
     returns-2
-    fault-of-requires
+    examine-requires
     (λ c. search needs)
     (λ c κs. search needs)
     (λ c. search needs)
