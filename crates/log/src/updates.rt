@@ -72,11 +72,19 @@ pub fn survey_log(
         let next = p + size;
         if size == 0 {
             let fault = Fault::BadRecord { disk, position: p };
-            return Survey { fault, count, words };
+            return Survey {
+                fault,
+                count,
+                words,
+            };
         }
         if stop < next {
             let fault = Fault::BadRecord { disk, position: p };
-            return Survey { fault, count, words };
+            return Survey {
+                fault,
+                count,
+                words,
+            };
         }
         if is_update_of(front, number) {
             note(notes, count, p);
@@ -86,7 +94,11 @@ pub fn survey_log(
         p = next;
     }
     let fault = Fault::NoFault;
-    Survey { fault, count, words }
+    Survey {
+        fault,
+        count,
+        words,
+    }
 }
 
 // The positions of a transaction's next n updates. Nothing is asked of records that a survey has seen.

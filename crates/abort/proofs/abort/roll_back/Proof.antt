@@ -31,7 +31,7 @@ undo-all-requires c κs =
     let scope-of = c .before .before .before .before .before .before .scope-of in
     let noted = noted-scope _ _ (scope-of .ensures) _ _ (pre .1 .1) in (
       rw (noted .starts)
-      (scope-undoable _ _ (pre .0 .1) (scope-of .ensures) (worldOf [] (args .pages .now) [] (args .logs .now) (args .work .now)) (pre .1 .0) (pre .0 .0) (pre .0 .2)),
+          (scope-undoable _ _ (pre .0 .1) (scope-of .ensures) (worldOf [] (args .pages .now) [] (args .logs .now) (args .work .now)) (pre .1 .0) (pre .0 .0) (pre .0 .2)),
       noted-own noted,
     )
 

@@ -154,8 +154,7 @@ loop-again c =
     let turn = c .before .before .before .before .before .before .before .before .before .before .before .before .before .before .before .before .before .before .before .before .loop in
     let some = c .before .before .before .before .before .before .before .before .before .before .before .before .before .before .before .before .before .before .before .loop-test .taken in
     let got = c .before .before .before .before .before .before .before .before .before .before .before .before .before .before .group-from .ensures in
-    let size = c .before .before .before .before .before .before .before .before .before .before .before .before .before .before .before .before .before .before .smaller .ensures in
-    (
+    let size = c .before .before .before .before .before .before .before .before .before .before .before .before .before .before .before .before .before .before .smaller .ensures in (
       omega (arith, turn .inv .0),
       group-step _ _ _ _ _ _ _ _ ok (turn .k) (omega (arith, some)) (turn .inv .1) noted (turn .inv .0) size got (not-false _ (c .before .if1 .left)) (c .before .before .before .before .before .before .before .before .before .undo-group .ensures),
     )

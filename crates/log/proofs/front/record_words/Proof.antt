@@ -12,16 +12,16 @@ returns c = (omega arith, λ s e stop p copy. measured-zero s stop p _ _ copy (c
 
 returns-2 : tie.Need-returns-2
 returns-2 c = (
-      omega arith,
-      λ s e stop p copy. measured-outside s stop p _ _ copy (c .before .before .if2 .taken) (sym (c .before .is-outside .ensures s e) ∙ c .if3 .taken),
-    )
+  omega arith,
+  λ s e stop p copy. measured-outside s stop p _ _ copy (c .before .before .if2 .taken) (sym (c .before .is-outside .ensures s e) ∙ c .if3 .taken),
+)
 
 returns-3 : tie.Need-returns-3
 returns-3 c = (
-      omega (arith, c .before .before .before .before .before .before .before .good),
-      λ s e stop p copy. measured-change s stop p _ _ copy (c .before .before .before .if1 .left) (c .before .before .if2 .taken)
-          (sym (c .before .is-outside .ensures s e) ∙ c .if3 .left),
-    )
+  omega (arith, c .before .before .before .before .before .before .before .good),
+  λ s e stop p copy. measured-change s stop p _ _ copy (c .before .before .before .if1 .left) (c .before .before .if2 .taken)
+      (sym (c .before .is-outside .ensures s e) ∙ c .if3 .left),
+)
 
 returns-4 : tie.Need-returns-4
 returns-4 c = (omega arith, λ s e stop p copy. measured-close s stop p _ _ copy (c .before .before .if1 .left) (c .before .if2 .left) (c .if4 .taken))
