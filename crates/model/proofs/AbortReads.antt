@@ -39,7 +39,7 @@ torn = play script (unformatted threePages)
 -- ring and buffer read as one log
 pub asOne : Scan
 asOne =
-    scan threePages (readLog threePages (torn .world .logs) 0 tail (bufferOf threePages (torn .world .work) 0 (fillOf (torn .core .logs) 0)))
+    scan threePages (readLog threePages (torn .world .logs) 0 tail (bufferOf (torn .world .work) 0 (fillOf (torn .core .logs) 0)))
     (endOf (torn .core .logs) 0) 0
   where
     tail : ℕ

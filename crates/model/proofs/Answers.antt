@@ -7,19 +7,19 @@ use native.Mathlib.Omega.{arith}
 use lib.Dec.{leb, eqb}
 use lib.ListN.{length}
 use borrow.Author.Tests.{lt-leb, eq-eqb, eqb-true}
-use Rattle.model.specs.declared.Stage.{Stage}
-use Rattle.model.specs.declared.Stage.the-variants.{Shut, Replaying, Open, Copying}
+use Rattle.model.specs.declared.Stage.the-variants.{Shut}
 use Rattle.model.specs.declared.Sizes.{Sizes}
 use Rattle.model.specs.declared.Core.{Core}
 use Rattle.model.specs.declared.Fault.{Fault}
 use Rattle.model.specs.declared.Fault.the-variants.{NoFault}
 use Rattle.model.specs.Below.{within}
+use Rattle.model.specs.Sizes.{total}
 use Rattle.model.specs.Anchor.{anchorWords, epochOn}
 use Rattle.model.specs.World.{World}
 use Rattle.model.specs.Memory.{lengthsRight}
 use Rattle.model.specs.State.{sound, isOpen}
 use Rattle.model.specs.Refusal.{Row, row, Result, verdict, accepted, rejected, numberOf}
-use Rattle.model.specs.Causes.{whenShut, whenReplaying, whenOpen, whenCopying, whenServing, stageForbids, anchorWrong, sizesWrong, lengthsWrong, faultRow, notOpen, spent}
+use Rattle.model.specs.Causes.{whenShut, whenReplaying, whenServing, stageForbids, anchorWrong, sizesWrong, lengthsWrong, faultRow, notOpen, spent}
 use Rattle.model.specs.Format.{formatRows}
 use Rattle.model.specs.Transaction.{beginRows, updateRows, readRows, commitRows}
 use Rattle.model.specs.Abort.{abortFault, abortRows}
@@ -30,12 +30,15 @@ use Rattle.model.specs.Reference.{Reference, taken, outcomeOf}
 use Rattle.model.specs.Machine.{Machine, Event, result, outcome, isRefused, follow, allowedAll, formatted}
 use Rattle.model.specs.History.{Told}
 use Rattle.model.specs.Promise.{Always}
-use Rattle.model.specs.Answers.{stagesOf, isFormat, ClosingTaken, OwnSlices}
+use Rattle.model.specs.Answers.{stagesOf, fitsCall, isFormat, ClosingTaken, OwnSlices}
+use Rattle.model.proofs.Sound.Test.{replay-sound}
+use Rattle.model.proofs.KeptBases.{total-kept}
 use Rattle.model.proofs.Booleans.{true-false}
 use Rattle.model.proofs.Verdict.{ascendingFrom, numbers, rejected-above}
 use Rattle.model.proofs.Restart.Progress.{Progress}
 use Rattle.model.proofs.Store.Cases.{call-cases}
 use Rattle.model.proofs.Checked.{Restartable}
+use Rattle.model.proofs.Store.Rows.{not-shut}
 use Rattle.model.proofs.Store.Checks.{step-never-bad, begin-verdict, shut-stage}
 use Rattle.model.proofs.Store.AbortRows.{abort-never-bad}
 use Rattle.model.proofs.Store.Holding.{Holding, shut, replaying, serving, holding-kept, served, replayed}
@@ -47,16 +50,17 @@ use Rattle.model.proofs.PowerLoss.{holds-after}
 record Right (c : Core) (w : World) : Type 0 where
   sound : sound c ≡ true
   restarts : Restartable w
-  lengths : whenShut (c .stage) ≡ false → lengthsRight (c .sizes) w ≡ true
+  lengths : whenShut (c .stage) ≡ false → lengthsRight (c .sizes) (c .bases .total) w ≡ true
   replays : whenReplaying (c .stage) ≡ true → Progress c w
   aborts : whenServing (c .stage) ≡ true → (number : ℕ) → abortFault c w number ≡ NoFault
 
--- the slices have the lengths that the state's sizes give
-right-lengths : {puts : Told} {m : Machine} {r : Reference} → Holding puts m r → whenShut (m .core .stage) ≡ false
-    → lengthsRight (m .core .sizes) (m .world) ≡ true
-right-lengths (shut s k n) e = true-false (ap whenShut s) e
-right-lengths (replaying p k n _) e = rw (p .sizes) (k .restartable .lengths)
-right-lengths (serving g) e = g .serving .safe .devices .lengths
+-- the slices have the lengths that the state's sizes give, and T that it keeps
+right-lengths : {puts : Told} {m : Machine} {r : Reference} → sound (m .core) ≡ true → Holding puts m r → whenShut (m .core .stage) ≡ false
+    → lengthsRight (m .core .sizes) (m .core .bases .total) (m .world) ≡ true
+right-lengths ok (shut s k n) e = true-false (ap whenShut s) e
+right-lengths ok (replaying p k n _) e =
+    rw (total-kept _ (replay-sound _ (ap whenReplaying (p .stage)) ok .bases), p .sizes) (k .restartable .lengths)
+right-lengths ok (serving g) e = rw (total-kept _ (g .serving .safe .devices .bases)) (g .serving .safe .devices .lengths)
 
 reached : (m : Machine) (s : Sizes) (budget : ℕ) → outcome m (format s budget) ≡ taken → (es : List Event)
     → allowedAll es (formatted m s budget .machine) ≡ true
@@ -66,17 +70,10 @@ reached m s budget formats es a =
     record {
       sound = sound-after m s budget formats es .1;
       restarts = holding-kept h .restartable;
-      lengths = right-lengths h;
+      lengths = right-lengths (sound-after m s budget formats es .1) h;
       replays = λ e. replayed h e .progress;
       aborts = λ e. abort-never-bad (served h e);
     }
-
--- a stage in which a call is taken that is none for a shut store
-not-shut : (allowed : Stage → Bool) → allowed Shut ≡ false → (s : Stage) → allowed s ≡ true → whenShut s ≡ false
-not-shut allowed none Shut e = true-false e none
-not-shut allowed none Replaying e = refl
-not-shut allowed none Open e = refl
-not-shut allowed none Copying e = refl
 
 module _ (c : Core) (w : World) (right : Right c w) where
   anchor-right : anchorWrong (w .anchor) ≡ false
@@ -84,11 +81,11 @@ module _ (c : Core) (w : World) (right : Right c w) where
   anchor-right = rw (eq-eqb (length (w .anchor)) anchorWords (right .restarts .image .long))
 
   -- rows 1, 2 and 5, which every call but format, restart begin and a new state has first
-  first-three : (allowed : Stage → Bool) → allowed Shut ≡ false → allowed (c .stage) ≡ true → (rest : List Row)
-      → verdict (row 1 (stageForbids allowed c) ∷ row 2 (anchorWrong (w .anchor)) ∷ row 5 (lengthsWrong (c .sizes) w) ∷ rest) ≡ verdict rest
+  first-three : (k : Call) → stagesOf k Shut ≡ false → stagesOf k (c .stage) ≡ true → (rest : List Row)
+      → verdict (row 1 (stageForbids (stagesOf k) (fitsCall k c w) c) ∷ row 2 (anchorWrong (w .anchor)) ∷ row 5 (lengthsWrong (c .sizes) (c .bases .total) w) ∷ rest) ≡ verdict rest
   unfolding verdict lengthsWrong
-  first-three allowed none stage rest =
-      rw (stage-alone allowed c (right .sound), stage, anchor-right, right .lengths (not-shut allowed none (c .stage) stage))
+  first-three k none stage rest =
+      rw (stage-alone k c w (right .sound), stage, anchor-right, right .lengths (not-shut (stagesOf k) none (c .stage) stage))
 
 -- In its stage a call's verdict is that of rows above 7.
 record Late (k : Call) (c : Core) (w : World) : Type 0 where
@@ -114,27 +111,28 @@ module _ (c : Core) (w : World) (right : Right c w) where
       record {
         rest = _;
         late = refl;
-        same = ap verdict rows ∙ first-three c w right whenReplaying refl stage _
+        same = ap verdict rows ∙ first-three c w right (restartStep source) refl stage _
             ∙ fourth _ (row 8 _ ∷ row 15 _ ∷ []) (step-never-bad c w (right .replays stage) source);
       }
 
   late-rows : (k : Call) → isFormat k ≡ false → stagesOf k (c .stage) ≡ true → Late k c w
   unfolding ascendingFrom beginRows updateRows readRows commitRows abortRows checkpointBeginRows checkpointStepRows checkpointEndRows restartStepRows restartEndRows
   late-rows (format s budget) other stage = true-false refl other
-  late-rows begin other stage = record { rest = _; late = refl; same = first-three c w right whenServing refl stage _ }
+  late-rows begin other stage = record { rest = _; late = refl; same = first-three c w right begin refl stage _ }
   late-rows (update number page slot value budget) other stage =
-      record { rest = _; late = refl; same = first-three c w right whenServing refl stage _ }
-  late-rows (look (read reader page slot)) other stage = record { rest = _; late = refl; same = first-three c w right whenServing refl stage _ }
-  late-rows (commit number budget) other stage = record { rest = _; late = refl; same = first-three c w right whenServing refl stage _ }
+      record { rest = _; late = refl; same = first-three c w right (update number page slot value budget) refl stage _ }
+  late-rows (look (read reader page slot)) other stage =
+      record { rest = _; late = refl; same = first-three c w right (look (read reader page slot)) refl stage _ }
+  late-rows (commit number budget) other stage = record { rest = _; late = refl; same = first-three c w right (commit number budget) refl stage _ }
   late-rows (abort number budget) other stage =
       record {
         rest = _;
         late = refl;
-        same = first-three c w right whenServing refl stage _ ∙ fourth _ (row 9 _ ∷ []) (right .aborts stage number);
+        same = first-three c w right (abort number budget) refl stage _ ∙ fourth _ (row 9 _ ∷ []) (right .aborts stage number);
       }
-  late-rows checkpointBegin other stage = record { rest = _; late = refl; same = first-three c w right whenOpen refl stage _ }
-  late-rows (checkpointStep budget) other stage = record { rest = _; late = refl; same = first-three c w right whenCopying refl stage _ }
-  late-rows (checkpointEnd budget) other stage = record { rest = _; late = refl; same = first-three c w right whenCopying refl stage _ }
+  late-rows checkpointBegin other stage = record { rest = _; late = refl; same = first-three c w right checkpointBegin refl stage _ }
+  late-rows (checkpointStep budget) other stage = record { rest = _; late = refl; same = first-three c w right (checkpointStep budget) refl stage _ }
+  late-rows (checkpointEnd budget) other stage = record { rest = _; late = refl; same = first-three c w right (checkpointEnd budget) refl stage _ }
   late-rows restartBegin other stage =
       record {
         rest = row 13 (spent (epochOn (w .anchor))) ∷ [];
@@ -143,7 +141,7 @@ module _ (c : Core) (w : World) (right : Right c w) where
       }
   late-rows (restartStep source) other stage = late-step (restartStep source) source refl stage
   late-rows (restartRun source most) other stage = late-step (restartRun source most) source refl stage
-  late-rows (restartEnd budget) other stage = record { rest = _; late = refl; same = first-three c w right whenReplaying refl stage _ }
+  late-rows (restartEnd budget) other stage = record { rest = _; late = refl; same = first-three c w right (restartEnd budget) refl stage _ }
   late-rows newState other stage = record { rest = []; late = refl; same = refl }
 
   own-late : (k : Call) → isFormat k ≡ false → within 2 7 (numberOf (resultOf k c w .answer)) ≡ false
@@ -178,7 +176,7 @@ unfolding formatNumber within verdict formatRows
 own-format c w right s budget =
     call-cases (λ (r : Result). formatNumber (numberOf (r .answer)) ≡ true) (format s budget) c w
     (λ number first second v.
-    format-number (stageForbids whenShut c) (sizesWrong s) (lengthsWrong s w) number first second (rw (anchor-right c w right) at v))
+    format-number (stageForbids whenShut true c) (sizesWrong s) (lengthsWrong s (total s) w) number first second (rw (anchor-right c w right) at v))
     (λ v f. refl) (λ v f. refl)
 
 -- an accepted call is not refused
@@ -195,11 +193,11 @@ module _ (c : Core) (w : World) (right : Right c w) (stage : whenServing (c .sta
 
   commit-goes : verdict (commitRows c w t) ≡ accepted
   unfolding commitRows
-  commit-goes = first-three c w right whenServing refl stage _ ∙ last-row
+  commit-goes = first-three c w right (commit t 0) refl stage _ ∙ last-row
 
   abort-goes : verdict (abortRows c w t) ≡ accepted
   unfolding abortRows
-  abort-goes = first-three c w right whenServing refl stage _ ∙ fourth c w right _ (row 9 _ ∷ []) (right .aborts stage t) ∙ last-row
+  abort-goes = first-three c w right (abort t 0) refl stage _ ∙ fourth c w right _ (row 9 _ ∷ []) (right .aborts stage t) ∙ last-row
 
 -- Commit and abort are never refused to an open transaction: see specs/Answers.antt.
 pub closing-taken : ClosingTaken

@@ -9,7 +9,7 @@ use lib.ListN.{length}
 use borrow.Author.Tests.{lt-ltb, le-ltb, ltb-true, ltb-false, leb-true, le-leb, eqb-true, eq-eqb}
 use Rattle.model.specs.declared.Sizes.{Sizes}
 use Rattle.model.specs.Below.{within, sumBelow, allBelow}
-use Rattle.model.specs.Sizes.{slotsIn, widthIn, pageWords, pageBase, total, usedEntry, unusedEntry, entryInBounds, sizesInBounds}
+use Rattle.model.specs.Sizes.{slotsIn, widthIn, pageWords, pageBase, total, usedEntry, unusedEntry, entryInBounds, countsInBounds, sizesInBounds}
 use Rattle.model.proofs.Below.{all-each, each-all}
 use Rattle.model.proofs.Booleans.{both, in-range}
 
@@ -61,7 +61,7 @@ unfolding entryInBounds
 entries s e page h = all-each (entryInBounds s) 64 e page h
 
 pub bounded : (s : Sizes) → sizesInBounds s ≡ true → Bounded s
-unfolding sizesInBounds
+unfolding sizesInBounds countsInBounds
 bounded s e =
     let pages = within 1 64 (s .pages) in
     let disks = within 1 8 (s .disks) in
@@ -90,20 +90,24 @@ bounded s e =
     }
 
 -- and back
+pub used-right : (s : Sizes) → Bounded s → (page : ℕ) → page < s .pages → usedEntry s page ≡ true
+unfolding usedEntry within
+used-right s b page h =
+    let u = b .used page h in
+    rw (le-leb _ _ (u .slots-min), le-leb _ _ (u .slots-max), le-leb _ _ (u .width-min), le-leb _ _ (u .width-max), le-leb _ _ (u .words-max))
+
 entry-in : (s : Sizes) → Bounded s → (page : ℕ) → page < 64 → entryInBounds s page ≡ true
-unfolding entryInBounds usedEntry unusedEntry within
+unfolding entryInBounds unusedEntry
 entry-in s b page h = go (ltb page (s .pages)) refl
   where
     go : (c : Bool) → ltb page (s .pages) ≡ c → cond c (usedEntry s page) (unusedEntry s page) ≡ true
-    go true e =
-        let u = b .used page (ltb-true page (s .pages) e) in
-        rw (le-leb _ _ (u .slots-min), le-leb _ _ (u .slots-max), le-leb _ _ (u .width-min), le-leb _ _ (u .width-max), le-leb _ _ (u .words-max))
+    go true e = used-right s b page (ltb-true page (s .pages) e)
     go false e =
         let z = b .unused page (ltb-false page (s .pages) e) h in
         rw (eq-eqb _ _ (z .0), eq-eqb _ _ (z .1))
 
 pub in-bounds : (s : Sizes) → Bounded s → sizesInBounds s ≡ true
-unfolding sizesInBounds within
+unfolding sizesInBounds countsInBounds within
 in-bounds s b =
     rw (
       le-leb _ _ (b .pages-min),

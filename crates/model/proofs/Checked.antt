@@ -9,7 +9,7 @@ use lib.ListN.{length}
 use borrow.Author.Tests.{ltb-false, le-ltb, eqb-true, eqb-false, eq-eqb, ne-eqb, not-false}
 use Rattle.model.specs.declared.Sizes.{Sizes}
 use Rattle.model.specs.declared.Fault.the-variants.{NoFault}
-use Rattle.model.specs.Sizes.{ringOf, sizesInBounds}
+use Rattle.model.specs.Sizes.{ringOf, sizesInBounds, total}
 use Rattle.model.specs.Anchor.{anchorWords, epochOn, sizesOn, startOn}
 use Rattle.model.specs.Scan.{end}
 use Rattle.model.specs.World.{World}
@@ -119,11 +119,11 @@ module _ (others : Sizes → Bool) (anchor logs : List ℕ) where
 -- start to its tail.
 pub record Restartable (w : World) : Type 0 where
   pub image : Checked (w .anchor) (w .logs)
-  pub lengths : lengthsRight (sizesOn (w .anchor)) w ≡ true
+  pub lengths : lengthsRight (sizesOn (w .anchor)) (total (sizesOn (w .anchor))) w ≡ true
 
 module _ (w : World) where
   abbrev wrong : Sizes → Bool
-  wrong s = lengthsWrong s w
+  wrong s = lengthsWrong s (total s) w
 
   pub restartable-rows : Restartable w → verdict (imageRows wrong (w .anchor) (w .logs)) ≡ accepted
   unfolding lengthsWrong

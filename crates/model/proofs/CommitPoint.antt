@@ -12,7 +12,7 @@ use borrow.Author.Tests.{ne-eqb, le-ltb, le-leb, lt-leb, leb-false}
 use Rattle.model.specs.declared.Sizes.{Sizes}
 use Rattle.model.specs.declared.Logs.{Logs}
 use Rattle.model.specs.declared.Core.{Core}
-use Rattle.model.specs.Sizes.{ringOf, tailWord, ringWord}
+use Rattle.model.specs.Sizes.{ringOf, tailWord, ringWord, total}
 use Rattle.model.specs.Record.{close, encode, commitKind}
 use Rattle.model.specs.World.{World, Device, logs, work, Action, store, write, cost, perform, stores, covered, run, finishes, each}
 use Rattle.model.specs.Memory.{bufferAt, bufferOf}
@@ -57,7 +57,7 @@ module _ (s : Sizes) (d p : ℕ) (ring : 0 < ringOf s d) where
 
   uncovered-buffer : (fill : ℕ) (xs : List ℕ) → Every Uncovered (buffered s d fill xs)
   unfolding buffered
-  uncovered-buffer fill xs = every-each Uncovered (write work) (λ i x. refl) (bufferAt s d + fill) xs
+  uncovered-buffer fill xs = every-each Uncovered (write work) (λ i x. refl) (bufferAt d + fill) xs
 
   low : (b : Bool) (x : ℕ) → x ≤ p → b && ltb p x ≡ false
   low true x h = le-ltb p x h
@@ -72,22 +72,22 @@ module _ (s : Sizes) (d p : ℕ) (ring : 0 < ringOf s d) where
 
 -- Words put into a buffer behind the n words that it has, and then the disk flushed: the buffered words are stored, then these, at the
 -- end p of the log, and last the tail behind them.
-module _ (s : Sizes) (l : Logs) (w : World) (d : ℕ) (words : List ℕ) (a : Arrays s l) (right : Lengths s w) (below : d < s .disks)
+module _ (s : Sizes) (l : Logs) (w : World) (d : ℕ) (words : List ℕ) (a : Arrays s l) (right : Lengths s (total s) w) (below : d < s .disks)
     (some : 0 < length words) (n m p : ℕ) (now : n ≡ fillOf l d) (next : m ≡ n + length words) (room : m ≤ 64) (at : p ≡ endOf l d) where
   abbrev old : List ℕ
-  old = bufferOf s (w .work) d n
+  old = bufferOf (w .work) d n
 
   abbrev full : World
   full = perform (buffered s d n words) w
 
   old-length : length old ≡ n
-  old-length = length-buffer s (w .work) d n (buffer-fits s w d n right below (omega arith))
+  old-length = length-buffer (w .work) d n (buffer-fits s w d n right below (omega arith))
 
-  buffer-now : bufferOf s (full .work) d m ≡ old ++ words
+  buffer-now : bufferOf (full .work) d m ≡ old ++ words
   unfolding bufferOf buffered
   buffer-now =
-      rw (perform-work (bufferAt s d + n) words w, next)
-      (part-sets-end (bufferAt s d) n (w .work) words (omega (arith, buffer-fits s w d m right below room)))
+      rw (perform-work (bufferAt d + n) words w, next)
+      (part-sets-end (bufferAt d) n (w .work) words (omega (arith, buffer-fits s w d m right below room)))
 
   fill-now : fillOf (withFill l d m) d ≡ m
   fill-now = fill-set l d m (omega (arith, a .sized .fills, a .disks))
@@ -109,7 +109,7 @@ module _ (s : Sizes) (l : Logs) (w : World) (d : ℕ) (words : List ℕ) (a : Ar
       rw (fill-now, buffer-now, tail-now, store-some s d (tailOf l d) (old ++ words) (omega arith), each-append, stop, end-old)
 
 -- A commit of transaction t, wherever its disk's log ends.
-module _ (c : Core) (w : World) (t : ℕ) (a : Arrays (c .sizes) (c .logs)) (right : Lengths (c .sizes) w)
+module _ (c : Core) (w : World) (t : ℕ) (a : Arrays (c .sizes) (c .logs)) (right : Lengths (c .sizes) (total (c .sizes)) w)
     (below : diskOf c t < c .sizes .disks) (small : fillOf (c .logs) (diskOf c t) ≤ 64) where
   abbrev s : Sizes
   s = c .sizes
@@ -156,7 +156,7 @@ module _ (c : Core) (w : World) (t : ℕ) (a : Arrays (c .sizes) (c .logs)) (rig
   fits : fillOf l d + 2 ≤ 64 → CommitPoint c w t
   unfolding commitTask append
   fits h =
-      point (buffered s d (fillOf l d) words) (tailOf l d) (bufferOf s (w .work) d (fillOf l d)) (uncovered-buffer s d p ring (fillOf l d) words)
+      point (buffered s d (fillOf l d) words) (tailOf l d) (bufferOf (w .work) d (fillOf l d)) (uncovered-buffer s d p ring (fillOf l d) words)
       (rw (le-leb (fillOf l d + length words) 64 (omega (arith, two)))
       (ap (λ (x : List Action). buffered s d (fillOf l d) words ++ x)
       (put-flush s l w d words a right below (omega (arith, two)) (fillOf l d) (fillOf l d + length words) p refl refl (omega (arith, two)) refl)))
@@ -165,14 +165,14 @@ module _ (c : Core) (w : World) (t : ℕ) (a : Arrays (c .sizes) (c .logs)) (rig
   flushing-low : Every (λ x. coversCommit s d p x ≡ false) flushing
   unfolding flush endOf
   flushing-low =
-      let long = length-buffer s (w .work) d (fillOf l d) (buffer-fits s w d (fillOf l d) right below small) in
-      uncovered-all s d p ring (tailOf l d) (bufferOf s (w .work) d (fillOf l d)) (omega arith)
+      let long = length-buffer (w .work) d (fillOf l d) (buffer-fits s w d (fillOf l d) right below small) in
+      uncovered-all s d p ring (tailOf l d) (bufferOf (w .work) d (fillOf l d)) (omega arith)
 
   -- where it does not, the buffer is flushed first, up to the record's position
   flushes : 64 < fillOf l d + 2 → CommitPoint c w t
   unfolding commitTask append
   flushes h =
-      point (flushing ++ buffered s d 0 words) (tailOf (afterFlush l d) d) (bufferOf s (perform flushing w .work) d 0)
+      point (flushing ++ buffered s d 0 words) (tailOf (afterFlush l d) d) (bufferOf (perform flushing w .work) d 0)
       (every-append _ flushing _ flushing-low (uncovered-buffer s d p ring 0 words))
       (rw (lt-leb (fillOf l d + length words) 64 (omega (arith, two)), perform-append)
       (ap (λ (x : List Action). (flushing ++ buffered s d 0 words) ++ x)
@@ -199,7 +199,7 @@ commit-point m s budget formats events a = given _ _ _ (holds-after m s budget f
         let g = served h (a .serving) in
         let below = g .serving .accounts .disks t (a .opened) in
         let devices = g .serving .safe .devices in
-        commit-ends (m .core) (m .world) t (devices .arrays) (lengths-right (m .core .sizes) (m .world) (devices .lengths)) below
+        commit-ends (m .core) (m .world) t (devices .arrays) (lengths-right (m .core .sizes) (total (m .core .sizes)) (m .world) (devices .lengths)) below
         (small-buffers (m .core) (serving-sound (m .core) (a .serving) s) (diskOf (m .core) t) below)
 
 -- A list that ends with a store, cut: it is cut before that store.

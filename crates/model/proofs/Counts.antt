@@ -61,7 +61,7 @@ restart-end-stores c w =
     simp (stores-append, stores-stored, stores-written)
     (omega (arith, stores-list (λ d. store anchor (startWord (c .epoch + 1) d) (tailOf (c .logs) d)) (λ d. refl) (c .sizes .disks)))
 
-pub restart-end-total : (c : Core) (w : World) → Lengths (c .sizes) w
+pub restart-end-total : (c : Core) (w : World) → Lengths (c .sizes) (total (c .sizes)) w
     → stores (restartEndTask c w .actions) ≡ total (c .sizes) + c .sizes .disks + 1
 restart-end-total c w right = rw (← right .pages) (restart-end-stores c w)
 
@@ -78,11 +78,11 @@ unfolding flush bufferOf part
 flush-empty s l memory disk h = rw h
 
 pub flush-stores : (s : Sizes) (l : Logs) (memory : List ℕ) (disk : ℕ) → 0 < fillOf l disk
-    → bufferAt s disk + fillOf l disk ≤ length memory → stores (flush s l memory disk) ≡ fillOf l disk + 1
+    → bufferAt disk + fillOf l disk ≤ length memory → stores (flush s l memory disk) ≡ fillOf l disk + 1
 unfolding flush
 flush-stores s l memory disk h k =
-    let n : length (bufferOf s memory disk (fillOf l disk)) ≡ fillOf l disk = length-buffer s memory disk (fillOf l disk) k in
-    stores-all s disk (tailOf l disk) (bufferOf s memory disk (fillOf l disk)) (omega arith) ∙ ap (λ (m : ℕ). m + 1) n
+    let n : length (bufferOf memory disk (fillOf l disk)) ≡ fillOf l disk = length-buffer memory disk (fillOf l disk) k in
+    stores-all s disk (tailOf l disk) (bufferOf memory disk (fillOf l disk)) (omega arith) ∙ ap (λ (m : ℕ). m + 1) n
 
 -- Checkpoint step: the words of the page.
 pub checkpoint-step-stores : (c : Core) (w : World) → length (w .pages) ≡ total (c .sizes) → lowestToCopy c < c .sizes .pages
@@ -107,7 +107,7 @@ checkpoint-end-stores c w =
 pub append-fits : (s : Sizes) (l : Logs) (memory : List ℕ) (disk : ℕ) (words : List ℕ) → fillOf l disk + length words ≤ 64
     → stores (append s l memory disk words .actions) ≡ 0
 unfolding append buffered
-append-fits s l memory disk words h = rw (le-leb _ _ h) (stores-written work (bufferAt s disk + fillOf l disk) words)
+append-fits s l memory disk words h = rw (le-leb _ _ h) (stores-written work (bufferAt disk + fillOf l disk) words)
 
 pub append-flushes : (s : Sizes) (l : Logs) (memory : List ℕ) (disk : ℕ) (words : List ℕ) → 64 < fillOf l disk + length words
     → stores (append s l memory disk words .actions) ≡ stores (flush s l memory disk)
@@ -133,7 +133,7 @@ module _ (s : Sizes) (l : Logs) (memory : List ℕ) (disk : ℕ) (words : List �
   fill-restarted over = rw (lt-leb _ _ over) (fill-set (afterFlush l disk) disk (length words) (lt-length-set (l .fills) disk 0 h))
 
 -- Commit: the buffered words, the two of its closing record, and the tail; one tail more where the record did not fit.
-module _ (c : Core) (w : World) (number : ℕ) (right : Lengths (c .sizes) w) (below : diskOf c number < c .sizes .disks)
+module _ (c : Core) {t : ℕ} (w : World) (number : ℕ) (right : Lengths (c .sizes) t w) (below : diskOf c number < c .sizes .disks)
     (eight : diskOf c number < length (c .logs .fills)) where
   abbrev disk : ℕ
   disk = diskOf c number

@@ -14,11 +14,14 @@ use Rattle.model.specs.World.{World, stores, finishes}
 use Rattle.model.specs.State.{sound}
 use Rattle.model.specs.Refusal.{verdict, accepted, Result}
 use Rattle.model.specs.Causes.{whenReplaying, stageForbids, anchorWrong, lengthsWrong, sourceMissing}
+use Rattle.model.specs.Reads.{fitsOn}
 use Rattle.model.specs.Restart.{remaining, restartStepRows, restartEndRows, restartEndTask}
 use Rattle.model.specs.Call.{Call, restartStep, restartRun, restartEnd, resultOf}
 use Rattle.model.specs.Reference.{taken, outcomeOf}
 use Rattle.model.specs.Machine.{call, result, outcome}
 use Rattle.model.specs.Promise.{Always, RestartFinishes}
+use Rattle.model.proofs.Sound.Test.{replay-sound}
+use Rattle.model.proofs.KeptBases.{total-kept}
 use Rattle.model.proofs.Below.{each-all}
 use Rattle.model.proofs.Counts.{restart-end-stores}
 use Rattle.model.proofs.Storeless.{storeless-finishes}
@@ -36,16 +39,16 @@ use Rattle.model.proofs.PowerLoss.{holds-after}
 
 module _ (c : Core) (w : World) (m : Progress c w) (ok : sound c ≡ true) (k : Restartable w) where
   -- the rows that a step, a run and an end share
-  stage-right : stageForbids whenReplaying c ≡ false
-  stage-right = stage-alone whenReplaying c ok ∙ rw (m .stage)
+  stage-right : stageForbids whenReplaying (fitsOn (sound c) c w) c ≡ false
+  stage-right = stage-alone (restartStep 0) c w ok ∙ rw (m .stage)
 
   anchor-right : anchorWrong (w .anchor) ≡ false
   unfolding anchorWrong
   anchor-right = rw (eq-eqb (length (w .anchor)) anchorWords (k .image .long))
 
-  lengths-right : lengthsWrong (c .sizes) w ≡ false
+  lengths-right : lengthsWrong (c .sizes) (c .bases .total) w ≡ false
   unfolding lengthsWrong
-  lengths-right = rw (m .sizes, k .lengths)
+  lengths-right = rw (total-kept c (replay-sound c (ap whenReplaying (m .stage)) ok .bases), m .sizes, k .lengths)
 
   step-accepted : (source : ℕ) → 0 < remaining c source → verdict (restartStepRows c w source) ≡ accepted
   unfolding verdict restartStepRows sourceMissing

@@ -29,6 +29,7 @@ pub mod Flush
 pub mod Growth
 -- The page memory, the reference, the table of transactions.
 pub mod Bounds
+pub mod KeptBases
 pub mod Geometry
 pub mod Slots
 pub mod WriteSets
@@ -41,8 +42,9 @@ pub mod Ledger
 pub mod Link
 -- Restart as a sum over records.
 pub mod Restart
--- The calls.
+-- The calls, and what they test of a state before they read it.
 pub mod Store
+pub mod Tested
 -- Every call hands back a state that passes the first test.
 pub mod Sound
 pub mod PowerLoss
@@ -50,9 +52,12 @@ pub mod CommitPoint
 pub mod Remaining
 pub mod Finish
 pub mod Answers
+-- The state by value and in the lent work memory.
+pub mod View
 -- Computed tables.
 pub mod Everything
 pub mod Play
+pub mod StageAlone
 pub mod Positions
 pub mod Blunders
 pub mod Idle

@@ -1,14 +1,14 @@
 -- The table of open transactions: who is in it after a begin, an update and a close.
 use mathlib.Core.Path.{_≡_, refl, sym, ap, _∙_}
 use mathlib.Core.Bool.{Bool, true, false, not, _&&_, _||_, or-false, and-true, and-false, true≢false}
-use Prim.Native.Nat.{ℕ, _≤_, _<_}
+use Prim.Native.Nat.{ℕ, _-_, _≤_, _<_}
 use native.Mathlib.Omega.{arith}
 use lib.Dec.{ltb, eqb}
 use borrow.Author.Tests.{ltb-true, ltb-false, lt-ltb, eqb-true, eqb-false, eq-eqb, ne-eqb, not-true}
 use Rattle.model.specs.declared.Table.{Table}
 use Rattle.model.specs.Below.{firstBelow}
-use Rattle.model.specs.State.{places, numberAt, placeOf, inTable, isOpen, withPlace, without, servedBy, diskAtPlace}
-use Rattle.model.proofs.SetPlace.{SizedTable, sized-put, put-number, other-same}
+use Rattle.model.specs.State.{places, numberAt, placeOf, inTable, isOpen, without, servedBy, diskAtPlace, reservedAt, reservedOn}
+use Rattle.model.proofs.SetPlace.{SizedTable, entered, sized-put, put-number, other-same}
 use Rattle.model.proofs.Below.{first-passes, first-before, first-unique, first-none, first-cong}
 use Rattle.model.proofs.Booleans.{both}
 
@@ -64,13 +64,13 @@ pub served-here : (t : Table) (disk i : ℕ) → (numberAt t i ≡ 0 → ⊥) �
 unfolding servedBy
 served-here t disk i some e = rw (ne-eqb _ _ some, eq-eqb _ _ e)
 
--- Place p of the table holds n, with its disk, first position and reserved words.
-module _ (t : Table) (ok : Tabled t) (p n d f r : ℕ) (h : p < places) where
+-- Place p of the table holds n, with its disk, first position and reserved words; so many words are reserved on a disk.
+module _ (t : Table) (ok : Tabled t) (p n d f r disk words : ℕ) (h : p < places) where
   abbrev pub put : Table
-  put = withPlace t p n d f r
+  put = entered t p n d f r disk words
 
   number-there : numberAt put p ≡ n
-  number-there = put-number t (ok .sized) p n d f r h
+  number-there = put-number t (ok .sized) p n d f r disk words h
 
   -- a test of the numbers that p passes before and after alike
   same-test : (u : ℕ) → eqb n u ≡ eqb (numberAt t p) u → (i : ℕ) → eqb (numberAt put i) u ≡ eqb (numberAt t i) u
@@ -78,7 +78,7 @@ module _ (t : Table) (ok : Tabled t) (p n d f r : ℕ) (h : p < places) where
     where
       go : (b : Bool) → eqb i p ≡ b → eqb (numberAt put i) u ≡ eqb (numberAt t i) u
       go true q = rw (eqb-true i p q, number-there) e
-      go false q = rw (other-same t p n d f r i (eqb-false i p q) .number)
+      go false q = rw (other-same t p n d f r disk words i (eqb-false i p q) .number)
 
   -- a number that stands at p neither before nor after has its place as before; so has one that stands there both times
   pub same-place : (u : ℕ) → eqb n u ≡ eqb (numberAt t p) u → placeOf put u ≡ placeOf t u
@@ -105,11 +105,11 @@ module _ (t : Table) (ok : Tabled t) (p n d f r : ℕ) (h : p < places) where
       where
         go : (b : Bool) → eqb i p ≡ b → numberAt put i ≡ numberAt t i
         go true q = rw (eqb-true i p q, number-there) (sym stays)
-        go false q = other-same t p n d f r i (eqb-false i p q) .number
+        go false q = other-same t p n d f r disk words i (eqb-false i p q) .number
 
     pub update-tabled : Tabled put
     update-tabled = record {
-      sized = sized-put t (ok .sized) p n d f r h;
+      sized = sized-put t (ok .sized) p n d f r disk words h;
       distinct = λ i l z. rw (update-place, same-number i) (ok .distinct i l (λ e. z (same-number i ∙ e)));
     }
 
@@ -126,7 +126,7 @@ module _ (t : Table) (ok : Tabled t) (p n d f r : ℕ) (h : p < places) where
     unfolding placeOf
     begin-place =
         first-unique _ places p h (eq-eqb _ _ number-there)
-        (λ j l. rw (other-same t p n d f r j (λ e. omega arith) .number) (nowhere j (omega arith)))
+        (λ j l. rw (other-same t p n d f r disk words j (λ e. omega arith) .number) (nowhere j (omega arith)))
 
     pub begin-other : (u : ℕ) → (u ≡ n → ⊥) → (u ≡ 0 → ⊥) → placeOf put u ≡ placeOf t u
     begin-other u ne nz = same-place u (apart u ne nz)
@@ -140,18 +140,25 @@ module _ (t : Table) (ok : Tabled t) (p n d f r : ℕ) (h : p < places) where
         go false false q z = same-open u (apart u (eqb-false u n q) (eqb-false u 0 z)) ∙ sym (or-false (isOpen t u))
 
     pub begin-tabled : Tabled put
-    begin-tabled = record { sized = sized-put t (ok .sized) p n d f r h; distinct = λ i l z. go i l z (eqb i p) refl }
+    begin-tabled = record { sized = sized-put t (ok .sized) p n d f r disk words h; distinct = λ i l z. go i l z (eqb i p) refl }
       where
         go : (i : ℕ) → i < places → (numberAt put i ≡ 0 → ⊥) → (b : Bool) → eqb i p ≡ b → placeOf put (numberAt put i) ≡ i
         go i l z true q = rw (eqb-true i p q, number-there) begin-place
         go i l z false q =
-            let same : numberAt put i ≡ numberAt t i = other-same t p n d f r i (eqb-false i p q) .number in
+            let same : numberAt put i ≡ numberAt t i = other-same t p n d f r disk words i (eqb-false i p q) .number in
             let nz : numberAt t i ≡ 0 → ⊥ = λ e. z (same ∙ e) in
             rw same
             (begin-other (numberAt t i) (λ e. true≢false (sym (eq-eqb _ _ e) ∙ nowhere i l)) nz ∙ ok .distinct i l nz)
 
 -- a close: the number leaves its place
 module _ (t : Table) (ok : Tabled t) (n : ℕ) (opened : isOpen t n ≡ true) where
+  abbrev disk : ℕ
+  disk = diskAtPlace t (placeOf t n)
+
+  -- the words reserved on its disk, without its own
+  abbrev rest : ℕ
+  rest = reservedOn t disk - reservedAt t (placeOf t n)
+
   at : placeOf t n < places
   at = open-place t n opened .1
 
@@ -163,16 +170,16 @@ module _ (t : Table) (ok : Tabled t) (n : ℕ) (opened : isOpen t n ≡ true) wh
 
   pub close-other : (u : ℕ) → (u ≡ n → ⊥) → (u ≡ 0 → ⊥) → placeOf (without t n) u ≡ placeOf t u
   unfolding without
-  close-other u ne nz = same-place t ok (placeOf t n) 0 0 0 0 at u (apart-close u ne nz)
+  close-other u ne nz = same-place t ok (placeOf t n) 0 0 0 0 disk rest at u (apart-close u ne nz)
 
   gone : (i : ℕ) → i < places → eqb (numberAt (without t n) i) n ≡ false
   unfolding without
   gone i l = go (eqb i (placeOf t n)) refl
     where
-      go : (b : Bool) → eqb i (placeOf t n) ≡ b → eqb (numberAt (withPlace t (placeOf t n) 0 0 0 0) i) n ≡ false
-      go true q = rw (eqb-true i (placeOf t n) q, put-number t (ok .sized) (placeOf t n) 0 0 0 0 at) (ne-eqb 0 n (λ e. open-place t n opened .0 (sym e)))
+      go : (b : Bool) → eqb i (placeOf t n) ≡ b → eqb (numberAt (entered t (placeOf t n) 0 0 0 0 disk rest) i) n ≡ false
+      go true q = rw (eqb-true i (placeOf t n) q, put-number t (ok .sized) (placeOf t n) 0 0 0 0 disk rest at) (ne-eqb 0 n (λ e. open-place t n opened .0 (sym e)))
       go false q =
-          rw (other-same t (placeOf t n) 0 0 0 0 i (eqb-false _ _ q) .number)
+          rw (other-same t (placeOf t n) 0 0 0 0 disk rest i (eqb-false _ _ q) .number)
           (ne-eqb _ _ (λ e. eqb-false _ _ q (sym (ok .distinct i l (λ z. open-place t n opened .0 (sym e ∙ z))) ∙ ap (placeOf t) e)))
 
   shut : isOpen (without t n) n ≡ false
@@ -181,7 +188,7 @@ module _ (t : Table) (ok : Tabled t) (n : ℕ) (opened : isOpen t n ≡ true) wh
 
   still-open : (u : ℕ) → (u ≡ n → ⊥) → (u ≡ 0 → ⊥) → isOpen (without t n) u ≡ isOpen t u
   unfolding without
-  still-open u ne nz = same-open t ok (placeOf t n) 0 0 0 0 at u (apart-close u ne nz)
+  still-open u ne nz = same-open t ok (placeOf t n) 0 0 0 0 disk rest at u (apart-close u ne nz)
 
   pub close-open : (u : ℕ) → isOpen (without t n) u ≡ (isOpen t u && not (eqb u n))
   close-open u = go (eqb u n) (eqb u 0) refl refl
@@ -194,17 +201,17 @@ module _ (t : Table) (ok : Tabled t) (n : ℕ) (opened : isOpen t n ≡ true) wh
   pub close-tabled : Tabled (without t n)
   unfolding without
   close-tabled = record {
-    sized = sized-put t (ok .sized) (placeOf t n) 0 0 0 0 at;
+    sized = sized-put t (ok .sized) (placeOf t n) 0 0 0 0 disk rest at;
     distinct = λ i l z. go i l z (eqb i (placeOf t n)) refl;
   }
     where
       left : Table
-      left = withPlace t (placeOf t n) 0 0 0 0
+      left = entered t (placeOf t n) 0 0 0 0 disk rest
 
       go : (i : ℕ) → i < places → (numberAt left i ≡ 0 → ⊥) → (b : Bool) → eqb i (placeOf t n) ≡ b → placeOf left (numberAt left i) ≡ i
-      go i l z true q = absurd (z (rw (eqb-true i (placeOf t n) q) (put-number t (ok .sized) (placeOf t n) 0 0 0 0 at)))
+      go i l z true q = absurd (z (rw (eqb-true i (placeOf t n) q) (put-number t (ok .sized) (placeOf t n) 0 0 0 0 disk rest at)))
       go i l z false q =
-          let same : numberAt left i ≡ numberAt t i = other-same t (placeOf t n) 0 0 0 0 i (eqb-false _ _ q) .number in
+          let same : numberAt left i ≡ numberAt t i = other-same t (placeOf t n) 0 0 0 0 disk rest i (eqb-false _ _ q) .number in
           let nz : numberAt t i ≡ 0 → ⊥ = λ e. z (same ∙ e) in
           let ne : numberAt t i ≡ n → ⊥ = λ e. eqb-false _ _ q (sym (ok .distinct i l nz) ∙ ap (placeOf t) e) in
-          rw same (same-place t ok (placeOf t n) 0 0 0 0 at (numberAt t i) (apart-close (numberAt t i) ne nz) ∙ ok .distinct i l nz)
+          rw same (same-place t ok (placeOf t n) 0 0 0 0 disk rest at (numberAt t i) (apart-close (numberAt t i) ne nz) ∙ ok .distinct i l nz)

@@ -46,7 +46,7 @@ unformatted s =
             pages = replicate (total s) 7;
             backups = replicate (2 * total s) 7;
             logs = replicate (logWords s) 7;
-            work = replicate (workWords s) 7;
+            work = replicate (workWords s (total s)) 7;
           };
     }
 

@@ -60,27 +60,34 @@ tailAt t =
     alternating zero = []
     alternating (suc n) = 2 ∷ 1 ∷ alternating n
 
--- what the table computes, in 01's order
-pub positions : List ℕ
-positions =
+-- what the table computes, in 01's order, in three parts: one check of all of it would be too long
+unfoldable first : List ℕ
+first =
     -- P1 format makes 152 stores
     storesOf (resultOf (format (small 1) plenty) newCore (unformatted (small 1) .world) .answer)
     -- P2 update to 12 logs 14; word 0 is 65,536
-    ∷ getD (play twelve setUp .world .work) (bufferAt (small 1) 0 + 3) 0
-    ∷ getD (play twelve setUp .world .work) (bufferAt (small 1) 0) 0
+    ∷ getD (play twelve setUp .world .work) (bufferAt 0 + 3) 0
+    ∷ getD (play twelve setUp .world .work) (bufferAt 0) 0
     -- P3 commit cut at 6: restart gives 2. P4 allowance 7: gives 12.
     ∷ gives 0 (play (twelve ++ does (commit 2 6) ∷ []) setUp)
     ∷ gives 0 (play (twelve ++ does (commit 2 7) ∷ []) setUp)
+    ∷ []
+
+unfoldable second : List ℕ
+second =
     -- P5 update to 12, mark, abort, then copy and close: gives 2
-    ∷ gives 0 (play (twelve ++ mark ∷ does (abort 2 plenty) ∷ copy ∷ finish plenty ∷ []) setUp)
+    gives 0 (play (twelve ++ mark ∷ does (abort 2 plenty) ∷ copy ∷ finish plenty ∷ []) setUp)
     -- P6 update to 12, mark, copy and close, cut: gives 2
     ∷ gives 0 (play (twelve ++ mark ∷ copy ∷ finish plenty ∷ []) setUp)
     -- P7 page copied, then update to 12 and commit, then close: gives 12. P8 the same, close cut before its last store: gives 12.
     ∷ gives 0 (play (mark ∷ copy ∷ twelve ++ does (commit 2 plenty) ∷ finish plenty ∷ []) setUp)
     ∷ gives 0 (play (mark ∷ copy ∷ twelve ++ does (commit 2 plenty) ∷ finish 1 ∷ []) setUp)
     ∷ []
+
+unfoldable third : List ℕ
+third =
     -- P9 freshly formatted, one transaction: 15 updates fit, each answers 0. P10 the 16th answers 14.
-    ++ numbers (updates 16) (play (does begin ∷ []) fresh)
+    numbers (updates 16) (play (does begin ∷ []) fresh)
     -- P11 slot length 32 accepted, 33 answers 4
     ++ answers [] (format (small 32) plenty) (unformatted (small 32))
     ∷ answers [] (format (small 33) plenty) (unformatted (small 33))
@@ -89,6 +96,21 @@ positions =
     ∷ numberOf (resultOf restartBegin newCore (tailAt 129) .answer)
     ∷ []
 
+first-is : first ≡ 152 ∷ 14 ∷ 65536 ∷ 2 ∷ 12 ∷ []
+unfolding everything first small fresh setUp twelve does play unformatted drained restartBy gives
+first-is = refl
+
+second-is : second ≡ 2 ∷ 2 ∷ 12 ∷ 12 ∷ []
+unfolding everything second small fresh setUp twelve does play unformatted drained restartBy gives
+second-is = refl
+
+third-is : third ≡ replicate 15 0 ++ 14 ∷ 0 ∷ 4 ∷ 0 ∷ 6 ∷ []
+unfolding everything third small fresh updates tailAt does play numbers answers unformatted
+third-is = refl
+
+pub positions : List ℕ
+positions = first ++ (second ++ third)
+
 pub positions-from-play : positions ≡ 152 ∷ 14 ∷ 65536 ∷ 2 ∷ 12 ∷ 2 ∷ 2 ∷ 12 ∷ 12 ∷ [] ++ replicate 15 0 ++ 14 ∷ 0 ∷ 4 ∷ 0 ∷ 6 ∷ []
-unfolding everything positions small fresh setUp twelve updates tailAt does play numbers answers unformatted drained restartBy gives
-positions-from-play = refl
+unfolding positions
+positions-from-play = rw (first-is, second-is, third-is)

@@ -104,7 +104,7 @@ power-loss = always _ given
         → result m (restartEnd budget) .world .pages ≡ wordsIn (r .committed)
     given puts m r h budget o =
         let t = taken-call (restartEnd budget) (m .core) (m .world) o in
-        let k = replayed h (row-one whenReplaying (m .core) _ (t .accepted)) in
+        let k = replayed h (row-one whenReplaying _ (m .core) _ (t .accepted)) in
         end-gives (m .core) (m .world) budget (k .progress) o .0 ∙ k .kept .image
 
 -- A restart begin of a shut store is refused for its number only.

@@ -4,9 +4,9 @@ use mathlib.Core.Bool.{cond}
 use Prim.Native.Nat.{ℕ, _+_, _≤_, _<_}
 use borrow.Author.Tests.{eq-eqb, ne-eqb}
 use Rattle.model.specs.declared.Table.{Table}
-use Rattle.model.specs.State.{places, numberAt, diskAtPlace, reservedAt, withPlace, servedBy, reservedOn}
+use Rattle.model.specs.State.{places, numberAt, diskAtPlace, reservedAt, servedBy, reservedFor}
 use Rattle.model.proofs.Below.{term-le-sum, sum-changed}
-use Rattle.model.proofs.SetPlace.{other-same}
+use Rattle.model.proofs.SetPlace.{entered, other-same}
 use Rattle.model.proofs.Places.{served-here}
 
 -- what a place adds to the words reserved on a disk
@@ -28,17 +28,17 @@ module _ (t : Table) (disk i : ℕ) where
     unfolding reservedBy servedBy
     other-by ne = rw (ne-eqb _ _ some, ne-eqb _ _ ne)
 
-  pub by-le : i < places → reservedBy t disk i ≤ reservedOn t disk
-  unfolding reservedBy reservedOn
+  pub by-le : i < places → reservedBy t disk i ≤ reservedFor t disk
+  unfolding reservedBy reservedFor
   by-le h = term-le-sum (λ j. cond (servedBy t disk j) (reservedAt t j) 0) places i h
 
 -- What is reserved on a disk changes by what the place added before and adds now.
-pub reserved-changed : (t : Table) (p n d f r : ℕ) → p < places → (disk : ℕ)
-    → reservedOn (withPlace t p n d f r) disk + reservedBy t disk p
-    ≡ reservedOn t disk + reservedBy (withPlace t p n d f r) disk p
-unfolding reservedOn reservedBy servedBy
-reserved-changed t p n d f r h disk =
+pub reserved-changed : (t : Table) (p n d f r e m : ℕ) → p < places → (disk : ℕ)
+    → reservedFor (entered t p n d f r e m) disk + reservedBy t disk p
+    ≡ reservedFor t disk + reservedBy (entered t p n d f r e m) disk p
+unfolding reservedFor reservedBy servedBy
+reserved-changed t p n d f r e m h disk =
     sum-changed _ _ places p h
     (λ i ne.
-    let same = other-same t p n d f r i ne in
+    let same = other-same t p n d f r e m i ne in
     rw (same .number, same .disk, same .reserved))

@@ -5,4 +5,5 @@ pub mod Promises
 pub mod Table
 pub mod Commit
 pub mod Answers
+pub mod OtherWork
 pub mod Converse

@@ -16,9 +16,10 @@ use Rattle.model.specs.Decode.{readLog}
 use Rattle.model.specs.Scan.{Scan, end, ringThenBuffer, faultIn, Update, updatesIn, updateWords}
 use Rattle.model.specs.World.{World, Action, write, pages, each, perform}
 use Rattle.model.specs.Memory.{bufferOf, copyOf}
-use Rattle.model.specs.State.{withLog, tailOf, fillOf, endOf, placeOf, isOpen, firstAt, reservedAt, hasUpdate, without}
+use Rattle.model.specs.State.{sound, withLog, tailOf, fillOf, endOf, placeOf, isOpen, firstAt, reservedAt, hasUpdate, without}
 use Rattle.model.specs.Refusal.{Row, row, Task}
 use Rattle.model.specs.Causes.{whenServing, stageForbids, anchorWrong, lengthsWrong, notOpen, faultRow}
+use Rattle.model.specs.Reads.{fitsOn}
 use Rattle.model.specs.Append.{Appended, append}
 use Rattle.model.specs.Transaction.{diskOf}
 
@@ -26,7 +27,7 @@ use Rattle.model.specs.Transaction.{diskOf}
 unfoldable pub abortScan : Core → World → ℕ → Scan
 abortScan c w number =
     cond (isOpen (c .table) number && hasUpdate (c .table) place)
-    (ringThenBuffer (c .sizes) (readLog (c .sizes) (w .logs) disk tail (bufferOf (c .sizes) (w .work) disk (fillOf (c .logs) disk)))
+    (ringThenBuffer (c .sizes) (readLog (c .sizes) (w .logs) disk tail (bufferOf (w .work) disk (fillOf (c .logs) disk)))
     tail
     (endOf (c .logs) disk)
     (firstAt (c .table) place))
@@ -59,7 +60,7 @@ abortFault c w number =
 
 unfoldable pub abortRows : Core → World → ℕ → List Row
 abortRows c w number =
-    row 1 (stageForbids whenServing c) ∷ row 2 (anchorWrong (w .anchor)) ∷ row 5 (lengthsWrong (c .sizes) w)
+    row 1 (stageForbids whenServing (fitsOn (sound c) c w) c) ∷ row 2 (anchorWrong (w .anchor)) ∷ row 5 (lengthsWrong (c .sizes) (c .bases .total) w)
     ∷ faultRow (abortFault c w number) ∷ row 9 (notOpen c number) ∷ []
 
 -- a difference XORed into the page memory at a place

@@ -16,6 +16,7 @@ use Rattle.model.specs.Anchor.{sizesOn, startOn}
 use Rattle.model.specs.World.{World, stores}
 use Rattle.model.specs.State.{newCore, sound, isOpen}
 use Rattle.model.specs.Refusal.{Row, numberOf, storesOf, firstOf, secondOf}
+use Rattle.model.specs.Reads.{countsFit, slotFits, homeFits, updateFits, fitsOn}
 use Rattle.model.specs.Causes.{whenShut, whenReplaying, whenOpen, whenCopying, whenServing, stageForbids, wrongTail, faultFrom}
 use Rattle.model.specs.Abort.{abortFault}
 use Rattle.model.specs.Restart.{stepFault}
@@ -45,6 +46,26 @@ stagesOf (restartStep source) stage = whenReplaying stage
 stagesOf (restartRun source most) stage = whenReplaying stage
 stagesOf (restartEnd budget) stage = whenReplaying stage
 stagesOf newState stage = true
+
+-- what a call tests of a state that no call made (specs/Reads.antt)
+abbrev pub fitsLook : Look → Core → World → Bool
+fitsLook (read reader page slot) c w = fitsOn (slotFits page slot c) c w
+
+abbrev pub fitsCall : Call → Core → World → Bool
+fitsCall (format s budget) c w = true
+fitsCall begin c w = countsFit c
+fitsCall (update number page slot value budget) c w = fitsOn (updateFits number page slot c) c w
+fitsCall (look q) c w = fitsLook q c w
+fitsCall (commit number budget) c w = fitsOn (homeFits number c) c w
+fitsCall (abort number budget) c w = fitsOn (sound c) c w
+fitsCall checkpointBegin c w = fitsOn (sound c) c w
+fitsCall (checkpointStep budget) c w = fitsOn (sound c) c w
+fitsCall (checkpointEnd budget) c w = fitsOn (sound c) c w
+fitsCall restartBegin c w = true
+fitsCall (restartStep source) c w = fitsOn (sound c) c w
+fitsCall (restartRun source most) c w = fitsOn (sound c) c w
+fitsCall (restartEnd budget) c w = fitsOn (sound c) c w
+fitsCall newState c w = true
 
 abbrev pub isFormat : Call → Bool
 isFormat (format s budget) = true
@@ -86,11 +107,11 @@ pub data Made : Core → Type 0 where
   new : Made newCore
   by : (k : Call) (w : World) {c : Core} → Made c → Made (resultOf k c w .core)
 
--- Every state that is made passes the test of row 1 (specs/State.antt), so for these row 1 is 01's: "stage does not allow the call". On
--- whatever slices, a call answers 1 exactly where the stage is none of the call's.
+-- Every state that is made passes the tests of row 1 (specs/State.antt, specs/Reads.antt), so for these row 1 is 01's: "stage does not
+-- allow the call". On whatever slices, a call answers 1 exactly where the stage is none of the call's.
 pub record StageAlone (c : Core) : Type 0 where
   pub sound : sound c ≡ true
-  pub row : (allowed : Stage → Bool) → stageForbids allowed c ≡ not (allowed (c .stage))
+  pub row : (k : Call) (w : World) → stageForbids (stagesOf k) (fitsCall k c w) c ≡ not (stagesOf k (c .stage))
   pub answers : (k : Call) (w : World) → eqb (numberOf (resultOf k c w .answer)) 1 ≡ not (stagesOf k (c .stage))
 
 unfoldable pub MadeSound : Type 0

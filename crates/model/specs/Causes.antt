@@ -19,7 +19,7 @@ use Rattle.model.specs.Decode.{readLog}
 use Rattle.model.specs.Scan.{Scan, scan, faultIn}
 use Rattle.model.specs.World.{World}
 use Rattle.model.specs.Memory.{ownerOf, lengthsRight}
-use Rattle.model.specs.State.{places, limit, sound, inTable, isOpen, placeOf}
+use Rattle.model.specs.State.{places, limit, inTable, isOpen, placeOf, slotPlace}
 use Rattle.model.specs.Refusal.{Row}
 
 -- the stages that a call is for
@@ -53,9 +53,9 @@ whenServing Replaying = false
 whenServing Open = true
 whenServing Copying = true
 
--- 1. "stage does not allow the call". A state that no call made is in no stage.
-unfoldable pub stageForbids : (Stage → Bool) → Core → Bool
-stageForbids allowed c = not (allowed (c .stage) && sound c)
+-- 1. "stage does not allow the call". A state that no call made is in no stage: `fits` is what the call tests of it (specs/Reads.antt).
+unfoldable pub stageForbids : (Stage → Bool) → (fits : Bool) → Core → Bool
+stageForbids allowed fits c = not (allowed (c .stage) && fits)
 
 -- 2. "anchor is not 148 words"
 unfoldable pub anchorWrong : (anchor : List ℕ) → Bool
@@ -70,8 +70,8 @@ unfoldable pub sizesWrong : Sizes → Bool
 sizesWrong s = not (sizesInBounds s)
 
 -- 5. "another lent slice has the wrong length"
-unfoldable pub lengthsWrong : Sizes → World → Bool
-lengthsWrong s w = not (lengthsRight s w)
+unfoldable pub lengthsWrong : Sizes → (t : ℕ) → World → Bool
+lengthsWrong s t w = not (lengthsRight s t w)
 
 -- 6. "tail below start, more than W above it, or above 2^62"; returned: "lowest such disk". `start` gives each disk's start,
 -- the current row's in a restart: a parameter, so that logs can be read from the older row's.
@@ -138,8 +138,10 @@ valueWrong s page value = not (eqb (length value) (widthIn s page))
 -- the table, so closing a transaction releases its slots.
 unfoldable pub locked : Core → World → ℕ → ℕ → ℕ → Bool
 locked c w number page slot =
-    inTable (c .table) (ownerOf (c .sizes) (w .work) page slot)
-    && not (eqb (ownerOf (c .sizes) (w .work) page slot) number)
+    inTable (c .table) owner && not (eqb owner number)
+  where
+    owner : ℕ
+    owner = ownerOf (c .sizes) (w .work) (slotPlace c page slot)
 
 -- 12. "sixteen already open"
 unfoldable pub tableFull : Core → Bool

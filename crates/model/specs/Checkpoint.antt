@@ -14,9 +14,10 @@ use Rattle.model.specs.Sizes.{pageBase, pageWords}
 use Rattle.model.specs.Anchor.{epochWord, startWord, backupAt}
 use Rattle.model.specs.World.{World, Action, store, write, anchor, backups, work, each}
 use Rattle.model.specs.Memory.{copyAt}
-use Rattle.model.specs.State.{places, withCheckpoint, switchedTo, endOf, servedBy, firstAt, hasUpdate}
+use Rattle.model.specs.State.{sound, places, withCheckpoint, switchedTo, endOf, servedBy, firstAt, hasUpdate}
 use Rattle.model.specs.Refusal.{Row, row, Task}
 use Rattle.model.specs.Causes.{whenOpen, whenCopying, stageForbids, anchorWrong, lengthsWrong, spent}
+use Rattle.model.specs.Reads.{fitsOn}
 use Rattle.model.specs.Append.{flush}
 
 -- eight numbers: f's below n, and 0 from there on
@@ -30,7 +31,7 @@ perDisk s f = eightBelow (s .disks) f
 -- Begin (open): "number n = c + 1; each disk's end (tail plus buffered) is remembered".
 unfoldable pub checkpointBeginRows : Core → World → List Row
 checkpointBeginRows c w =
-    row 1 (stageForbids whenOpen c) ∷ row 2 (anchorWrong (w .anchor)) ∷ row 5 (lengthsWrong (c .sizes) w) ∷ row 13 (spent (c .epoch)) ∷ []
+    row 1 (stageForbids whenOpen (fitsOn (sound c) c w) c) ∷ row 2 (anchorWrong (w .anchor)) ∷ row 5 (lengthsWrong (c .sizes) (c .bases .total) w) ∷ row 13 (spent (c .epoch)) ∷ []
 
 unfoldable pub checkpointBeginTask : Core → World → Task
 checkpointBeginTask c w =
@@ -51,7 +52,7 @@ lowestToCopy c = firstBelow (toCopy c) (c .sizes .pages)
 
 unfoldable pub checkpointStepRows : Core → World → List Row
 checkpointStepRows c w =
-    row 1 (stageForbids whenCopying c) ∷ row 2 (anchorWrong (w .anchor)) ∷ row 5 (lengthsWrong (c .sizes) w)
+    row 1 (stageForbids whenCopying (fitsOn (sound c) c w) c) ∷ row 2 (anchorWrong (w .anchor)) ∷ row 5 (lengthsWrong (c .sizes) (c .bases .total) w)
     ∷ row 15 (leb (c .sizes .pages) (lowestToCopy c)) ∷ []
 
 unfoldable pub copyPage : Core → World → ℕ → List Action
@@ -81,7 +82,7 @@ newStart c disk = leastFirst (c .table) disk (getD (c .checkpoint .ends) disk 0)
 
 unfoldable pub checkpointEndRows : Core → World → List Row
 checkpointEndRows c w =
-    row 1 (stageForbids whenCopying c) ∷ row 2 (anchorWrong (w .anchor)) ∷ row 5 (lengthsWrong (c .sizes) w)
+    row 1 (stageForbids whenCopying (fitsOn (sound c) c w) c) ∷ row 2 (anchorWrong (w .anchor)) ∷ row 5 (lengthsWrong (c .sizes) (c .bases .total) w)
     ∷ row 15 (ltb (lowestToCopy c) (c .sizes .pages)) ∷ []
 
 unfoldable pub checkpointEndTask : Core → World → Task

@@ -8,7 +8,7 @@
 --   held, holder                          locked, owner
 --   owed                                  reserved
 --   retained log                          retained; the part of the log from a disk's start to its tail
---   state (with the lent work memory)     Core, by value; World .work, lent
+--   state (with the lent work memory)     Carried, by value, and the head of World .work, lent; Core is the view of both
 -- Page, slot, anchor, backup, log disk, ring, tail, start, end, stage, update, compensation, commit, abort, checkpoint, restart,
 -- source and step are 01's.
 -- Counting and words.
@@ -28,6 +28,7 @@ pub mod State
 pub mod Room
 pub mod Refusal
 pub mod Causes
+pub mod Reads
 -- "Calls".
 pub mod Append
 pub mod Format
@@ -36,6 +37,9 @@ pub mod Abort
 pub mod Checkpoint
 pub mod Restart
 pub mod Call
+-- The state by value and in the lent work memory.
+pub mod View
+pub mod Fields
 -- What a restart makes of the devices; "The book"; lists of calls; the promise.
 pub mod Image
 pub mod Reference

@@ -51,7 +51,7 @@ pub record Stored (t : Told) (w : World) (disk : ℕ) : Type 0 where
 -- the log from the start to the end, the buffer included
 unfoldable pub logScan : Core → World → ℕ → Scan
 logScan c w disk =
-    scan (c .sizes) (readLog (c .sizes) (w .logs) disk (tailOf (c .logs) disk) (bufferOf (c .sizes) (w .work) disk (fillOf (c .logs) disk)))
+    scan (c .sizes) (readLog (c .sizes) (w .logs) disk (tailOf (c .logs) disk) (bufferOf (w .work) disk (fillOf (c .logs) disk)))
     (endOf (c .logs) disk) (startOf (c .logs) disk)
 
 -- An abort reads the records from its transaction's first on, and no others.
@@ -65,7 +65,7 @@ pub record AbortReads (c : Core) (w : World) (disk number : ℕ) (records : List
 -- While the store is open or copying nothing is lost: the rest is in the buffer, and the log from the start to the end reads as all
 -- records put since the start. What an abort takes back are the updates that were put under its number.
 pub record Buffered (t : Told) (c : Core) (w : World) (disk : ℕ) (stretch rest : List Record) : Type 0 where
-  pub buffer : bufferOf (c .sizes) (w .work) disk (fillOf (c .logs) disk) ≡ encodeAll rest
+  pub buffer : bufferOf (w .work) disk (fillOf (c .logs) disk) ≡ encodeAll rest
   pub reads : logScan c w disk ≡ placed (startOf (c .logs) disk) (stretch ++ rest)
   pub aborts : (number : ℕ) → isOpen (c .table) number ≡ true → diskOf c number ≡ disk
       → hasUpdate (c .table) (placeOf (c .table) number) ≡ true → AbortReads c w disk number (stretch ++ rest)

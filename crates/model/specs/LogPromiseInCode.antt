@@ -6,6 +6,7 @@ use mathlib.Core.List.{List, [], _∷_}
 use mathlib.Core.Bool.{true}
 use Rattle.model.specs.declared.Stage.the-variants.{Replaying}
 use Rattle.model.specs.declared.Sizes.{Sizes}
+use Rattle.model.specs.declared.Core.{Core}
 use Rattle.model.specs.Anchor.{sizesOn}
 use Rattle.model.specs.State.{endOf, isOpen}
 use Rattle.model.specs.Refusal.{numberOf}
@@ -13,19 +14,19 @@ use Rattle.model.specs.Causes.{whenServing, tailOn}
 use Rattle.model.specs.Transaction.{diskOf}
 use Rattle.model.specs.Call.{commit, restartBegin}
 use Rattle.model.specs.Reference.{taken, interrupted}
-use Rattle.model.specs.Machine.{Machine, Run}
+use Rattle.model.specs.Machine.{Machine}
 use Rattle.model.specs.History.{Told, nothingTold, toldBy}
 use Rattle.model.specs.LogPromise.{LogOf, Truth, Closable, BackupStep}
-use Rattle.model.specs.Trace.{Observed, seen, EventInCode, callInCode, lentInCode, scrambleInCode, On, afterInCode, followInCode, AllowedAllInCode, Formats, formattedInCode, AlwaysInCode}
+use Rattle.model.specs.Trace.{viewOf, Observed, machineAfter, seen, EventInCode, callInCode, lentInCode, scrambleInCode, On, RunInCode, viewRun, afterInCode, followInCode, AllowedAllInCode, Formats, formattedInCode, AlwaysInCode}
 
--- what the observed calls put into the logs (specs/History.antt), told by what each of them answered and by the run before it; a call
--- that was lent other slices is refused and puts nothing
-abbrev pub toldInCode : EventInCode → Run → Told → Told
-toldInCode (callInCode o) x t = toldBy (seen o) (o .call) x t
+-- what the observed calls put into the logs (specs/History.antt), told by what each of them answered and by the view of the run before
+-- it; a call that was lent other slices is refused and puts nothing
+abbrev pub toldInCode : EventInCode → RunInCode → Told → Told
+toldInCode (callInCode o) x t = toldBy (seen o) (o .call) (viewRun x) t
 toldInCode (lentInCode o) x t = t
 toldInCode (scrambleInCode pages work) x t = t
 
-unfoldable pub historyInCode : List EventInCode → Run → Told → Told
+unfoldable pub historyInCode : List EventInCode → RunInCode → Told → Told
 historyInCode [] x t = t
 historyInCode (e ∷ es) x t = historyInCode es (afterInCode e x) (toldInCode e x t)
 
@@ -34,7 +35,7 @@ unfoldable pub LogKeptInCode : Type 0
 LogKeptInCode =
     (o : Observed) (s : Sizes) → Formats o s
     → (events : List EventInCode) → AllowedAllInCode events (formattedInCode o s)
-    → let n : Machine = followInCode events (formattedInCode o s) .machine in
+    → let n : Machine = viewOf (followInCode events (formattedInCode o s) .machine) in
     let t : Told = historyInCode events (formattedInCode o s) nothingTold in
     (disk : ℕ) → disk < sizesOn (n .world .anchor) .disks → LogOf n t disk
 
@@ -42,12 +43,14 @@ LogKeptInCode =
 -- calls left.
 unfoldable pub BackupStepsInCode : Type 0
 BackupStepsInCode =
-    AlwaysInCode λ m r. ((o : Observed) → o .call ≡ restartBegin → On m o → seen o ≡ taken → o .reply .core .replay .page ≡ 0)
-    × (m .core .stage ≡ Replaying → m .core .replay .page < m .core .sizes .pages → BackupStep (m .core) (m .world) (m .core .replay .page))
+    AlwaysInCode λ m r.
+    let v : Machine = viewOf m in
+    ((o : Observed) → o .call ≡ restartBegin → On m o → seen o ≡ taken → viewOf (machineAfter o) .core .replay .page ≡ 0)
+    × (m .carried .stage ≡ Replaying → v .core .replay .page < m .carried .pages → BackupStep (v .core) (v .world) (v .core .replay .page))
 
 -- The state that the code hands back says what is true of the words that it left.
 unfoldable pub StateTrueInCode : Type 0
-StateTrueInCode = AlwaysInCode λ m r. whenServing (m .core .stage) ≡ true → Truth m
+StateTrueInCode = AlwaysInCode λ m r. whenServing (m .carried .stage) ≡ true → Truth (viewOf m)
 
 -- No call of the code on the slices as they were left answers 7.
 unfoldable pub NeverMalformedInCode : Type 0
@@ -56,13 +59,15 @@ NeverMalformedInCode = AlwaysInCode λ m r. (o : Observed) → On m o → number
 -- Commit and abort always fit, by the state that the code hands back.
 unfoldable pub ClosingFitsInCode : Type 0
 ClosingFitsInCode =
-    AlwaysInCode λ m r. whenServing (m .core .stage) ≡ true → (t : ℕ) → isOpen (m .core .table) t ≡ true → Closable (m .core) t
+    AlwaysInCode λ m r. whenServing (m .carried .stage) ≡ true
+    → (t : ℕ) → isOpen (viewOf m .core .table) t ≡ true → Closable (viewOf m .core) t
 
 -- The commit point. The commit record goes to position p, the end of the log of the transaction's disk. A commit of the code that is
 -- taken leaves that disk's tail word at p + 2, behind the record; one that is cut, at whichever store, leaves it at p or below.
 unfoldable pub CommitPointsInCode : Type 0
 CommitPointsInCode =
     AlwaysInCode λ m r. (o : Observed) (t budget : ℕ) → o .call ≡ commit t budget → On m o
-    → let p : ℕ = endOf (m .core .logs) (diskOf (m .core) t) in
-    let tail : ℕ = tailOn (m .core .sizes) (o .exit) (diskOf (m .core) t) in
+    → let c : Core = viewOf m .core in
+    let p : ℕ = endOf (c .logs) (diskOf c t) in
+    let tail : ℕ = tailOn (c .sizes) (o .exit) (diskOf c t) in
     (seen o ≡ taken → tail ≡ p + 2) × (seen o ≡ interrupted → tail ≤ p)

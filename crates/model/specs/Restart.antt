@@ -1,7 +1,7 @@
 -- 01, "Calls": restart begin, step and end.
 use Prim.Native.Nat.{ℕ, zero, suc, _+_, _-_}
 use mathlib.Core.List.{List, [], _∷_, _++_}
-use mathlib.Core.Bool.{Bool, false, cond, not, _&&_}
+use mathlib.Core.Bool.{Bool, true, false, cond, not, _&&_}
 use lib.ListN.{getD, set, replicate}
 use lib.Dec.{ltb, eqb}
 use Rattle.model.specs.declared.Sizes.{Sizes}
@@ -20,9 +20,10 @@ use Rattle.model.specs.Record.{inBackup}
 use Rattle.model.specs.Decode.{readLog, decodeAt, span}
 use Rattle.model.specs.Scan.{scan, fateIn}
 use Rattle.model.specs.World.{World, store, write, anchor, backups, pages, perform, each}
-use Rattle.model.specs.State.{openCore, replayingCore, withReplay, tailOf}
+use Rattle.model.specs.State.{sound, openCore, replayingCore, withReplay, tailOf}
 use Rattle.model.specs.Refusal.{Row, row, Verdict, accepted, rejected, verdict, Task}
 use Rattle.model.specs.Causes.{whenShut, whenReplaying, stageForbids, anchorWrong, unformatted, sizesWrong, lengthsWrong, tailOn, faultRow, logRows, sourceMissing, spent}
+use Rattle.model.specs.Reads.{fitsOn}
 use Rattle.model.specs.Abort.{xorIn}
 use Rattle.model.specs.Format.{freshMemory}
 use Rattle.model.specs.Checkpoint.{perDisk}
@@ -36,7 +37,7 @@ imageRows others a logs =
 -- Begin (shut): "all checks; page memory zeroed".
 unfoldable pub restartBeginRows : Core → World → List Row
 restartBeginRows c w =
-    row 1 (stageForbids whenShut c) ∷ imageRows (λ s. lengthsWrong s w) (w .anchor) (w .logs) ++ row 13 (spent (epochOn (w .anchor))) ∷ []
+    row 1 (stageForbids whenShut true c) ∷ imageRows (λ s. lengthsWrong s (total s) w) (w .anchor) (w .logs) ++ row 13 (spent (epochOn (w .anchor))) ∷ []
 
 unfoldable pub restartBeginTask : World → Task
 restartBeginTask w =
@@ -93,7 +94,7 @@ stepFault c w source =
 
 unfoldable pub restartStepRows : Core → World → ℕ → List Row
 restartStepRows c w source =
-    row 1 (stageForbids whenReplaying c) ∷ row 2 (anchorWrong (w .anchor)) ∷ row 5 (lengthsWrong (c .sizes) w)
+    row 1 (stageForbids whenReplaying (fitsOn (sound c) c w) c) ∷ row 2 (anchorWrong (w .anchor)) ∷ row 5 (lengthsWrong (c .sizes) (c .bases .total) w)
     ∷ faultRow (stepFault c w source) ∷ row 8 (sourceMissing (c .sizes) source) ∷ row 15 (eqb (remaining c source) 0) ∷ []
 
 -- "A backup step XORs its next page in."
@@ -146,7 +147,7 @@ restartRunTask (suc n) c w source =
 -- number."
 unfoldable pub restartEndRows : Core → World → List Row
 restartEndRows c w =
-    row 1 (stageForbids whenReplaying c) ∷ row 2 (anchorWrong (w .anchor)) ∷ row 5 (lengthsWrong (c .sizes) w)
+    row 1 (stageForbids whenReplaying (fitsOn (sound c) c w) c) ∷ row 2 (anchorWrong (w .anchor)) ∷ row 5 (lengthsWrong (c .sizes) (c .bases .total) w)
     ∷ row 15 (not (allBelow (λ i. eqb (remaining c i) 0) (c .sizes .disks + 1))) ∷ []
 
 unfoldable pub restartEndTask : Core → World → Task

@@ -54,10 +54,12 @@ unusedEntry s page = eqb (slotsIn s page) 0 && eqb (widthIn s page) 0
 unfoldable pub entryInBounds : Sizes → ℕ → Bool
 entryInBounds s page = cond (ltb page (s .pages)) (usedEntry s page) (unusedEntry s page)
 
--- "the number of pages P (1 to 64)", "the number of log disks D (1 to 8)", "the ring size W (128 to 65,536)", "two parallel arrays
--- of 64"
+-- "the number of pages P (1 to 64)", "the number of log disks D (1 to 8)", "the ring size W (128 to 65,536)"
+unfoldable pub countsInBounds : Sizes → Bool
+countsInBounds s = within 1 64 (s .pages) && within 1 8 (s .disks) && within 128 65536 (s .ring)
+
+-- and "two parallel arrays of 64"
 unfoldable pub sizesInBounds : Sizes → Bool
 sizesInBounds s =
-    within 1 64 (s .pages) && within 1 8 (s .disks) && within 128 65536 (s .ring)
-    && eqb (length (s .slots)) 64 && eqb (length (s .widths)) 64
+    countsInBounds s && eqb (length (s .slots)) 64 && eqb (length (s .widths)) 64
     && allBelow (entryInBounds s) 64

@@ -7,14 +7,15 @@ use lib.Dec.{leb}
 use Rattle.model.specs.declared.Table.{Table}
 use Rattle.model.specs.declared.Core.{Core}
 use Rattle.model.specs.Word.{xors, part}
-use Rattle.model.specs.Sizes.{widthIn, slotBase}
+use Rattle.model.specs.Sizes.{widthIn}
 use Rattle.model.specs.Record.{Record, change, close, encode, wordsOf, updateKind, commitKind}
 use Rattle.model.specs.World.{World, write, pages, work, each, perform}
 use Rattle.model.specs.Memory.{ownerAt, copyOf}
-use Rattle.model.specs.State.{begunWith, withLog, endOf, afterFlush, placeOf, diskAtPlace, firstAt, reservedAt, withPlace, without, hasUpdate}
+use Rattle.model.specs.State.{begunWith, withLog, endOf, afterFlush, placeOf, diskAtPlace, firstAt, reservedAt, reservedOn, withPlace, withReserved, without, hasUpdate, slotPlace}
 use Rattle.model.specs.Room.{noDisk, hasRoom, idlest}
 use Rattle.model.specs.Refusal.{Row, row, Task, Verdict, accepted, rejected, verdict}
 use Rattle.model.specs.Causes.{whenServing, stageForbids, anchorWrong, lengthsWrong, slotMissing, notOpen, readerNotOpen, valueWrong, locked, tableFull, spent}
+use Rattle.model.specs.Reads.{countsFit, slotFits, homeFits, updateFits, fitsOn}
 use Rattle.model.specs.Append.{Appended, append, flush}
 
 -- the disk of an open transaction
@@ -24,19 +25,24 @@ diskOf c number = diskAtPlace (c .table) (placeOf (c .table) number)
 -- Begin: "next number", "the disk with the fewest buffered words among those with log room". "Begin needs 2."
 unfoldable pub beginRows : Core → World → List Row
 beginRows c w =
-    row 1 (stageForbids whenServing c) ∷ row 2 (anchorWrong (w .anchor)) ∷ row 5 (lengthsWrong (c .sizes) w) ∷ row 12 (tableFull c)
+    row 1 (stageForbids whenServing (countsFit c) c) ∷ row 2 (anchorWrong (w .anchor)) ∷ row 5 (lengthsWrong (c .sizes) (c .bases .total) w) ∷ row 12 (tableFull c)
     ∷ row 13 (spent (c .next)) ∷ row 14 (leb noDisk (idlest c 2)) ∷ []
 
 -- its first position is set by its first update; it takes the lowest free place
 unfoldable pub begun : Core → Core
-begun c = begunWith c (withPlace (c .table) (placeOf (c .table) 0) (c .next) (idlest c 2) 0 2)
+begun c =
+    begunWith c
+    (withReserved (withPlace (c .table) (placeOf (c .table) 0) (c .next) disk 0 2) disk (reservedOn (c .table) disk + 2))
+  where
+    disk : ℕ
+    disk = idlest c 2
 
 unfoldable pub beginTask : Core → World → Task
 beginTask c w = record { actions = []; core = begun c; value = c .next }
 
 -- Update: "record appended, slot changed. The slot is held until its transaction closes. An equal value is still logged."
 unfoldable pub slotWords : Core → World → ℕ → ℕ → List ℕ
-slotWords c w page slot = part (slotBase (c .sizes) page slot) (widthIn (c .sizes) page) (w .pages)
+slotWords c w page slot = part (slotPlace c page slot) (widthIn (c .sizes) page) (w .pages)
 
 unfoldable pub updateRecord : Core → World → ℕ → ℕ → ℕ → List ℕ → Record
 updateRecord c w number page slot value =
@@ -45,12 +51,17 @@ updateRecord c w number page slot value =
 -- the transaction's entry after an update of r words: "an update of r words needs 2 × r", of which r are its record
 unfoldable pub updated : Core → ℕ → ℕ → Table
 updated c number r =
-    withPlace (c .table) place number (diskOf c number)
-    (cond (hasUpdate (c .table) place) (firstAt (c .table) place) (endOf (c .logs) (diskOf c number)))
-    (reservedAt (c .table) place + r)
+    withReserved
+    (withPlace (c .table) place number disk (cond (hasUpdate (c .table) place) (firstAt (c .table) place) (endOf (c .logs) disk))
+    (reservedAt (c .table) place + r))
+    disk
+    (reservedOn (c .table) disk + r)
   where
     place : ℕ
     place = placeOf (c .table) number
+
+    disk : ℕ
+    disk = diskOf c number
 
 -- an update's rows after the three that every call has
 abbrev pub slotRows : Core → World → ℕ → ℕ → ℕ → List ℕ → List Row
@@ -61,7 +72,7 @@ slotRows c w number page slot value =
 
 unfoldable pub updateRows : Core → World → ℕ → ℕ → ℕ → List ℕ → List Row
 updateRows c w number page slot value =
-    row 1 (stageForbids whenServing c) ∷ row 2 (anchorWrong (w .anchor)) ∷ row 5 (lengthsWrong (c .sizes) w)
+    row 1 (stageForbids whenServing (fitsOn (updateFits number page slot c) c w) c) ∷ row 2 (anchorWrong (w .anchor)) ∷ row 5 (lengthsWrong (c .sizes) (c .bases .total) w)
     ∷ slotRows c w number page slot value
 
 -- the memory changes come after the stores of a flush
@@ -69,8 +80,8 @@ unfoldable pub updateTask : Core → World → ℕ → ℕ → ℕ → List ℕ 
 updateTask c w number page slot value =
     record {
       actions =
-          added .actions ++ each (write pages) (slotBase (c .sizes) page slot) value
-          ++ write work (ownerAt (c .sizes) page slot) number ∷ [];
+          added .actions ++ each (write pages) (slotPlace c page slot) value
+          ++ write work (ownerAt (c .sizes) (slotPlace c page slot)) number ∷ [];
       core = withLog c (added .logs) (updated c number (length words));
       value = 0;
     }
@@ -84,7 +95,7 @@ updateTask c w number page slot value =
 -- Read: "the slot's words as a part of the page memory, empty if refused, with a companion call for the number"
 unfoldable pub readRows : Core → World → ℕ → ℕ → ℕ → List Row
 readRows c w reader page slot =
-    row 1 (stageForbids whenServing c) ∷ row 2 (anchorWrong (w .anchor)) ∷ row 5 (lengthsWrong (c .sizes) w)
+    row 1 (stageForbids whenServing (fitsOn (slotFits page slot c) c w) c) ∷ row 2 (anchorWrong (w .anchor)) ∷ row 5 (lengthsWrong (c .sizes) (c .bases .total) w)
     ∷ row 8 (slotMissing (c .sizes) page slot) ∷ row 9 (readerNotOpen c reader) ∷ row 11 (locked c w reader page slot) ∷ []
 
 -- what a place for words holds after a call that fills it: these words, and where the call is refused what it held before
@@ -98,7 +109,7 @@ readWords c w reader page slot = filled (verdict (readRows c w reader page slot)
 -- Commit: "closing record, flush, slots released". A slot is released when its owner leaves the table.
 unfoldable pub commitRows : Core → World → ℕ → List Row
 commitRows c w number =
-    row 1 (stageForbids whenServing c) ∷ row 2 (anchorWrong (w .anchor)) ∷ row 5 (lengthsWrong (c .sizes) w) ∷ row 9 (notOpen c number) ∷ []
+    row 1 (stageForbids whenServing (fitsOn (homeFits number c) c w) c) ∷ row 2 (anchorWrong (w .anchor)) ∷ row 5 (lengthsWrong (c .sizes) (c .bases .total) w) ∷ row 9 (notOpen c number) ∷ []
 
 unfoldable pub commitTask : Core → World → ℕ → Task
 commitTask c w number =

@@ -17,6 +17,12 @@ pub struct Sizes {
     pub widths: [u8; 64],
 }
 
+// What is kept of the sizes, so that no call sums them up: the first word of each page in the page memory, and 01's T.
+pub struct Bases {
+    pub pages: [u16; 64],
+    pub total: u64,
+}
+
 // For each disk: where the retained log starts, its tail, and how many words are buffered.
 pub struct Logs {
     pub starts: [u64; 8],
@@ -24,12 +30,14 @@ pub struct Logs {
     pub fills: [u64; 8],
 }
 
-// The open transactions, by place: number (0: the place is free), disk, position of the first update record, reserved words.
+// The open transactions, by place: number (0: the place is free), disk, position of the first update record, reserved words; and the
+// reserved words by disk.
 pub struct Table {
     pub numbers: [u64; 16],
     pub disks: [u64; 16],
     pub firsts: [u64; 16],
     pub reserved: [u64; 16],
+    pub sums: [u64; 8],
 }
 
 // A checkpoint under way: each disk's end at its begin, and how many pages are copied.
@@ -49,6 +57,7 @@ pub struct Replay {
 pub struct Core {
     pub stage: Stage,
     pub sizes: Sizes,
+    pub bases: Bases,
     pub epoch: u64,
     pub logs: Logs,
     pub table: Table,
@@ -109,4 +118,26 @@ pub enum Fault {
 pub struct Reply {
     pub answer: Answer,
     pub core: Core,
+}
+
+// A state in two parts: what goes from call to call by value, 256 bytes; the rest of Core lies in the head of the lent work memory
+// (specs/View.antt). `total` is 01's T, `copied` how many pages the checkpoint under way has copied, `ends` its ends.
+pub struct Carried {
+    pub stage: Stage,
+    pub pages: u64,
+    pub disks: u64,
+    pub ring: u64,
+    pub total: u64,
+    pub epoch: u64,
+    pub next: u64,
+    pub copied: u64,
+    pub starts: [u64; 8],
+    pub tails: [u64; 8],
+    pub ends: [u64; 8],
+}
+
+// What a call hands back beside the lent slices and the budget, where the state is in two parts.
+pub struct Handed {
+    pub answer: Answer,
+    pub carried: Carried,
 }

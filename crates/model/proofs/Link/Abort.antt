@@ -55,7 +55,7 @@ ending-entries (r ∷ l) = ending-entries l
 -- The log of a disk, its buffer included, holds the flushed entries and then the buffered ones.
 module _ {s : Sizes} {l : Logs} {w : World} {F B : List Entry} (k : Link s l w F B) (d : ℕ) (below : d < s .disks) where
   abbrev reader : ℕ → ℕ
-  reader = readLog s (w .logs) d (tailOf l d) (bufferOf s (w .work) d (fillOf l d))
+  reader = readLog s (w .logs) d (tailOf l d) (bufferOf (w .work) d (fillOf l d))
 
   pub log-holds : Holds reader (keptOf l d) (wordsOf (on d F ++ on d B))
   log-holds =

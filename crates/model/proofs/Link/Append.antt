@@ -8,8 +8,9 @@ use lib.ListN.{length}
 use borrow.Author.Tests.{le-leb, lt-leb}
 use Rattle.model.specs.declared.Sizes.{Sizes}
 use Rattle.model.specs.declared.Logs.{Logs}
+use Rattle.model.specs.Sizes.{total}
 use Rattle.model.specs.Record.{encode}
-use Rattle.model.specs.World.{World, work, perform, stores}
+use Rattle.model.specs.World.{World, perform, stores}
 use Rattle.model.specs.State.{fillOf, withFill, afterFlush}
 use Rattle.model.specs.Append.{Appended, flush, buffered, append}
 use Rattle.model.proofs.Run.{perform-append}
@@ -59,7 +60,7 @@ module _ {s : Sizes} {l : Logs} (w : World) (a : Arrays s l) (small : Small s l)
           (put-in-buffer s d w (fillOf l d) (encode (recordOf r)) (omega arith))
 
 -- Where the words fit, the entry is buffered and nothing is stored.
-module _ {s : Sizes} {l : Logs} {w : World} {F B : List Entry} (k : Link s l w F B) (right : Lengths s w) (a : Arrays s l)
+module _ {s : Sizes} {l : Logs} {w : World} {F B : List Entry} (k : Link s l w F B) (right : Lengths s (total s) w) (a : Arrays s l)
     (small : Small s l) (d : ℕ) (below : d < s .disks) (r : Entry) (here : r .disk ≡ d) (short : sizeOf r ≤ 64)
     (fits : fillOf l d + sizeOf r ≤ 64) where
   abbrev appended : Appended

@@ -10,7 +10,7 @@ use borrow.Author.Tests.{le-leb}
 use Rattle.model.specs.declared.Sizes.{Sizes}
 use Rattle.model.specs.declared.Logs.{Logs}
 use Rattle.model.specs.Word.{part}
-use Rattle.model.specs.Sizes.{ringOf, diskAt, tailWord, ringWord}
+use Rattle.model.specs.Sizes.{ringOf, diskAt, tailWord, ringWord, total}
 use Rattle.model.specs.World.{World, Action, store, logs, cost, perform, stores, covered, run, each}
 use Rattle.model.specs.Memory.{bufferOf}
 use Rattle.model.specs.State.{startOf, keptOf, tailOf, fillOf, endOf, afterFlush}
@@ -56,15 +56,15 @@ run-store-all s d p (x ∷ xs) n w h =
 module _ (s : Sizes) (l : Logs) (w : World) (d : ℕ) where
   pub flush-only : OnlyLogs w (perform (flush s l (w .work) d) w)
   unfolding flush
-  flush-only = flush-only-logs s d (tailOf l d) (bufferOf s (w .work) d (fillOf l d)) w
+  flush-only = flush-only-logs s d (tailOf l d) (bufferOf (w .work) d (fillOf l d)) w
 
   pub cut-only : (n : ℕ) → n < stores (flush s l (w .work) d) → OnlyLogs w (run n (flush s l (w .work) d) w)
   unfolding flush
   cut-only n h =
-      rw (run-store-all s d (tailOf l d) (bufferOf s (w .work) d (fillOf l d)) n w h)
-      (lay-only s d (tailOf l d) (take n (bufferOf s (w .work) d (fillOf l d))) w)
+      rw (run-store-all s d (tailOf l d) (bufferOf (w .work) d (fillOf l d)) n w h)
+      (lay-only s d (tailOf l d) (take n (bufferOf (w .work) d (fillOf l d))) w)
 
-module _ {s : Sizes} {l : Logs} {w : World} {F B : List Entry} (k : Link s l w F B) (right : Lengths s w) (a : Arrays s l)
+module _ {s : Sizes} {l : Logs} {w : World} {F B : List Entry} (k : Link s l w F B) (right : Lengths s (total s) w) (a : Arrays s l)
     (d : ℕ) (below : d < s .disks) (room : endOf l d ≤ keptOf l d + ringOf s d) where
   fits : diskAt s d + ringOf s d + 1 ≤ length (w .logs)
   fits = omega (arith, disk-within s d below, right .logs)
@@ -123,11 +123,11 @@ module _ {s : Sizes} {l : Logs} {w : World} {F B : List Entry} (k : Link s l w F
           ∙ k .stored e h ∙ sym (tail-flushed-other l d e ne)
 
   buffer-after : (e : ℕ) → e < s .disks
-      → bufferOf s (w .work) e (fillOf (afterFlush l d) e) ≡ wordsOf (on e (pick (λ r. not (onDisk d r)) B))
+      → bufferOf (w .work) e (fillOf (afterFlush l d) e) ≡ wordsOf (on e (pick (λ r. not (onDisk d r)) B))
   unfolding bufferOf part
   buffer-after e h = go (ℕ-discrete e d)
     where
-      go : Dec (e ≡ d) → bufferOf s (w .work) e (fillOf (afterFlush l d) e) ≡ wordsOf (on e (pick (λ r. not (onDisk d r)) B))
+      go : Dec (e ≡ d) → bufferOf (w .work) e (fillOf (afterFlush l d) e) ≡ wordsOf (on e (pick (λ r. not (onDisk d r)) B))
       go (yes same) = rw (same, fill-flushed l d (a .sized) (below-eight a below), on-emptied d F B) (sym words-none)
       go (no ne) = rw (on-other-left d F B e ne, fill-flushed-other l d e ne) (k .buffer e h)
 

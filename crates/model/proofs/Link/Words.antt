@@ -8,7 +8,7 @@ use native.Mathlib.Omega.{arith}
 use lib.ListN.{length, getD}
 use Rattle.model.specs.declared.Sizes.{Sizes}
 use Rattle.model.specs.declared.Logs.{Logs}
-use Rattle.model.specs.Sizes.{slotBase, ringOf, ringWord}
+use Rattle.model.specs.Sizes.{slotBase, ringOf, ringWord, total}
 use Rattle.model.specs.Record.{encode}
 use Rattle.model.specs.Decode.{readLog}
 use Rattle.model.specs.Scan.{Scan, item, scan, placed}
@@ -53,7 +53,7 @@ pub record Link (s : Sizes) (l : Logs) (w : World) (F B : List Entry) : Type 0 w
   pub held : (d : ℕ) → d < s .disks → Holds (λ q. getD (w .logs) (ringWord s d q) 0) (keptOf l d) (wordsOf (on d F))
   pub tail : (d : ℕ) → d < s .disks → tailOf l d ≡ keptOf l d + length (wordsOf (on d F))
   pub stored : (d : ℕ) → d < s .disks → tailOn s w d ≡ tailOf l d
-  pub buffer : (d : ℕ) → d < s .disks → bufferOf s (w .work) d (fillOf l d) ≡ wordsOf (on d B)
+  pub buffer : (d : ℕ) → d < s .disks → bufferOf (w .work) d (fillOf l d) ≡ wordsOf (on d B)
   pub fill : (d : ℕ) → d < s .disks → fillOf l d ≡ length (wordsOf (on d B))
 
 -- the end of a disk's log is the end of its entries
@@ -63,7 +63,7 @@ unfolding endOf
 log-end {F = F} {B = B} k d below = omega (arith, k .tail d below, k .fill d below, length-words-append (on d F) (on d B))
 
 -- actions keep the lengths that the sizes give
-pub lengths-perform : {s : Sizes} {w : World} (l : List Action) → Lengths s w → Lengths s (perform l w)
+pub lengths-perform : {s : Sizes} {w : World} (l : List Action) → Lengths s (total s) w → Lengths s (total s) (perform l w)
 lengths-perform {s} {w} l right =
     let same = perform-lengths l w in
     record {

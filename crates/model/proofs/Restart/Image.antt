@@ -11,7 +11,7 @@ use borrow.Author.Tests.{leb-true}
 use Rattle.model.specs.declared.Sizes.{Sizes}
 use Rattle.model.specs.Below.{within, allBelow}
 use Rattle.model.specs.Word.{part}
-use Rattle.model.specs.Sizes.{total, entryInBounds, sizesInBounds}
+use Rattle.model.specs.Sizes.{total, entryInBounds, countsInBounds, sizesInBounds}
 use Rattle.model.specs.Anchor.{epochOn, sizesOn, startOn, backupAt}
 use Rattle.model.specs.Decode.{readLog, span}
 use Rattle.model.specs.Scan.{scan}
@@ -26,7 +26,7 @@ use Rattle.model.proofs.Restart.Gain.{length-span}
 use Rattle.model.proofs.Parts.{length-part}
 
 pub disks-le : (s : Sizes) → sizesInBounds s ≡ true → s .disks ≤ 8
-unfolding sizesInBounds within
+unfolding sizesInBounds countsInBounds within
 disks-le s e =
     let a = and-eq-true-iff _ (allBelow (entryInBounds s) 64) .0 e in
     let b = and-eq-true-iff _ (eqb (length (s .widths)) 64) .0 (a .0) in
@@ -42,12 +42,12 @@ backup-within s c =
     let e : c % 2 * total s ≤ 1 * total s = mul-le-mul-right (total s) (omega arith) in
     omega (arith, rw one-mul at e)
 
-pub length-backup : (w : World) → lengthsRight (sizesOn (w .anchor)) w ≡ true
+pub length-backup : (w : World) → lengthsRight (sizesOn (w .anchor)) (total (sizesOn (w .anchor))) w ≡ true
     → length (imageOf w .backup) ≡ total (sizesOn (w .anchor))
 unfolding imageOf imageFrom
 length-backup w e =
     let s : Sizes = sizesOn (w .anchor) in
-    let long = lengths-right s w e .backups in
+    let long = lengths-right s (total s) w e .backups in
     length-part (backupAt s (epochOn (w .anchor))) (total s) (w .backups) (omega (arith, backup-within s (epochOn (w .anchor))))
 
 -- The scan of a log of the image is the scan of the device's log from its start to the tail.

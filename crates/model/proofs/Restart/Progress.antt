@@ -57,7 +57,7 @@ pub record Progress (c : Core) (w : World) : Type 0 where
   pub sizes : c .sizes ≡ sizesOn (w .anchor)
   pub epoch : c .epoch ≡ epochOn (w .anchor)
   pub bounds : sizesInBounds (c .sizes) ≡ true
-  pub lengths : Lengths (c .sizes) w
+  pub lengths : Lengths (c .sizes) (total (c .sizes)) w
   pub backup : length (imageOf w .backup) ≡ total (c .sizes)
   pub starts : (d : ℕ) → d < c .sizes .disks → startOf (c .logs) d ≡ startOn (w .anchor) d
   pub tails : (d : ℕ) → d < c .sizes .disks → tailOf (c .logs) d ≡ tailOn (c .sizes) w d
@@ -73,7 +73,7 @@ pub record Progress (c : Core) (w : World) : Type 0 where
 pub begin-restartable : (c : Core) (w : World) → Taken restartBegin c w → Restartable w
 unfolding restartBeginRows
 begin-restartable c w t =
-    rows-restartable w (accepted-first (imageRows (λ s. lengthsWrong s w) (w .anchor) (w .logs)) _ (row-passed _ _ (t .accepted) .1))
+    rows-restartable w (accepted-first (imageRows (λ s. lengthsWrong s (total s) w) (w .anchor) (w .logs)) _ (row-passed _ _ (t .accepted) .1))
 
 -- at the start of its log, a disk's rest is the whole retained log
 pub left-retained : (c : Core) (w : World) (d : ℕ) → tailOf (c .logs) d ≡ tailOn (c .sizes) w d
@@ -121,7 +121,7 @@ module _ (w : World) (k : Restartable w) where
   zeroed x h =
       let n : ℕ = total (sizesOn (w .anchor)) in
       let long = length-replicate {A = ℕ} n 0 in
-      let fits = lengths (sizesOn (w .anchor)) w (k .lengths) .pages in
+      let fits = lengths (sizesOn (w .anchor)) (total (sizesOn (w .anchor))) w (k .lengths) .pages in
       getD-sets-in (w .pages) 0 (replicate n 0) x (omega arith) (omega arith) (omega arith)
       ∙ getD-replicate n (x - 0) 0 0 (omega arith)
 
@@ -130,7 +130,7 @@ module _ (w : World) (k : Restartable w) where
   begun-progress =
       let s : Sizes = sizesOn (w .anchor) in
       let zeros : List ℕ = replicate (total s) 0 in
-      let long = lengths s w (k .lengths) in
+      let long = lengths s (total s) w (k .lengths) in
       let back = length-backup w (k .lengths) in
       record {
         stage = refl;

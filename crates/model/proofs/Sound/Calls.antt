@@ -19,7 +19,7 @@ unfolding newCore sound
 new-passes = (
   record {
     logs = record { starts = refl; tails = refl; fills = refl };
-    table = record { numbers = refl; disks = refl; firsts = refl; reserved = refl };
+    table = record { numbers = refl; disks = refl; firsts = refl; reserved = refl; sums = refl };
     ends = refl;
     positions = refl;
   },

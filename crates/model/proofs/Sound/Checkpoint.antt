@@ -9,14 +9,15 @@ use borrow.Author.Tests.{leb-true, leb-false}
 use Rattle.model.specs.declared.Logs.{Logs}
 use Rattle.model.specs.declared.Core.{Core}
 use Rattle.model.specs.World.{World}
-use Rattle.model.specs.State.{places, startOf, tailOf, fillOf, endOf, diskAtPlace, firstAt, diskSound, placeSound, servingSound, sound}
+use Rattle.model.specs.State.{places, startOf, tailOf, fillOf, endOf, diskAtPlace, firstAt, baseOf, basesRight, diskSound, placeSound, servingSound, sound}
 use Rattle.model.specs.Refusal.{accepted, verdict}
 use Rattle.model.specs.Causes.{whenOpen, whenCopying, spent}
 use Rattle.model.specs.Checkpoint.{perDisk, checkpointBeginRows, checkpointBeginTask, toCopy, lowestToCopy, checkpointStepRows, checkpointStepTask, newStart, checkpointEndRows, checkpointEndTask}
 use Rattle.model.proofs.Below.{first-passes}
 use Rattle.model.proofs.Meaning.{Holds, new-start}
 use Rattle.model.proofs.PerDisk.{getD-per-disk, length-per-disk}
-use Rattle.model.proofs.Store.Rows.{stage-row, open-serving, copying-serving, serving-sound, sizes-sound, disk-sound, place-sound, checkpoint-sound}
+use Rattle.model.proofs.Store.Rows.{stage-row, open-serving, copying-serving, serving-sound, sizes-sound, bases-sound, next-sound, disk-sound, place-sound, checkpoint-sound}
+use Rattle.model.proofs.KeptBases.{bases-carried}
 use Rattle.model.proofs.Sound.Test.{Sized, Passing, serving-test, copying-test}
 use Rattle.model.proofs.Growth.{tail-end, kept-start, kept-le}
 use Rattle.model.proofs.Verdict.{row-passed}
@@ -26,13 +27,13 @@ use Rattle.model.proofs.Store.Accepted.{disks-max}
 -- Begin: the remembered ends are the logs' ends.
 pub checkpoint-begin-passes : (c : Core) (w : World) → Sized c → sound c ≡ true → verdict (checkpointBeginRows c w) ≡ accepted
     → Passing (checkpointBeginTask c w .core)
-unfolding checkpointBeginRows checkpointBeginTask spent servingSound diskSound placeSound
+unfolding checkpointBeginRows checkpointBeginTask spent servingSound basesRight baseOf diskSound placeSound
 checkpoint-begin-passes c w sized s ok =
     let stage = row-passed _ _ ok in
     let anchor = row-passed _ _ (stage .1) in
     let lengths = row-passed _ _ (anchor .1) in
     let epoch = row-passed _ _ (lengths .1) in
-    let good = serving-sound c (open-serving c (stage-row whenOpen c (stage .0))) s in (
+    let good = serving-sound c (open-serving c (stage-row whenOpen _ c (stage .0))) s in (
       record {
         logs = sized .logs;
         table = sized .table;
@@ -52,13 +53,13 @@ checkpoint-begin-passes c w sized s ok =
 -- Step: the page that is copied is one of the pages.
 pub checkpoint-step-passes : (c : Core) (w : World) → Sized c → sound c ≡ true → verdict (checkpointStepRows c w) ≡ accepted
     → Passing (checkpointStepTask c w .core)
-unfolding checkpointStepRows checkpointStepTask lowestToCopy toCopy servingSound diskSound placeSound
+unfolding checkpointStepRows checkpointStepTask lowestToCopy toCopy servingSound basesRight baseOf diskSound placeSound
 checkpoint-step-passes c w sized s ok =
     let stage = row-passed _ _ ok in
     let anchor = row-passed _ _ (stage .1) in
     let lengths = row-passed _ _ (anchor .1) in
     let page = row-passed _ _ (lengths .1) in
-    let copying = stage-row whenCopying c (stage .0) in
+    let copying = stage-row whenCopying _ c (stage .0) in
     let good = serving-sound c (copying-serving c copying) s in
     let k = checkpoint-sound c copying s in
     let below : lowestToCopy c < c .sizes .pages = leb-false _ _ (page .0) in
@@ -110,10 +111,12 @@ module _ (c : Core) (w : World) (copying : whenCopying (c .stage) ≡ true) (s :
   checkpoint-ended : servingSound (checkpointEndTask c w .core) ≡ true
   unfolding checkpointEndTask
   checkpoint-ended =
-      serving-test (checkpointEndTask c w .core) (sizes-sound c good)
+      serving-test (checkpointEndTask c w .core) (sizes-sound c good) (bases-carried c (checkpointEndTask c w .core) refl refl (bases-sound c good))
+      (next-sound c good)
       (λ d h.
       let old = disk-sound c d good h in
       record {
+        counted = old .counted;
         fill = omega (arith, fill-after d h);
         ordered = omega (arith, start-after d h, tail-after d h, start-to d h);
         room = omega (arith, kept-start after d, start-after d h, end-after d h, start-from d h, kept-le (c .logs) d, old .room);
@@ -145,5 +148,5 @@ checkpoint-end-passes c w sized s ok = (
     ends = refl;
     positions = sized .positions;
   },
-  checkpoint-ended c w (stage-row whenCopying c (row-passed _ _ ok .0)) s,
+  checkpoint-ended c w (stage-row whenCopying _ c (row-passed _ _ ok .0)) s,
 )

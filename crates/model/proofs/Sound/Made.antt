@@ -6,9 +6,9 @@ use Prim.Native.Nat.{ℕ}
 use native.Mathlib.Omega.{arith}
 use lib.Dec.{eqb}
 use borrow.Author.Tests.{ne-eqb}
-use Rattle.model.specs.declared.Stage.{Stage}
 use Rattle.model.specs.declared.Sizes.{Sizes}
 use Rattle.model.specs.declared.Core.{Core}
+use Rattle.model.specs.Sizes.{total}
 use Rattle.model.specs.World.{World, stores, finishes}
 use Rattle.model.specs.State.{newCore, sound}
 use Rattle.model.specs.Refusal.{Row, row, Result, verdict, accepted, rejected, numberOf}
@@ -22,10 +22,11 @@ use Rattle.model.specs.Call.{Call, format, begin, update, look, read, co
 use Rattle.model.specs.Reference.{taken}
 use Rattle.model.specs.Machine.{Machine, Event, call, lent, scramble, result, outcome, after, Run, follow, formatted}
 use Rattle.model.specs.Promise.{Always}
-use Rattle.model.specs.Answers.{stagesOf, Made, new, by, MadeSound, StatesMade}
+use Rattle.model.specs.Answers.{stagesOf, fitsCall, Made, new, by, MadeSound, StatesMade}
 use Rattle.model.proofs.Verdict.{ascending, numbers, rows-ascend, ascending-cons, rejected-above, refused-leaves, row-passed}
 use Rattle.model.proofs.Store.Cases.{call-cases}
 use Rattle.model.proofs.Restart.Taken.{taken-call}
+use Rattle.model.proofs.Tested.{reads-pass}
 use Rattle.model.proofs.Sound.Test.{Passing}
 use Rattle.model.proofs.Sound.Calls.{new-passes, sized-kept, sound-kept}
 
@@ -36,22 +37,22 @@ made-passes (by k w {c} made) =
     (sized-kept k c w (p .0) (p .1), sound-kept k c w (p .0) (p .1))
 
 -- row 1 of a state that passes the test
-pub stage-alone : (allowed : Stage → Bool) (c : Core) → sound c ≡ true → stageForbids allowed c ≡ not (allowed (c .stage))
+pub stage-alone : (k : Call) (c : Core) (w : World) → sound c ≡ true → stageForbids (stagesOf k) (fitsCall k c w) c ≡ not (stagesOf k (c .stage))
 unfolding stageForbids
-stage-alone allowed c ok = rw ok (go (allowed (c .stage)))
+stage-alone k c w ok = go (stagesOf k (c .stage)) refl
   where
-    go : (b : Bool) → not (b && true) ≡ not b
-    go true = refl
-    go false = refl
+    go : (b : Bool) → stagesOf k (c .stage) ≡ b → not (b && fitsCall k c w) ≡ not b
+    go true e = rw (reads-pass k c w ok e)
+    go false e = refl
 
 -- a call that checks its stage first answers 1 where the stage is none of its, and nowhere else
-stage-first : (k : Call) (c : Core) (w : World) (rest : List Row) → rowsOf k c w ≡ row 1 (stageForbids (stagesOf k) c) ∷ rest
+stage-first : (k : Call) (c : Core) (w : World) (rest : List Row) → rowsOf k c w ≡ row 1 (stageForbids (stagesOf k) (fitsCall k c w) c) ∷ rest
     → sound c ≡ true → eqb (numberOf (resultOf k c w .answer)) 1 ≡ not (stagesOf k (c .stage))
 unfolding verdict ascending
 stage-first k c w rest rows ok = go (stagesOf k (c .stage)) refl
   where
-    forbids : (b : Bool) → stagesOf k (c .stage) ≡ b → stageForbids (stagesOf k) c ≡ not b
-    forbids b e = stage-alone (stagesOf k) c ok ∙ ap not e
+    forbids : (b : Bool) → stagesOf k (c .stage) ≡ b → stageForbids (stagesOf k) (fitsCall k c w) c ≡ not b
+    forbids b e = stage-alone k c w ok ∙ ap not e
 
     go : (b : Bool) → stagesOf k (c .stage) ≡ b → eqb (numberOf (resultOf k c w .answer)) 1 ≡ not b
     go false e =
@@ -88,19 +89,19 @@ pub made-sound : MadeSound
 unfolding MadeSound
 made-sound c made =
     let ok = made-passes made .1 in
-    record { sound = ok; row = λ allowed. stage-alone allowed c ok; answers = λ k w. stage-answers k c w ok }
+    record { sound = ok; row = λ k w. stage-alone k c w ok; answers = λ k w. stage-answers k c w ok }
 
 -- A format that is taken gives the same on a new state.
 beyond-stage : (c : Core) (w : World) (s : Sizes) → verdict (formatRows c w s) ≡ accepted
-    → verdict (row 2 (anchorWrong (w .anchor)) ∷ row 4 (sizesWrong s) ∷ row 5 (lengthsWrong s w) ∷ []) ≡ accepted
+    → verdict (row 2 (anchorWrong (w .anchor)) ∷ row 4 (sizesWrong s) ∷ row 5 (lengthsWrong s (total s) w) ∷ []) ≡ accepted
 unfolding formatRows
 beyond-stage c w s ok = row-passed _ _ ok .1
 
 new-formats : (c : Core) (w : World) (s : Sizes) → verdict (formatRows c w s) ≡ accepted → verdict (formatRows newCore w s) ≡ accepted
-unfolding formatRows verdict stageForbids newCore sound
+unfolding formatRows verdict stageForbids newCore
 new-formats c w s ok = beyond-stage c w s ok
 
-format-anew : (c : Core) (w : World) (s : Sizes) (budget : ℕ) → verdict (formatRows c w s) ≡ accepted
+pub format-anew : (c : Core) (w : World) (s : Sizes) (budget : ℕ) → verdict (formatRows c w s) ≡ accepted
     → resultOf (format s budget) newCore w ≡ resultOf (format s budget) c w
 unfolding resultOf
 format-anew c w s budget ok = rw (new-formats c w s ok, ok)

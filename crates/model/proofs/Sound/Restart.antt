@@ -14,16 +14,17 @@ use Rattle.model.specs.declared.Core.{Core}
 use Rattle.model.specs.declared.Decoded.{Decoded}
 use Rattle.model.specs.declared.Decoded.the-variants.{Change, Close, Malformed}
 use Rattle.model.specs.Below.{sumBelow}
-use Rattle.model.specs.Sizes.{sizesInBounds}
+use Rattle.model.specs.Sizes.{sizesInBounds, total}
 use Rattle.model.specs.Anchor.{sizesOn, startOn}
 use Rattle.model.specs.World.{World}
-use Rattle.model.specs.State.{withReplay, places, limit, noTable, emptyLogs, openCore, startOf, tailOf, endOf, numberAt, servedBy, reservedOn, servingSound, sound}
+use Rattle.model.specs.State.{withReplay, places, limit, noTable, emptyLogs, openCore, startOf, tailOf, endOf, numberAt, servedBy, reservedFor, reservedOn, servingSound, sound}
 use Rattle.model.specs.Refusal.{Row, accepted, verdict}
 use Rattle.model.specs.Causes.{whenReplaying, sizesWrong, lengthsWrong, tailOn, sourceMissing, spent}
 use Rattle.model.specs.Format.{formatRows, formatTask}
 use Rattle.model.specs.Restart.{imageRows, restartBeginRows, restartBeginTask, remaining, readDisk, nextRecord, restartStepRows, backupStep, movedTo, recordStep, restartStepTask, restartRunTask, restartEndRows, restartEndTask}
 use Rattle.model.proofs.Decode.{found-change, found-close}
 use Rattle.model.proofs.Bounds.{bounded}
+use Rattle.model.proofs.KeptBases.{bases-made, bases-carried}
 use Rattle.model.proofs.Restart.Run.{run-keeps}
 use Rattle.model.proofs.Store.Rows.{stage-row}
 use Rattle.model.proofs.Sound.Test.{Sized, Passing, serving-test, ReplaySound, replay-sound, replaying-test}
@@ -33,23 +34,30 @@ use Rattle.model.proofs.PerDisk.{getD-per-disk, length-per-disk}
 use Rattle.model.proofs.Growth.{none-buffered, kept-start}
 
 -- An open state with no transaction and empty logs.
-none-reserved : (d : ℕ) → reservedOn noTable d ≡ 0
-unfolding reservedOn sumBelow servedBy numberAt
-none-reserved d = refl
+none-reserved : (d : ℕ) → d < 8 → reservedOn noTable d ≡ 0
+unfolding reservedOn
+none-reserved d h = getD-replicate 8 d 0 0 h
+
+none-owed : (d : ℕ) → reservedFor noTable d ≡ 0
+unfolding reservedFor sumBelow servedBy numberAt
+none-owed d = refl
 
 module _ (s : Sizes) (epoch : ℕ) (tails : List ℕ) (bounds : sizesInBounds s ≡ true) (eight : length tails ≡ 8)
     (top : (d : ℕ) → d < s .disks → getD tails d 0 ≤ limit) where
   open-serving : servingSound (openCore s epoch tails) ≡ true
   unfolding openCore startOf tailOf endOf numberAt
   open-serving =
-      serving-test (openCore s epoch tails) bounds
+      serving-test (openCore s epoch tails) bounds (bases-made (openCore s epoch tails) refl) (omega arith)
       (λ d h.
-      let none = none-buffered tails d (omega (arith, bounded s bounds .disks-max)) in
+      let eight = bounded s bounds .disks-max in
+      let none = none-buffered tails d (omega arith) in
+      let unreserved = none-reserved d (omega arith) in
       record {
+        counted = unreserved ∙ sym (none-owed d);
         fill = omega arith;
         ordered = omega arith;
-        room = omega (arith, kept-start (emptyLogs tails) d, none-reserved d);
-        limit = omega (arith, none-reserved d, top d h);
+        room = omega (arith, kept-start (emptyLogs tails) d);
+        limit = omega (arith, top d h);
       })
       (λ i h some. absurd (some (getD-replicate places i 0 0 h)))
 
@@ -58,7 +66,7 @@ module _ (s : Sizes) (epoch : ℕ) (tails : List ℕ) (bounds : sizesInBounds s 
   open-passes = (
     record {
       logs = record { starts = eight; tails = eight; fills = refl };
-      table = record { numbers = refl; disks = refl; firsts = refl; reserved = refl };
+      table = record { numbers = refl; disks = refl; firsts = refl; reserved = refl; sums = refl };
       ends = refl;
       positions = refl;
     },
@@ -81,20 +89,21 @@ unfolding restartBeginRows imageRows restartBeginTask spent tailOf
 restart-begin-passes c w ok =
     let s : Sizes = sizesOn (w .anchor) in
     let after = row-passed _ _ ok .1 in
-    let checks : List Row = imageRows (λ s. lengthsWrong s w) (w .anchor) (w .logs) in
+    let checks : List Row = imageRows (λ s. lengthsWrong s (total s) w) (w .anchor) (w .logs) in
     let found = rows-restartable w (accepted-first checks _ after) .image in
     let epoch = row-passed _ _ (sym (verdict-append checks _ (accepted-first checks _ after)) ∙ after) in
     let bounds = found .bounds in
     let eight = bounded s bounds .disks-max in (
       record {
         logs = record { starts = length-per-disk s (startOn (w .anchor)); tails = length-per-disk s (tailOn s w); fills = refl };
-        table = record { numbers = refl; disks = refl; firsts = refl; reserved = refl };
+        table = record { numbers = refl; disks = refl; firsts = refl; reserved = refl; sums = refl };
         ends = refl;
         positions = length-per-disk s (startOn (w .anchor));
       },
       replaying-test (restartBeginTask w .core) refl
           (record {
             bounds = bounds;
+            bases = bases-made (restartBeginTask w .core) refl;
             epoch = leb-false _ _ (epoch .0);
             page = omega arith;
             tails = λ d h. omega (arith, getD-per-disk s (tailOn s w) d eight h, found .whole .tails d h);
@@ -114,6 +123,7 @@ module _ (c : Core) (w : World) (sized : Sized c) (replaying : whenReplaying (c 
     replaying-test (movedTo c d next) replaying
         (record {
           bounds = k .bounds;
+          bases = bases-carried c (movedTo c d next) refl refl (k .bases);
           epoch = k .epoch;
           page = k .page;
           tails = k .tails;
@@ -140,7 +150,7 @@ module _ (c : Core) (w : World) (sized : Sized c) (replaying : whenReplaying (c 
   backup-passes h = (
     record { logs = sized .logs; table = sized .table; ends = sized .ends; positions = sized .positions },
     replaying-test (backupStep c w .core) replaying
-        (record { bounds = k .bounds; epoch = k .epoch; page = omega arith; tails = k .tails; positions = k .positions }),
+        (record { bounds = k .bounds; bases = bases-carried c (backupStep c w .core) refl refl (k .bases); epoch = k .epoch; page = omega arith; tails = k .tails; positions = k .positions }),
   )
 
 -- of the backup, a page remains
@@ -161,7 +171,7 @@ restart-step-passes c w source sized s ok =
     let records = row-passed _ _ (lengths .1) in
     let missing = row-passed _ _ (records .1) in
     let rest = row-passed _ _ (missing .1) in
-    go (stage-row whenReplaying c (stage .0)) (missing .0) (rest .0) (ltb source (c .sizes .disks)) refl
+    go (stage-row whenReplaying _ c (stage .0)) (missing .0) (rest .0) (ltb source (c .sizes .disks)) refl
   where
     go : whenReplaying (c .stage) ≡ true → ltb (c .sizes .disks) source ≡ false → eqb (remaining c source) 0 ≡ false
         → (b : Bool) → ltb source (c .sizes .disks) ≡ b
@@ -181,5 +191,5 @@ restart-run-passes c w source most p =
 pub restart-end-passes : (c : Core) (w : World) → Sized c → sound c ≡ true → verdict (restartEndRows c w) ≡ accepted → Passing (restartEndTask c w .core)
 unfolding restartEndRows restartEndTask tailOf
 restart-end-passes c w sized s ok =
-    let k = replay-sound c (stage-row whenReplaying c (row-passed _ _ ok .0)) s in
+    let k = replay-sound c (stage-row whenReplaying _ c (row-passed _ _ ok .0)) s in
     open-passes (c .sizes) (c .epoch + 1) (c .logs .tails) (k .bounds) (sized .logs .tails) (k .tails)

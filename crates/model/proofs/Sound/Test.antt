@@ -5,19 +5,19 @@ use mathlib.Core.Bool.{Bool, true, false, not, _&&_, _||_, and-eq-true-iff}
 use Prim.Native.Nat.{ℕ, _≤_, _<_}
 use lib.Dec.{leb, ltb, eqb}
 use lib.ListN.{length, getD}
-use borrow.Author.Tests.{leb-true, ltb-true, le-leb, lt-ltb, eqb-false}
+use borrow.Author.Tests.{leb-true, ltb-true, le-leb, lt-ltb, eq-eqb, eqb-false}
 use Rattle.model.specs.declared.Stage.{Stage}
 use Rattle.model.specs.declared.Stage.the-variants.{Shut, Replaying, Open, Copying}
 use Rattle.model.specs.declared.Core.{Core}
 use Rattle.model.specs.Below.{within, allBelow}
 use Rattle.model.specs.Sizes.{sizesInBounds}
-use Rattle.model.specs.State.{places, limit, startOf, tailOf, endOf, numberAt, diskAtPlace, firstAt, hasUpdate, diskSound, placeSound, servingSound, checkpointSound, replaySound, soundIn, sound}
+use Rattle.model.specs.State.{places, limit, startOf, tailOf, endOf, numberAt, diskAtPlace, firstAt, hasUpdate, basesRight, diskSound, placeSound, servingSound, checkpointSound, replaySound, soundIn, sound}
 use Rattle.model.specs.Causes.{whenReplaying, whenCopying}
 use Rattle.model.proofs.Below.{all-each, each-all}
 use Rattle.model.proofs.SetPlace.{SizedTable}
 use Rattle.model.proofs.Store.Rows.{DiskSound, PlaceSound, CheckpointSound}
 use Rattle.model.proofs.Growth.{SizedLogs}
-use Rattle.model.proofs.Booleans.{true-false, all-four}
+use Rattle.model.proofs.Booleans.{true-false, both, all-four}
 
 -- The lengths of the arrays.
 pub record Sized (c : Core) : Type 0 where
@@ -37,7 +37,7 @@ within-test low high n a b = rw (le-leb low n a, le-leb n high b)
 -- Open or copying: a disk's log, a place of the table, and all of them.
 disk-test : (c : Core) (d : ℕ) → DiskSound c d → diskSound c d ≡ true
 unfolding diskSound
-disk-test c d s = rw (le-leb _ _ (s .fill), le-leb _ _ (s .ordered), le-leb _ _ (s .room), le-leb _ _ (s .limit))
+disk-test c d s = rw (eq-eqb _ _ (s .counted), le-leb _ _ (s .fill), le-leb _ _ (s .ordered), le-leb _ _ (s .room), le-leb _ _ (s .limit))
 
 place-test : (c : Core) (i : ℕ) → ((numberAt (c .table) i ≡ 0 → ⊥) → PlaceSound c i) → placeSound c i ≡ true
 unfolding placeSound
@@ -59,12 +59,14 @@ place-test c i s = go (eqb (numberAt (c .table) i) 0) refl
         let p = s (eqb-false _ _ e) in
         rw (e, lt-ltb _ _ (p .disk), le-leb _ _ (p .reserved)) (first p (hasUpdate (c .table) i) refl)
 
-pub serving-test : (c : Core) → sizesInBounds (c .sizes) ≡ true → ((d : ℕ) → d < c .sizes .disks → DiskSound c d)
+pub serving-test : (c : Core) → sizesInBounds (c .sizes) ≡ true → basesRight c ≡ true → 0 < c .next → ((d : ℕ) → d < c .sizes .disks → DiskSound c d)
     → ((i : ℕ) → i < places → (numberAt (c .table) i ≡ 0 → ⊥) → PlaceSound c i) → servingSound c ≡ true
 unfolding servingSound
-serving-test c sizes disks table =
+serving-test c sizes bases next disks table =
     rw (
       sizes,
+      bases,
+      lt-ltb _ _ next,
       each-all (diskSound c) (c .sizes .disks) (λ d h. disk-test c d (disks d h)),
       each-all (placeSound c) places (λ i h. place-test c i (table i h)),
     )
@@ -83,6 +85,7 @@ checkpoint-test c s =
 -- A restart under way: its number is within the bound, and each log's next position lies before its tail.
 pub record ReplaySound (c : Core) : Type 0 where
   pub bounds : sizesInBounds (c .sizes) ≡ true
+  pub bases : basesRight c ≡ true
   pub epoch : c .epoch < limit
   pub page : c .replay .page ≤ c .sizes .pages
   pub tails : (d : ℕ) → d < c .sizes .disks → tailOf (c .logs) d ≤ limit
@@ -98,18 +101,20 @@ replay-log-bounds c d e =
     let t = and-eq-true-iff (leb (tailOf (c .logs) d) limit) (leb (getD (c .replay .positions) d 0) (tailOf (c .logs) d)) .0 e in
     (leb-true _ _ (t .0), leb-true _ _ (t .1))
 
-replay-bounds : (c : Core) → replaySound c ≡ true → ReplaySound c
+pub replay-bounds : (c : Core) → replaySound c ≡ true → ReplaySound c
 unfolding replaySound replay-log
 replay-bounds c e =
-    let four =
-    all-four (sizesInBounds (c .sizes)) (ltb (c .epoch) limit) (leb (c .replay .page) (c .sizes .pages))
-    (allBelow (replay-log c) (c .sizes .disks)) e in
+    let epoch = ltb (c .epoch) limit in
+    let page = leb (c .replay .page) (c .sizes .pages) in
+    let t = both (sizesInBounds (c .sizes) && basesRight c && epoch && page) (allBelow (replay-log c) (c .sizes .disks)) e in
+    let four = all-four (sizesInBounds (c .sizes)) (basesRight c) epoch page (t .0) in
     record {
       bounds = four .0;
-      epoch = ltb-true _ _ (four .1);
-      page = leb-true _ _ (four .2);
-      tails = λ d h. replay-log-bounds c d (all-each (replay-log c) (c .sizes .disks) (four .3) d h) .0;
-      positions = λ d h. replay-log-bounds c d (all-each (replay-log c) (c .sizes .disks) (four .3) d h) .1;
+      bases = four .1;
+      epoch = ltb-true _ _ (four .2);
+      page = leb-true _ _ (four .3);
+      tails = λ d h. replay-log-bounds c d (all-each (replay-log c) (c .sizes .disks) (t .1) d h) .0;
+      positions = λ d h. replay-log-bounds c d (all-each (replay-log c) (c .sizes .disks) (t .1) d h) .1;
     }
 
 pub replay-test : (c : Core) → ReplaySound c → replaySound c ≡ true
@@ -117,6 +122,7 @@ unfolding replaySound replay-log
 replay-test c s =
     rw (
       s .bounds,
+      s .bases,
       lt-ltb _ _ (s .epoch),
       le-leb _ _ (s .page),
       each-all (replay-log c) (c .sizes .disks) (λ d h. rw (le-leb _ _ (s .tails d h), le-leb _ _ (s .positions d h))),

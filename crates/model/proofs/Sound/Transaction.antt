@@ -1,8 +1,8 @@
 -- Begin, update and commit hand back a state that passes the first test.
-use mathlib.Core.Path.{_≡_, refl}
+use mathlib.Core.Path.{_≡_, refl, sym, _∙_}
 use mathlib.Core.List.{List}
 use mathlib.Core.Bool.{Bool, true, false, cond}
-use Prim.Native.Nat.{ℕ, _+_, _*_, _≤_, _<_}
+use Prim.Native.Nat.{ℕ, _+_, _-_, _*_, _≤_, _<_}
 use native.Mathlib.Omega.{arith}
 use lib.ListN.{length}
 use Rattle.model.specs.declared.Logs.{Logs}
@@ -10,7 +10,7 @@ use Rattle.model.specs.declared.Core.{Core}
 use Rattle.model.specs.Sizes.{widthIn}
 use Rattle.model.specs.Record.{close, encode, wordsOf, updateKind, commitKind}
 use Rattle.model.specs.World.{World}
-use Rattle.model.specs.State.{startOf, endOf, placeOf, isOpen, firstAt, reservedAt, withLog, without, hasUpdate, servingSound, sound}
+use Rattle.model.specs.State.{startOf, endOf, placeOf, isOpen, firstAt, reservedAt, reservedOn, withLog, without, hasUpdate, servingSound, sound}
 use Rattle.model.specs.Room.{idlest}
 use Rattle.model.specs.Refusal.{accepted, verdict}
 use Rattle.model.specs.Causes.{whenServing}
@@ -18,9 +18,11 @@ use Rattle.model.specs.Append.{append}
 use Rattle.model.specs.Transaction.{diskOf, beginRows, begun, beginTask, slotWords, updateRecord, updated, updateRows, updateTask, commitRows, commitTask}
 use Rattle.model.proofs.Xor.{length-xors}
 use Rattle.model.proofs.Bounds.{bounded}
-use Rattle.model.proofs.Store.Rows.{serving-sound, sizes-sound, disk-sound}
+use Rattle.model.proofs.Store.Rows.{serving-sound, sizes-sound, next-sound, disk-sound}
 use Rattle.model.proofs.Sound.Test.{Sized, Passing}
 use Rattle.model.proofs.SetPlace.{sized-put}
+use Rattle.model.proofs.Places.{open-place, place-holds}
+use Rattle.model.proofs.Reserved.{reservedBy, free-by, other-by}
 use Rattle.model.proofs.Sound.Serving.{entry-sound}
 use Rattle.model.proofs.Growth.{tail-end, Longer, longer-none, longer-then, flush-longer, append-longer}
 use Rattle.model.proofs.Store.Accepted.{room-found, room-none, small-buffers, disks-max, OpenPlace, open-entry, open-below, Committing, begin-accepted, update-accepted, commit-accepted, Room}
@@ -31,17 +33,21 @@ unfolding beginTask begun
 begin-passes c w sized s ok =
     let a = begin-accepted c w ok in
     let good = serving-sound c (a .serving) s in
-    let disk = a .chosen (disks-max c good) in (
+    let disk = a .chosen (disks-max c good) in
+    let place : ℕ = placeOf (c .table) 0 in
+    let unused : (e : ℕ) → reservedBy (c .table) e place ≡ 0 = λ e. free-by (c .table) e place (place-holds (c .table) 0 (a .free)) in (
       record {
         logs = sized .logs;
-        table = sized-put (c .table) (sized .table) (placeOf (c .table) 0) (c .next) (idlest c 2) 0 2 (a .free);
+        table = sized-put (c .table) (sized .table) (placeOf (c .table) 0) (c .next) (idlest c 2) 0 2 (idlest c 2) (reservedOn (c .table) (idlest c 2) + 2) (a .free);
         ends = sized .ends;
         positions = sized .positions;
       },
       entry-sound c (a .serving) s sized (idlest c 2) 0 (c .logs) (disk .below)
           (longer-none (c .logs) (sized .logs) (small-buffers c good)) (placeOf (c .table) 0) (a .free) (c .next) (idlest c 2)
-          0 2 (c .next + 1) 2 (room-found c 2 (idlest c 2) (disk .passes)) (omega arith)
-          (λ some. record { home = refl; closing = omega arith; inside = λ more. absurd (omega arith) }),
+          0 2 (reservedOn (c .table) (idlest c 2) + 2) (c .next + 1) 2 (room-found c 2 (idlest c 2) (disk .passes)) (omega arith)
+          (λ e ne. unused e) (λ none. absurd (omega (arith, next-sound c good)))
+          (λ some. record { home = refl; closing = omega arith; inside = λ more. absurd (omega arith) })
+          (omega (arith, unused (idlest c 2))) (omega arith),
     )
 
 -- Update: its record goes to the log, and as many words are reserved to take it back.
@@ -87,32 +93,41 @@ module _ (c : Core) (serving : whenServing (c .stage) ≡ true) (s : sound c ≡
       go true e = let near = mine .sound .first e in (near .0, omega (arith, near .1))
       go false e = (omega (arith, disk-sound c disk good below .ordered, tail-end (c .logs) disk), omega arith)
 
+  -- it has words reserved on its disk alone
+  alone : (e : ℕ) → (e ≡ disk → ⊥) → reservedBy (c .table) e place ≡ 0
+  unfolding diskOf
+  alone e ne =
+      let here = open-place (c .table) number o in
+      other-by (c .table) e place (λ z. here .0 (sym (place-holds (c .table) number (here .1)) ∙ z)) (λ x. ne (sym x))
+
   update-entry : (k : ℕ) → 2 * r ≤ k → Room c disk k → Passing (withLog c l (updated c number r))
   unfolding withLog updated
   update-entry k enough room = (
     record {
       logs = g .sized;
-      table = sized-put (c .table) (sized .table) place number disk first (reservedAt (c .table) place + r) (mine .at);
+      table = sized-put (c .table) (sized .table) place number disk first (reservedAt (c .table) place + r) disk (reservedOn (c .table) disk + r) (mine .at);
       ends = sized .ends;
       positions = sized .positions;
     },
-    entry-sound c serving s sized disk r l below g place (mine .at) number disk first (reservedAt (c .table) place + r) (c .next) k
-        room (omega (arith, mine .by))
-        (λ some. record { home = refl; closing = omega (arith, mine .sound .reserved); inside = λ more. first-inside }),
+    entry-sound c serving s sized disk r l below g place (mine .at) number disk first (reservedAt (c .table) place + r)
+        (reservedOn (c .table) disk + r) (c .next) k room (omega (arith, mine .by)) alone (λ none. absurd (open-place (c .table) number o .0 none))
+        (λ some. record { home = refl; closing = omega (arith, mine .sound .reserved); inside = λ more. first-inside })
+        (omega (arith, mine .by)) (next-sound c good),
   )
 
   -- Commit and abort: no more words are written than were reserved, and these are given back.
   pub close-passes : r ≤ reservedAt (c .table) (placeOf (c .table) number) → Passing (withLog c l (without (c .table) number))
-  unfolding withLog without
+  unfolding withLog without diskOf
   close-passes fits = (
     record {
       logs = g .sized;
-      table = sized-put (c .table) (sized .table) place 0 0 0 0 (mine .at);
+      table = sized-put (c .table) (sized .table) place 0 0 0 0 disk (reservedOn (c .table) disk - reservedAt (c .table) place) (mine .at);
       ends = sized .ends;
       positions = sized .positions;
     },
-    entry-sound c serving s sized disk r l below g place (mine .at) 0 0 0 0 (c .next) 0
-        (room-none c disk (disk-sound c disk good below)) (omega (arith, mine .by)) (λ some. absurd (some refl)),
+    entry-sound c serving s sized disk r l below g place (mine .at) 0 0 0 0 (reservedOn (c .table) disk - reservedAt (c .table) place)
+        (c .next) 0 (room-none c disk (disk-sound c disk good below)) (omega (arith, mine .by)) alone (λ none. refl)
+        (λ some. absurd (some refl)) (omega (arith, mine .by, mine .on)) (next-sound c good),
   )
 
 pub update-passes : (c : Core) (w : World) (number page slot : ℕ) (value : List ℕ) → Sized c → sound c ≡ true

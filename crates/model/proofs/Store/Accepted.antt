@@ -67,11 +67,12 @@ module _ (c : Core) (number : ℕ) (ok : servingSound c ≡ true) (o : isOpen (c
       let here = open-place (c .table) number o in
       let some : numberAt (c .table) place ≡ 0 → ⊥ = λ e. here .0 (sym (place-holds (c .table) number (here .1)) ∙ e) in
       let by = own-by (c .table) (diskAtPlace (c .table) place) place some refl in
+      let right = place-sound c place ok (here .1) some in
       record {
         at = here .1;
-        sound = place-sound c place ok (here .1) some;
+        sound = right;
         by = by;
-        on = omega (arith, by-le (c .table) (diskAtPlace (c .table) place) place (here .1));
+        on = omega (arith, by-le (c .table) (diskAtPlace (c .table) place) place (here .1), disk-sound c (diskAtPlace (c .table) place) ok (right .disk) .counted);
       }
 
   pub open-below : diskOf c number < c .sizes .disks
@@ -103,7 +104,7 @@ begin-accepted c w ok =
     let r13 = row-passed _ _ (r12 .1) in
     let r14 = row-passed _ _ (r13 .1) in
     record {
-      serving = stage-row whenServing c (r1 .0);
+      serving = stage-row whenServing _ c (r1 .0);
       free = leb-false _ _ (r12 .0);
       chosen = λ eight. idlest-found (hasRoom c 2) (loadOf (c .logs)) (c .sizes .disks) eight (leb-false _ _ (r14 .0));
     }
@@ -133,7 +134,7 @@ update-accepted c w number page slot value ok =
     let r14 = row-passed _ _ (r11 .1) in
     let there = or-none _ _ (r8 .0) in
     record {
-      serving = stage-row whenServing c (r1 .0);
+      serving = stage-row whenServing _ c (r1 .0);
       page-lt = leb-false _ _ (there .0);
       slot-lt = leb-false _ _ (there .1);
       opened = not-false _ (r9 .0);
@@ -153,7 +154,7 @@ commit-accepted c w number ok =
     let r2 = row-passed _ _ (r1 .1) in
     let r5 = row-passed _ _ (r2 .1) in
     let r9 = row-passed _ _ (r5 .1) in
-    record { serving = stage-row whenServing c (r1 .0); opened = not-false _ (r9 .0) }
+    record { serving = stage-row whenServing _ c (r1 .0); opened = not-false _ (r9 .0) }
 
 -- Abort: what it takes back and its closing record have no more words than are reserved for them.
 pub record Aborting (c : Core) (w : World) (number : ℕ) : Type 0 where
@@ -169,7 +170,7 @@ abort-accepted c w number s ok =
     let r5 = row-passed _ _ (r2 .1) in
     let r7 = row-passed _ _ (r5 .1) in
     let r9 = row-passed _ _ (r7 .1) in
-    let serving = stage-row whenServing c (r1 .0) in
+    let serving = stage-row whenServing _ c (r1 .0) in
     let opened = not-false _ (r9 .0) in
     let mine = open-entry c number (serving-sound c serving s) opened in
     record {

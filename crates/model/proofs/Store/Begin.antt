@@ -8,7 +8,7 @@ use lib.Dec.{eqb}
 use borrow.Author.Tests.{eq-eqb, ne-eqb}
 use Rattle.model.specs.declared.Table.{Table}
 use Rattle.model.specs.declared.Core.{Core}
-use Rattle.model.specs.Sizes.{total}
+use Rattle.model.specs.Sizes.{total, slotBase}
 use Rattle.model.specs.World.{World}
 use Rattle.model.specs.Memory.{ownerOf}
 use Rattle.model.specs.State.{keptOf, diskAtPlace, firstAt, reservedAt, placeOf, isOpen}
@@ -48,7 +48,7 @@ module _ {home : ℕ → ℕ} {puts : Told} {c : Core} {w : World} {r : Referenc
   unfolding begun begunLedger view
   safe =
       record {
-        devices = devices-same refl refl refl refl (v .safe .devices .lengths) (v .safe .devices);
+        devices = devices-same refl refl refl refl refl (v .safe .devices .lengths) (v .safe .devices);
         good = good-same same (begin-good (v .safe .good));
         link = v .safe .link;
         ordered = record {
@@ -151,7 +151,7 @@ module _ {home : ℕ → ℕ} {puts : Told} {c : Core} {w : World} {r : Referenc
         below = λ page slot p q. omega (arith, v .owners .below page slot p q);
         written =
             λ page slot p q o.
-            let t : ℕ = ownerOf (c .sizes) (w .work) page slot in
+            let t : ℕ = ownerOf (c .sizes) (w .work) (slotBase (c .sizes) page slot) in
             let less = v .owners .below page slot p q in
             rw (front-writes (c .next) (r .writeSets) t, ne-eqb t (c .next) (λ e. omega arith))
             (v .owners .written page slot p q (newly ok v t (isOpen (c .table) t ≡ true) o (λ e. absurd (omega arith)) (λ h. h)));

@@ -41,7 +41,7 @@ end-accepted c w e =
     let five = row-passed _ _ (two .1) in
     let last = row-passed _ _ (five .1) in
     record {
-      stage = stage-row whenCopying c (one .0);
+      stage = stage-row whenCopying _ c (one .0);
       copied = ltb-false _ _ (last .0);
     }
 

@@ -13,11 +13,12 @@ use Rattle.model.specs.declared.Decoded.{Decoded}
 use Rattle.model.specs.declared.Decoded.the-variants.{Change, Close, Malformed}
 use Rattle.model.specs.declared.Fate.the-variants.{Closed}
 use Rattle.model.specs.declared.Fault.the-variants.{NoFault}
+use Rattle.model.specs.Sizes.{total}
 use Rattle.model.specs.Anchor.{epochOn, sizesOn, startOn}
 use Rattle.model.specs.Record.{change, close}
 use Rattle.model.specs.Scan.{Scan, end, bad, item, scan, fateIn}
 use Rattle.model.specs.World.{World}
-use Rattle.model.specs.State.{tailOf, sound}
+use Rattle.model.specs.State.{tailOf}
 use Rattle.model.specs.Refusal.{Row, row, accepted, rejected, verdict, Result, numberOf}
 use Rattle.model.specs.Causes.{whenShut, whenReplaying, whenServing, stageForbids, lengthsWrong, spent}
 use Rattle.model.specs.Format.{formatRows}
@@ -39,9 +40,9 @@ use Rattle.model.proofs.Verdict.{verdict-append}
 
 pub begin-verdict : (c : Core) (w : World) → c .stage ≡ Shut → Restartable w
     → verdict (restartBeginRows c w) ≡ cond (spent (epochOn (w .anchor))) (rejected 13 0 0) accepted
-unfolding verdict restartBeginRows stageForbids sound
+unfolding verdict restartBeginRows stageForbids
 begin-verdict c w e h =
-    rw e (verdict-append (imageRows (λ s. lengthsWrong s w) (w .anchor) (w .logs)) (row 13 (spent (epochOn (w .anchor))) ∷ []) (restartable-rows w h))
+    rw e (verdict-append (imageRows (λ s. lengthsWrong s (total s) w) (w .anchor) (w .logs)) (row 13 (spent (epochOn (w .anchor))) ∷ []) (restartable-rows w h))
 
 -- "restart begin in stage shut can give only 13"
 pub restart-begin-answers : (c : Core) (w : World) → c .stage ≡ Shut → Restartable w
@@ -131,19 +132,19 @@ step-never-seven c w m source e =
     true≢false (sym (seven-row (restartStep source) c w e) ∙ none)
 
 -- a call checks its stage first
-stage-first : (k : Call) (c : Core) (w : World) (allowed : Stage → Bool) (rows : List Row)
-    → rowsOf k c w ≡ row 1 (stageForbids allowed c) ∷ rows → (allowed (c .stage) ≡ true → finds 7 rows ≡ false)
+stage-first : (k : Call) (c : Core) (w : World) (allowed : Stage → Bool) (fits : Bool) (rows : List Row)
+    → rowsOf k c w ≡ row 1 (stageForbids allowed fits c) ∷ rows → (allowed (c .stage) ≡ true → finds 7 rows ≡ false)
     → numberOf (resultOf k c w .answer) ≡ 7 → ⊥
 unfolding resultOf verdict finds
-stage-first k c w allowed rows e none seven = go (stageForbids allowed c) refl
+stage-first k c w allowed fits rows e none seven = go (stageForbids allowed fits c) refl
   where
-    go : (b : Bool) → stageForbids allowed c ≡ b → ⊥
+    go : (b : Bool) → stageForbids allowed fits c ≡ b → ⊥
     go true f =
         let n = rw (e, f) at seven in
         omega arith
     go false f =
         let found = rw e at (seven-row k c w seven) in
-        true≢false (sym found ∙ none (stage-row allowed c f))
+        true≢false (sym found ∙ none (stage-row allowed _ c f))
 
 pub shut-stage : (s : Stage) → whenShut s ≡ true → s ≡ Shut
 shut-stage Shut e = refl
@@ -169,18 +170,18 @@ never-seven (update number page slot value budget) c w shut replaying serving e 
 never-seven (look (read reader page slot)) c w shut replaying serving e = true≢false (sym (seven-row (look (read reader page slot)) c w e))
 never-seven (commit number budget) c w shut replaying serving e = true≢false (sym (seven-row (commit number budget) c w e))
 never-seven (abort number budget) c w shut replaying serving e =
-    stage-first (abort number budget) c w whenServing _ refl (λ s. rw (serving s number)) e
+    stage-first (abort number budget) c w whenServing _ _ refl (λ s. rw (serving s number)) e
 never-seven checkpointBegin c w shut replaying serving e = true≢false (sym (seven-row checkpointBegin c w e))
 never-seven (checkpointStep budget) c w shut replaying serving e = true≢false (sym (seven-row (checkpointStep budget) c w e))
 never-seven (checkpointEnd budget) c w shut replaying serving e = true≢false (sym (seven-row (checkpointEnd budget) c w e))
 never-seven restartBegin c w shut replaying serving e =
-    stage-first restartBegin c w whenShut _ refl
+    stage-first restartBegin c w whenShut _ _ refl
     (λ s. rw (whole-records (sizesOn (w .anchor)) (startOn (w .anchor)) (w .logs) (shut (shut-stage (c .stage) s) .image .whole))) e
 never-seven (restartStep source) c w shut replaying serving e =
-    stage-first (restartStep source) c w whenReplaying _ refl
+    stage-first (restartStep source) c w whenReplaying _ _ refl
     (λ s. rw (step-never-bad c w (replaying (replaying-stage (c .stage) s)) source)) e
 never-seven (restartRun source most) c w shut replaying serving e =
-    stage-first (restartRun source most) c w whenReplaying _ refl
+    stage-first (restartRun source most) c w whenReplaying _ _ refl
     (λ s. rw (step-never-bad c w (replaying (replaying-stage (c .stage) s)) source)) e
 never-seven (restartEnd budget) c w shut replaying serving e = true≢false (sym (seven-row (restartEnd budget) c w e))
 never-seven newState c w shut replaying serving e = true≢false (sym (seven-row newState c w e))

@@ -10,13 +10,12 @@ use Rattle.model.specs.declared.Core.{Core}
 use Rattle.model.specs.Sizes.{total, ringOf}
 use Rattle.model.specs.Record.{close, encode, abortKind}
 use Rattle.model.specs.World.{World, perform, stores, run}
-use Rattle.model.specs.Memory.{copyAt, copyOf}
 use Rattle.model.specs.State.{limit, keptOf, endOf, withLog, isOpen, without}
 use Rattle.model.specs.Append.{Appended, append}
 use Rattle.model.specs.Transaction.{diskOf}
 use Rattle.model.specs.Reference.{Reference, removed, withSets}
 use Rattle.model.specs.History.{Told, also}
-use Rattle.model.proofs.Geometry.{slotStart, slot-in}
+use Rattle.model.proofs.Geometry.{slotStart, pageOf}
 use Rattle.model.proofs.Slots.{patchOf}
 use Rattle.model.proofs.WriteSets.{writes-removed-other}
 use Rattle.model.proofs.Places.{close-open}
@@ -96,7 +95,7 @@ module _ {t : ℕ} {home : ℕ → ℕ} {puts : Told} {c : Core} {w : World} {r 
   buffer = put-in-buffer g e may
 
   same : Same (total s) (abortedBy (view c w r F' (B1 g e may)) e) (view core w1 reference F' B')
-  unfolding view abortedBy withLog copyOf copyAt
+  unfolding view abortedBy withLog
   same =
       record {
         epoch = refl;
@@ -104,8 +103,8 @@ module _ {t : ℕ} {home : ℕ → ℕ} {puts : Told} {c : Core} {w : World} {r 
         pages = λ i h. rw (buffer .pages-same);
         current = λ i h. rw (buffer .backups-same);
         other = λ i h. rw (buffer .backups-same);
-        copies = λ i h. sym (copies-same buffer _ below (omega arith));
-        owners = λ i h. sym (owners-same buffer (slotStart s i) (slot-in s i h .start-lt));
+        copies = λ i h. sym (copies-same buffer (pageOf s i) below);
+        owners = λ i h. sym (owners-same buffer (slotStart s i) below);
         committed = λ i h. refl;
         writes =
             λ u o. ap (map (patchOf s)) (sym (writes-removed-other t (r .writeSets) u (except-open (isOpen (c .table)) t u o .1)));
@@ -143,10 +142,10 @@ module _ {t : ℕ} {home : ℕ → ℕ} {puts : Told} {c : Core} {w : World} {r 
               stage = g .stage;
               safe = put-safe g e may (none-written s w1) 0 (without (c .table) t) reference (g .safe .sizes) (g .safe .shaped) good;
               accounts = accounts;
-              copies = put-copies g e may (none-written s w1) (λ i h. refl) (λ h. true-false closes h) (λ h k. true-false closes k) (without (c .table) t);
+              copies = put-copies g e may (none-written s w1) (λ p h. refl) (λ h. true-false closes h) (λ h k. true-false closes k) (without (c .table) t);
               sets = sets-closed (g .accounts .tabled) t opened (g .sets) (closing .logs) reference refl;
               owners =
-                  owners-closed (g .accounts .tabled) t opened (g .safe .devices .bounds) (g .owners) (owners-same buffer) (closing .logs)
+                  owners-closed (g .accounts .tabled) t opened (g .safe .devices .bounds) (g .owners) (λ i h. owners-same buffer i below) (closing .logs)
                   reference refl;
               told = λ k h.
                   since-still refl (λ u y l. was-open (c .table) (g .accounts .tabled) t opened u (y l) .0)

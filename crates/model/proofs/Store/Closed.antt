@@ -5,14 +5,13 @@ use mathlib.Core.Bool.{Bool, true, false, cond, not, _&&_, _||_, or-true, and-tr
 use Prim.Native.Nat.{ℕ, _+_, _<_}
 use native.Mathlib.Decide.{ℕ-discrete}
 use lib.Dec.{eqb}
-use lib.ListN.{getD}
 use borrow.Author.Tests.{eq-eqb, ne-eqb}
 use Rattle.model.specs.declared.Table.{Table}
 use Rattle.model.specs.declared.Logs.{Logs}
 use Rattle.model.specs.declared.Core.{Core}
 use Rattle.model.specs.Sizes.{total, slotsIn, slotBase}
 use Rattle.model.specs.World.{World}
-use Rattle.model.specs.Memory.{ownerAt, ownerOf}
+use Rattle.model.specs.Memory.{ownerOf}
 use Rattle.model.specs.State.{keptOf, reservedAt, placeOf, diskAtPlace, firstAt, hasUpdate, isOpen, without, withLog}
 use Rattle.model.specs.Transaction.{diskOf}
 use Rattle.model.specs.Reference.{Reference, Write, WriteSet, writesOf, writesSlot, removed, hasSet}
@@ -42,7 +41,7 @@ module _ (t : Table) (ok : Tabled t) (n : ℕ) (opened : isOpen t n ≡ true) (u
 
   there : SameAt t (without t n) (placeOf t u)
   unfolding without
-  there = other-same t (placeOf t n) 0 0 0 0 (placeOf t u) (places-apart t u n also opened ne)
+  there = other-same t (placeOf t n) 0 0 0 0 _ _ (placeOf t u) (places-apart t u n also opened ne)
 
   pub disk-kept : diskAtPlace (without t n) (placeOf (without t n) u) ≡ diskAtPlace t (placeOf t u)
   disk-kept = rw place-same (there .disk)
@@ -97,9 +96,9 @@ sets-closed {c} {r} ok n opened h l q e =
 
 -- The owners stay: of those that are still open, none is the closed transaction, and their sets are kept.
 pub owners-closed : {c : Core} {w v : World} {r : Reference} → Tabled (c .table) → (n : ℕ) → isOpen (c .table) n ≡ true → Bounded (c .sizes)
-    → Owners c w r → ((i : ℕ) → i < total (c .sizes) → getD (v .work) i 0 ≡ getD (w .work) i 0) → (l : Logs) (q : Reference)
+    → Owners c w r → ((i : ℕ) → i < total (c .sizes) → ownerOf (c .sizes) (v .work) i ≡ ownerOf (c .sizes) (w .work) i) → (l : Logs) (q : Reference)
     → q .writeSets ≡ removed n (r .writeSets) → Owners (withLog c l (without (c .table) n)) v q
-unfolding withLog ownerOf ownerAt
+unfolding withLog
 owners-closed {c} {w} {v} {r} ok n opened b h same l q e =
     record {
       below = λ page slot p k. rw (word page slot p k) (h .below page slot p k);
@@ -107,7 +106,7 @@ owners-closed {c} {w} {v} {r} ok n opened b h same l q e =
     }
   where
     word : (page slot : ℕ) → page < c .sizes .pages → slot < slotsIn (c .sizes) page
-        → getD (v .work) (slotBase (c .sizes) page slot) 0 ≡ getD (w .work) (slotBase (c .sizes) page slot) 0
+        → ownerOf (c .sizes) (v .work) (slotBase (c .sizes) page slot) ≡ ownerOf (c .sizes) (w .work) (slotBase (c .sizes) page slot)
     word page slot p k = same _ (slot-lt (c .sizes) b page slot p k)
 
     still : (page slot : ℕ) {u : ℕ} → (isOpen (c .table) u ≡ true) × (u ≡ n → ⊥)

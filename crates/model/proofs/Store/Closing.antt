@@ -13,7 +13,7 @@ use Rattle.model.specs.Sizes.{total, ringOf}
 use Rattle.model.specs.Record.{encode}
 use Rattle.model.specs.Anchor.{backupAt}
 use Rattle.model.specs.World.{World, Action, perform, stores, run}
-use Rattle.model.specs.Memory.{bufferAt, copyAt, copyOf}
+use Rattle.model.specs.Memory.{copyOf, ownerOf}
 use Rattle.model.specs.State.{limit, keptOf, endOf, afterFlush, withLog, without, isOpen}
 use Rattle.model.specs.Append.{Appended, append, flush}
 use Rattle.model.specs.Reference.{Reference, writesOf, removed, applied, wordsIn}
@@ -91,8 +91,8 @@ module _ {home : ℕ → ℕ} {puts : Told} {c : Core} {w : World} {r : Referenc
   linked : Link (c .sizes) (added .logs) addedWorld F (B ++ e ∷ [])
   linked = link-logged (g .safe) e may
 
-  right : Lengths (c .sizes) addedWorld
-  right = lengths-perform (added .actions) (lengths-right (c .sizes) w (g .safe .devices .lengths))
+  right : Lengths (c .sizes) (total (c .sizes)) addedWorld
+  right = lengths-perform (added .actions) (lengths-right (c .sizes) (total (c .sizes)) w (g .safe .devices .lengths))
 
   ring-room : endOf (added .logs) (e .disk) ≤ keptOf (added .logs) (e .disk) + ringOf (c .sizes) (e .disk)
   ring-room = rw (more .kept-same (e .disk), more .end-longer) (may .in-ring)
@@ -131,14 +131,11 @@ module _ {home : ℕ → ℕ} {puts : Told} {c : Core} {w : World} {r : Referenc
   ends d h (no ne) = rw (more .kept-same d, more .tail-same d ne, more .fill-same d ne) (g .safe .ends d h)
 
   -- the owners and the copy numbers stay
-  owner-same : (i : ℕ) → i < total (c .sizes) → getD (doneWorld .work) i 0 ≡ getD (w .work) i 0
-  owner-same i h = ap (λ (m : List ℕ). getD m i 0) (only .work-same) ∙ owners-same buffer i h
+  owner-same : (i : ℕ) → i < total (c .sizes) → ownerOf (c .sizes) (doneWorld .work) i ≡ ownerOf (c .sizes) (w .work) i
+  owner-same i h = ap (λ (m : List ℕ). ownerOf (c .sizes) m i) (only .work-same) ∙ owners-same buffer i below
 
   epoch-same : (p : ℕ) → copyOf (c .sizes) (doneWorld .work) p ≡ copyOf (c .sizes) (w .work) p
-  unfolding copyOf copyAt
-  epoch-same p =
-      ap (λ (m : List ℕ). getD m (bufferAt (c .sizes) (c .sizes .disks) + p) 0) (only .work-same)
-      ∙ copies-same buffer (bufferAt (c .sizes) (c .sizes .disks) + p) below (omega arith)
+  epoch-same p = ap (λ (m : List ℕ). copyOf (c .sizes) m p) (only .work-same) ∙ copies-same buffer p below
 
   -- the committed contents are those before with the transaction's writes
   words-committed : (i : ℕ) → getD (wordsIn (doneReference .committed)) i 0

@@ -13,7 +13,7 @@ use Rattle.model.specs.Word.{_⊕_, xors, part}
 use Rattle.model.specs.Sizes.{slotBase, total}
 use Rattle.model.specs.Scan.{Update}
 use Rattle.model.specs.World.{World, Action, pages, perform, stores, run}
-use Rattle.model.specs.Memory.{copyAt, copyOf}
+use Rattle.model.specs.Memory.{copyOf}
 use Rattle.model.specs.State.{keptOf, endOf, withLog}
 use Rattle.model.specs.Append.{Appended}
 use Rattle.model.specs.Transaction.{diskOf}
@@ -23,7 +23,7 @@ use Rattle.model.specs.Reference.{Reference}
 use Rattle.model.specs.History.{Told, also, compensation}
 use Rattle.model.proofs.Run.{perform-append, stores-written}
 use Rattle.model.proofs.Lengths.{lengths-right}
-use Rattle.model.proofs.Geometry.{pageOf, slotStart, slot-start, slot-in, slot-end-total}
+use Rattle.model.proofs.Geometry.{pageOf, slotStart, slot-start, slot-end-total}
 use Rattle.model.proofs.Restart.Words.{withPages, perform-xor, xor-at-word, length-xor-at}
 use Rattle.model.proofs.Ledger.Entry.{Entry, recordOf, isClose, mask, spanning, share, adds}
 use Rattle.model.proofs.Ledger.State.{logged, Same}
@@ -93,7 +93,7 @@ module _ {t : ℕ} {home : ℕ → ℕ} {puts : Told} {c : Core} {w : World} {r 
 
   inside : at + length (u .diff) ≤ length (w1 .pages)
   inside =
-      rw (buffer .pages-same, ok .slotted .width, lengths-right s w (g .safe .devices .lengths) .pages)
+      rw (buffer .pages-same, ok .slotted .width, lengths-right s (total s) w (g .safe .devices .lengths) .pages)
       (slot-end-total s (u .page) (u .slot) (ok .slotted .page-in) (ok .slotted .slot-in))
 
   -- every word takes what the record adds
@@ -102,8 +102,7 @@ module _ {t : ℕ} {home : ℕ → ℕ} {puts : Told} {c : Core} {w : World} {r 
   pages-after i = rw (xor-at-word at (u .diff) (w1 .pages) i inside, buffer .pages-same)
 
   copies-after : (page : ℕ) → copyOf s (w .work) page ≡ copyOf s (w1 .work) page
-  unfolding copyOf copyAt
-  copies-after page = sym (copies-same buffer _ (ok .below) (omega arith))
+  copies-after page = sym (copies-same buffer page (ok .below))
 
   -- the words of the slot have the copy number of its page
   copy : (i : ℕ) → i < total s → spanning at (length (u .diff)) i ≡ true → copyOf s (w .work) (pageOf s i) ≡ e .copy
@@ -121,7 +120,7 @@ module _ {t : ℕ} {home : ℕ → ℕ} {puts : Told} {c : Core} {w : World} {r 
         current = λ i h. rw (buffer .backups-same);
         other = λ i h. rw (buffer .backups-same);
         copies = λ i h. copies-after (pageOf s i);
-        owners = λ i h. sym (owners-same buffer (slotStart s i) (slot-in s i h .start-lt));
+        owners = λ i h. sym (owners-same buffer (slotStart s i) (ok .below));
         committed = λ i h. refl;
         writes = λ v h. refl;
         opened = λ v. refl;
@@ -140,7 +139,7 @@ module _ {t : ℕ} {home : ℕ → ℕ} {puts : Told} {c : Core} {w : World} {r 
         backups-same = refl;
         logs-same = refl;
         lengths = record { anchor = refl; pages = length-xor-at at (u .diff) (w1 .pages); backups = refl; logs = refl; work = refl };
-        buffers-same = λ i h k. refl;
+        buffers-same = λ i h. refl;
       }
 
   -- what is told of the logs, with its record
@@ -155,10 +154,10 @@ module _ {t : ℕ} {home : ℕ → ℕ} {puts : Told} {c : Core} {w : World} {r 
         safe = put-safe g e may written t (c .table) r (g .safe .sizes) (g .safe .shaped) good;
         accounts = put-own g e may (ok .has) refl;
         copies =
-            put-copies g e may written (λ i h. refl) (λ h. capped g e (u .page) (ok .slotted .page-in) refl)
+            put-copies g e may written (λ p h. refl) (λ h. capped g e (u .page) (ok .slotted .page-in) refl)
             (λ h k. early g e (u .page) (ok .slotted .page-in) refl (ok .below) refl h) (c .table);
         sets = record { distinct = g .sets .distinct; has = g .sets .has; fits = g .sets .fits };
-        owners = owners-kept (g .safe .devices .bounds) refl refl refl (owners-same buffer) (g .owners);
+        owners = owners-kept (g .safe .devices .bounds) refl refl refl (λ i h. owners-same buffer i (ok .below)) (g .owners);
         told = put-told g e may (record { disk = d; content = compensation c w t u }) refl (compensation-record c w t u);
         marks = g .marks;
       }

@@ -46,7 +46,7 @@ module _ {home : ℕ → ℕ} {puts : Told} {c : Core} {w : World} {r : Referenc
     (ok : verdict (checkpointBeginRows c w) ≡ accepted) (v : Serving 0 home puts c w r F B) where
   opened : whenOpen (c .stage) ≡ true
   unfolding checkpointBeginRows
-  opened = stage-row whenOpen c (row-passed _ _ ok .0)
+  opened = stage-row whenOpen _ c (row-passed _ _ ok .0)
 
   remembering : Copies (checkpointBeginTask c w .core) w F B
   unfolding checkpointBeginTask before
@@ -67,7 +67,7 @@ module _ {home : ℕ → ℕ} {puts : Told} {c : Core} {w : World} {r : Referenc
       record {
         stage = refl;
         safe = record {
-          devices = devices-same refl refl refl refl (v .safe .devices .lengths) (v .safe .devices);
+          devices = devices-same refl refl refl refl refl (v .safe .devices .lengths) (v .safe .devices);
           good = v .safe .good;
           link = v .safe .link;
           ordered = v .safe .ordered;
@@ -154,7 +154,7 @@ module _ {home : ℕ → ℕ} {puts : Told} {c : Core} {w : World} {r : Referenc
             buffered = refl;
           }
 
-  stepped-lengths : lengthsRight (c .sizes) u ≡ true
+  stepped-lengths : lengthsRight (c .sizes) (total (c .sizes)) u ≡ true
   unfolding lengthsRight
   stepped-lengths = simp (length-sets, length-set) (v .safe .devices .lengths)
 
@@ -197,7 +197,7 @@ module _ {home : ℕ → ℕ} {puts : Told} {c : Core} {w : World} {r : Referenc
       record {
         stage = v .stage;
         safe = record {
-          devices = devices-same refl refl refl refl stepped-lengths (v .safe .devices);
+          devices = devices-same refl refl refl refl refl stepped-lengths (v .safe .devices);
           good = good;
           link = stepped-link;
           ordered = v .safe .ordered;

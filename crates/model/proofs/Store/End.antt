@@ -13,7 +13,7 @@ use Rattle.model.specs.Below.{listBelow}
 use Rattle.model.specs.Sizes.{total, sizesInBounds}
 use Rattle.model.specs.Anchor.{anchorWords, epochWord, epochOn, sizesOn, startWord, startOn, backupAt}
 use Rattle.model.specs.World.{World, Action, store, write, anchor, backups, work, cost, act, perform, stores, run, finishes, each}
-use Rattle.model.specs.Memory.{copyAt}
+use Rattle.model.specs.Memory.{copyAt, ownerAt}
 use Rattle.model.specs.State.{limit, tailOf, sound}
 use Rattle.model.specs.Refusal.{accepted, verdict}
 use Rattle.model.specs.Causes.{whenReplaying, anchorWrong, lengthsWrong, tailOn, tailIn}
@@ -21,6 +21,7 @@ use Rattle.model.specs.Format.{freshMemory, freshWork}
 use Rattle.model.specs.Restart.{restartEndRows, restartEndTask}
 use Rattle.model.specs.History.{Told, emptyFrom}
 use Rattle.model.specs.Reference.{Reference, wordsIn}
+use Rattle.model.proofs.KeptBases.{total-kept}
 use Rattle.model.proofs.Run.{perform-append, perform-backups, perform-work, stores-append, stores-stored}
 use Rattle.model.proofs.Counts.{stores-list, restart-end-stores}
 use Rattle.model.proofs.Bounds.{Bounded, bounded}
@@ -56,7 +57,7 @@ pub record EndFound (c : Core) (w : World) : Type 0 where
   pub bounds : sizesInBounds (c .sizes) ≡ true
   pub short : (d : ℕ) → d < c .sizes .disks → tailOf (c .logs) d ≤ limit
   pub anchor : length (w .anchor) ≡ anchorWords
-  pub lengths : Lengths (c .sizes) w
+  pub lengths : Lengths (c .sizes) (total (c .sizes)) w
 
 pub end-found : (c : Core) (w : World) → sound c ≡ true → verdict (restartEndRows c w) ≡ accepted → EndFound c w
 unfolding restartEndRows anchorWrong lengthsWrong
@@ -64,25 +65,25 @@ end-found c w s e =
     let first = row-passed _ _ e in
     let second = row-passed _ _ (first .1) in
     let third = row-passed _ _ (second .1) in
-    let held = replay-sound c (stage-row whenReplaying c (first .0)) s in
+    let held = replay-sound c (stage-row whenReplaying _ c (first .0)) s in
     record {
       bounds = held .bounds;
       short = held .tails;
       anchor = eqb-true _ _ (not-false _ (second .0));
-      lengths = lengths-right (c .sizes) w (not-false _ (third .0));
+      lengths = rw (total-kept c (held .bases)) at (lengths-right (c .sizes) (c .bases .total) w (not-false _ (third .0)));
     }
 
 -- what its actions do, for any words of memory that they put
 end-puts : (s : Sizes) (w : World) (n disks : ℕ) (tail : ℕ → ℕ) (copy owners copies : List ℕ)
     → perform
     (each (store backups) (backupAt s n) copy ++ listBelow (λ d. store anchor (startWord n d) (tail d)) disks
-    ++ (store anchor epochWord n ∷ []) ++ (each (write work) 0 owners ++ each (write work) (copyAt s 0) copies)) w
+    ++ (store anchor epochWord n ∷ []) ++ (each (write work) (ownerAt s 0) owners ++ each (write work) (copyAt s 0) copies)) w
     ≡ record {
       anchor = set (setEach (startWord n) tail disks (w .anchor)) epochWord n;
       pages = w .pages;
       backups = sets (w .backups) (backupAt s n) copy;
       logs = w .logs;
-      work = sets (sets (w .work) 0 owners) (copyAt s 0) copies;
+      work = sets (sets (w .work) (ownerAt s 0) owners) (copyAt s 0) copies;
     }
 unfolding perform act
 end-puts s w n disks tail copy owners copies =

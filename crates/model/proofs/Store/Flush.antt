@@ -17,6 +17,7 @@ use Rattle.model.specs.Append.{flush}
 use Rattle.model.specs.Transaction.{diskOf}
 use Rattle.model.specs.Reference.{Reference}
 use Rattle.model.specs.History.{Told, also}
+use Rattle.model.proofs.KeptBases.{bases-carried}
 use Rattle.model.proofs.Lengths.{Lengths, lengths-right}
 use Rattle.model.proofs.Run.{SameLengths, perform-lengths, run-lengths}
 use Rattle.model.proofs.Flush.{OnlyLogs}
@@ -36,7 +37,7 @@ use Rattle.model.proofs.Growth.{start-flushed, ends-flushed}
 use Rattle.model.proofs.Store.WordsFor.{words-for-flush}
 
 -- lists of the same lengths are as right
-pub lengths-same : (s : Sizes) {v w : World} → SameLengths v w → lengthsRight s w ≡ true → lengthsRight s v ≡ true
+pub lengths-same : (s : Sizes) {v w : World} → SameLengths v w → lengthsRight s (total s) w ≡ true → lengthsRight s (total s) v ≡ true
 unfolding lengthsRight
 lengths-same s k h = rw (k .pages, k .backups, k .logs, k .work) h
 
@@ -48,6 +49,7 @@ unfolding withLog
 devices-kept {c} g l t v starts arrays anchor lengths =
     record {
       bounds = g .bounds;
+      bases = bases-carried c (withLog c l t) refl refl (g .bases);
       anchor = lengths .anchor ∙ g .anchor;
       lengths = lengths-same (c .sizes) lengths (g .lengths);
       sizes = ap sizesOn anchor ∙ g .sizes;
@@ -72,8 +74,8 @@ module _ {x : ℕ} {home : ℕ → ℕ} {c : Core} {w : World} {r : Reference} {
   room : endOf (c .logs) d ≤ keptOf (c .logs) d + ringOf (c .sizes) d
   room = g .ends d below .0
 
-  right : Lengths (c .sizes) w
-  right = lengths-right (c .sizes) w (g .devices .lengths)
+  right : Lengths (c .sizes) (total (c .sizes)) w
+  right = lengths-right (c .sizes) (total (c .sizes)) w (g .devices .lengths)
 
   only : OnlyLogs w flushedWorld
   only = flush-only (c .sizes) (c .logs) w d

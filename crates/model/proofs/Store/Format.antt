@@ -14,7 +14,7 @@ use Rattle.model.specs.Word.{part}
 use Rattle.model.specs.Sizes.{total, tailWord, sizesInBounds}
 use Rattle.model.specs.Anchor.{epochWord, slotsAt, widthsAt, rowsAt, epochOn, sizesOn, startWord, startOn, backupAt}
 use Rattle.model.specs.World.{World, store, write, anchor, backups, logs, pages, work, act, perform, each}
-use Rattle.model.specs.Memory.{copyAt, lengthsRight}
+use Rattle.model.specs.Memory.{copyAt, lengthsRight, ownerAt}
 use Rattle.model.specs.Refusal.{accepted, verdict}
 use Rattle.model.specs.Causes.{anchorWrong, sizesWrong, lengthsWrong, tailOn, tailIn}
 use Rattle.model.specs.Format.{formatRows, formatStores, freshMemory, freshWork, formatTask}
@@ -41,20 +41,20 @@ laid-world : (s : Sizes) (w : World) (front slots widths rows zeros owners copie
     ++ each (store anchor) widthsAt widths ++ each (store anchor) rowsAt rows
     ++ listBelow (λ d. store logs (tailWord s d) 0) (s .disks)
     ++ each (store backups) (backupAt s 1) zeros ++ (store anchor epochWord 1 ∷ [])
-    ++ each (write pages) 0 zeros ++ (each (write work) 0 owners ++ each (write work) (copyAt s 0) copies)) w
+    ++ each (write pages) 0 zeros ++ (each (write work) (ownerAt s 0) owners ++ each (write work) (copyAt s 0) copies)) w
     ≡ record {
       anchor = laidAnchor (w .anchor) front slots widths rows;
       pages = sets (w .pages) 0 zeros;
       backups = sets (w .backups) (backupAt s 1) zeros;
       logs = setEach (tailWord s) (λ d. 0) (s .disks) (w .logs);
-      work = sets (sets (w .work) 0 owners) (copyAt s 0) copies;
+      work = sets (sets (w .work) (ownerAt s 0) owners) (copyAt s 0) copies;
     }
 unfolding perform act laidAnchor
 laid-world s w front slots widths rows zeros owners copies =
     simp (perform-append, perform-anchor, perform-backups, perform-pages, perform-work, perform-each-log (tailWord s) (λ d. 0))
 
 -- The world after a format.
-module _ (s : Sizes) (w : World) (b : Bounded s) (long : length (w .anchor) ≡ 148) (right : Lengths s w) where
+module _ (s : Sizes) (w : World) (b : Bounded s) (long : length (w .anchor) ≡ 148) (right : Lengths s (total s) w) where
   abbrev front : List ℕ
   front = s .pages ∷ s .disks ∷ s .ring ∷ []
 
@@ -148,7 +148,7 @@ module _ (s : Sizes) (w : World) (b : Bounded s) (long : length (w .anchor) ≡ 
 
 -- What a format that is accepted found: the anchor has 148 words, the sizes are in bounds, the lengths are theirs.
 pub format-rows : (c : Core) (w : World) (s : Sizes) → verdict (formatRows c w s) ≡ accepted
-    → (length (w .anchor) ≡ 148) × (sizesInBounds s ≡ true) × (lengthsRight s w ≡ true)
+    → (length (w .anchor) ≡ 148) × (sizesInBounds s ≡ true) × (lengthsRight s (total s) w ≡ true)
 unfolding formatRows anchorWrong sizesWrong lengthsWrong
 format-rows c w s e =
     let first = row-passed _ _ e in
@@ -163,7 +163,7 @@ pub format-serves : (c : Core) (w : World) (s : Sizes) → verdict (formatRows c
 unfolding formatTask nothingTold
 format-serves c w s v =
     let rows = format-rows c w s v in
-    let right = lengths-right s w (rows .2) in
+    let right = lengths-right s (total s) w (rows .2) in
     rw (format-world s w (bounded s (rows .1)) (rows .0) right)
     (fresh-serving (format-fresh s w (bounded s (rows .1)) (rows .0) right) (λ d. 0)
     (λ d h. getD-replicate 8 d 0 0 (omega (arith, bounded s (rows .1) .disks-max))))

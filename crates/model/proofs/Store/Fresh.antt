@@ -9,17 +9,18 @@ use lib.ListN.{length, getD, getD-replicate}
 use borrow.Author.Tests.{le-ltb}
 use Rattle.model.specs.declared.Sizes.{Sizes}
 use Rattle.model.specs.Word.{part}
-use Rattle.model.specs.Sizes.{total, slotsIn, ringOf}
+use Rattle.model.specs.Sizes.{total, slotsIn, ringOf, slotBase}
 use Rattle.model.specs.Anchor.{anchorWords, epochOn, sizesOn, startOn, backupAt}
 use Rattle.model.specs.Record.{encodeAll}
 use Rattle.model.specs.World.{World}
-use Rattle.model.specs.Memory.{ownerAt, ownerOf, bufferOf, copyOf, lengthsRight}
+use Rattle.model.specs.Memory.{ownerOf, bufferOf, copyOf, lengthsRight}
 use Rattle.model.specs.State.{limit, places, noTable, emptyLogs, openCore, startOf, keptOf, tailOf, fillOf, endOf, numberAt, placeOf, isOpen}
 use Rattle.model.specs.Causes.{tailOn}
 use Rattle.model.specs.Reference.{Reference, wordsIn, hasSet}
 use Rattle.model.specs.Record.{encodeAll}
 use Rattle.model.specs.Scan.{placed, updatesIn}
 use Rattle.model.specs.History.{emptyFrom, recordsOn}
+use Rattle.model.proofs.KeptBases.{bases-made}
 use Rattle.model.proofs.Booleans.{true-false}
 use Rattle.model.proofs.Bounds.{Bounded}
 use Rattle.model.proofs.Geometry.{pageOf, slotStart, page-in}
@@ -39,7 +40,7 @@ pub record Freshly (s : Sizes) (n : ℕ) (tails : List ℕ) (v : World) (r : Ref
   -- the sizes and lengths are right
   pub bounds : Bounded s
   pub anchor : length (v .anchor) ≡ anchorWords
-  pub lengths : lengthsRight s v ≡ true
+  pub lengths : lengthsRight s (total s) v ≡ true
   pub eight : length tails ≡ 8
   -- the anchor says the sizes and checkpoint n, at least 1
   pub sizes : sizesOn (v .anchor) ≡ s
@@ -54,7 +55,7 @@ pub record Freshly (s : Sizes) (n : ℕ) (tails : List ℕ) (v : World) (r : Ref
   pub pages : (i : ℕ) → i < total s → getD (v .pages) i 0 ≡ getD (wordsIn (r .committed)) i 0
   -- every page has copy number n, and no slot an owner
   pub copies : (p : ℕ) → p < s .pages → copyOf s (v .work) p ≡ n
-  pub owners : (i : ℕ) → i < total s → getD (v .work) i 0 ≡ 0
+  pub owners : (i : ℕ) → i < total s → ownerOf s (v .work) i ≡ 0
   -- the reference has these sizes and no write set
   pub reference : r .sizes ≡ s
   pub shaped : Shaped s (r .committed)
@@ -77,7 +78,7 @@ none-open t = go (isOpen noTable t) refl
 none-tabled : Tabled noTable
 none-tabled =
     record {
-      sized = record { numbers = refl; disks = refl; firsts = refl; reserved = refl };
+      sized = record { numbers = refl; disks = refl; firsts = refl; reserved = refl; sums = refl };
       distinct = λ i h z. absurd (z (none-number i h));
     }
 
@@ -90,6 +91,7 @@ module _ {s : Sizes} {n : ℕ} {tails : List ℕ} {v : World} {r : Reference} (f
   fresh-devices =
       record {
         bounds = f .bounds;
+        bases = bases-made (openCore s n tails) refl;
         anchor = f .anchor;
         lengths = f .lengths;
         sizes = f .sizes;
@@ -119,7 +121,7 @@ module _ {s : Sizes} {n : ℕ} {tails : List ℕ} {v : World} {r : Reference} (f
         buffered = refl;
       })
       (fresh-good n (λ i. getD (v .pages) i 0) (λ i. getD (v .backups) (backupAt s (n + 1) + i) 0)
-      (λ i. getD (v .work) (slotStart s i) 0))
+      (λ i. ownerOf s (v .work) (slotStart s i)))
 
   fresh-link : Link s (emptyLogs tails) v [] []
   unfolding startOf tailOf on pick wordsOf encodeAll bufferOf part
@@ -189,14 +191,14 @@ module _ {s : Sizes} {n : ℕ} {tails : List ℕ} {v : World} {r : Reference} (f
 
   -- the owner of every slot is 0, which is never open
   fresh-owners : Owners (openCore s n tails) v r
-  unfolding openCore ownerOf ownerAt
+  unfolding openCore
   fresh-owners =
       record {
         below = λ page slot p q. rw (unowned page slot p q) (omega arith);
-        written = λ page slot p q o. never (ownerOf s (v .work) page slot) o;
+        written = λ page slot p q o. never (ownerOf s (v .work) (slotBase s page slot)) o;
       }
     where
-      unowned : (page slot : ℕ) → page < s .pages → slot < slotsIn s page → ownerOf s (v .work) page slot ≡ 0
+      unowned : (page slot : ℕ) → page < s .pages → slot < slotsIn s page → ownerOf s (v .work) (slotBase s page slot) ≡ 0
       unowned page slot p q = f .owners _ (slot-lt s (f .bounds) page slot p q)
 
   -- what holds of an open store between two calls holds of a fresh one

@@ -12,7 +12,7 @@ use Rattle.model.specs.declared.Core.{Core}
 use Rattle.model.specs.Sizes.{total, ringOf}
 use Rattle.model.specs.Record.{encode}
 use Rattle.model.specs.World.{World, perform, stores}
-use Rattle.model.specs.Memory.{bufferAt, copyAt, copyOf}
+use Rattle.model.specs.Memory.{bufferAt, copyOf}
 use Rattle.model.specs.State.{limit, keptOf, fillOf, endOf, withLog}
 use Rattle.model.specs.Append.{Appended, append}
 use Rattle.model.specs.Reference.{Reference}
@@ -37,7 +37,7 @@ pub record Written (s : Sizes) (v u : World) : Type 0 where
   pub backups-same : u .backups ≡ v .backups
   pub logs-same : u .logs ≡ v .logs
   pub lengths : SameLengths u v
-  pub buffers-same : (i : ℕ) → bufferAt s 0 ≤ i → i < bufferAt s (s .disks) → getD (u .work) i 0 ≡ getD (v .work) i 0
+  pub buffers-same : (i : ℕ) → i < bufferAt (s .disks) → getD (u .work) i 0 ≡ getD (v .work) i 0
 
 pub none-written : (s : Sizes) (v : World) → Written s v v
 none-written s v =
@@ -46,7 +46,7 @@ none-written s v =
       backups-same = refl;
       logs-same = refl;
       lengths = record { anchor = refl; pages = refl; backups = refl; logs = refl; work = refl };
-      buffers-same = λ i h k. refl;
+      buffers-same = λ i h. refl;
     }
 
 -- An entry that may be put where the buffer has room: it stands at the end of its disk's log, its transaction is not
@@ -70,8 +70,8 @@ module _ {x : ℕ} {home : ℕ → ℕ} {c : Core} {w : World} {r : Reference} {
   abbrev pub loggedWorld : World
   loggedWorld = perform (logged .actions) w
 
-  right : Lengths (c .sizes) w
-  right = lengths-right (c .sizes) w (g .devices .lengths)
+  right : Lengths (c .sizes) (total (c .sizes)) w
+  right = lengths-right (c .sizes) (total (c .sizes)) w (g .devices .lengths)
 
   short : sizeOf e ≤ 64
   short = omega (arith, may .room)
@@ -106,10 +106,9 @@ module _ {x : ℕ} {home : ℕ → ℕ} {c : Core} {w : World} {r : Reference} {
     lengths-written = same-lengths-trans (k .lengths) (perform-lengths _ w)
 
     pub link-written : Link (c .sizes) (logged .logs) u F (B ++ e ∷ [])
-    unfolding bufferAt
     link-written =
-        link-frame (logged .logs) (lengths-perform (logged .actions) right) (lengths-right (c .sizes) u (lengths-same (c .sizes) lengths-written (g .devices .lengths))) (longer .small)
-        (λ i h l. k .buffers-same i (omega arith) l) (k .logs-same) link-logged
+        link-frame (logged .logs) (lengths-perform (logged .actions) right) (lengths-right (c .sizes) (total (c .sizes)) u (lengths-same (c .sizes) lengths-written (g .devices .lengths))) (longer .small)
+        (k .buffers-same) (k .logs-same) link-logged
 
     pub devices-written : (t : Table) → Devices (withLog c (logged .logs) t) u
     devices-written t =
@@ -134,14 +133,14 @@ module _ {x : ℕ} {home : ℕ → ℕ} {c : Core} {w : World} {r : Reference} {
         }
 
     -- copy numbers, where none was written
-    pub copies-written : Copies c w F B → ((i : ℕ) → bufferAt (c .sizes) (c .sizes .disks) ≤ i → getD (u .work) i 0 ≡ getD (loggedWorld .work) i 0)
+    pub copies-written : Copies c w F B → ((p : ℕ) → p < c .sizes .pages → copyOf (c .sizes) (u .work) p ≡ copyOf (c .sizes) (loggedWorld .work) p)
         → (isClose e ≡ false → e .copy ≤ c .epoch + 1) → (before c e ≡ true → isClose e ≡ false → e .copy ≤ c .epoch)
         → (t : Table) → Copies (withLog c (logged .logs) t) u F (B ++ e ∷ [])
-    unfolding withLog before copyOf copyAt
+    unfolding withLog before
     copies-written h same capped early t =
         record {
           copied = h .copied;
-          pages = λ p l. same _ (omega arith) ∙ copies-same in-buffer _ (may .below) (omega arith) ∙ h .pages p l;
+          pages = λ p l. same p l ∙ copies-same in-buffer p (may .below) ∙ h .pages p l;
           capped = all-more _ F B e (h .capped) capped;
           early = all-more _ F B e (h .early) early;
           ends = λ o d l. rw (longer .kept-same d) (boundary-logged _ _ d F B e (h .ends o d l));

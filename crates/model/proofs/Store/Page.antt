@@ -17,7 +17,7 @@ use Rattle.model.specs.Word.{part}
 use Rattle.model.specs.Sizes.{pageBase, pageWords, total}
 use Rattle.model.specs.Anchor.{backupAt}
 use Rattle.model.specs.World.{World, backups, store, act, perform, each}
-use Rattle.model.specs.Memory.{bufferAt, copyAt, bufferOf, copyOf, workWords}
+use Rattle.model.specs.Memory.{bufferAt, copyAt, bufferOf, copyOf, workWords, ownerAt, ownerOf}
 use Rattle.model.specs.Refusal.{accepted, verdict}
 use Rattle.model.specs.Causes.{whenCopying}
 use Rattle.model.specs.Checkpoint.{toCopy, lowestToCopy, checkpointStepRows, copyPage, checkpointStepTask}
@@ -49,12 +49,12 @@ backups-apart s c = go (ℕ-discrete (c % 2) 0)
 
 -- The page that is copied, and the slices after it.
 module _ {c : Core} {w : World} (ok : verdict (checkpointStepRows c w) ≡ accepted) (devices : Devices c w) where
-  lengths : Lengths (c .sizes) w
-  lengths = lengths-right (c .sizes) w (devices .lengths)
+  lengths : Lengths (c .sizes) (total (c .sizes)) w
+  lengths = lengths-right (c .sizes) (total (c .sizes)) w (devices .lengths)
 
   pub copying : whenCopying (c .stage) ≡ true
   unfolding checkpointStepRows
-  copying = stage-row whenCopying c (row-passed _ _ ok .0)
+  copying = stage-row whenCopying _ c (row-passed _ _ ok .0)
 
   abbrev pub page : ℕ
   page = lowestToCopy c
@@ -142,7 +142,7 @@ module _ {c : Core} {w : World} (ok : verdict (checkpointStepRows c w) ≡ accep
       go (inr l) = sym (getD-sets-behind (w .backups) at words _ (omega (arith, size-words, fits)))
 
   epoch-within : copyAt (c .sizes) page < length (w .work)
-  unfolding workWords copyAt
+  unfolding workWords ownerAt copyAt
   epoch-within = omega (arith, lengths .work, page-lt, devices .bounds .pages-max)
 
   -- the copy number of the page, and of the others
@@ -154,11 +154,12 @@ module _ {c : Core} {w : World} (ok : verdict (checkpointStepRows c w) ≡ accep
   unfolding copyOf copyAt
   epoch-other q ne = getD-set-other (w .work) (copyAt (c .sizes) page) (copyAt (c .sizes) q) (c .epoch + 1) 0 (omega arith)
 
-  pub owner-word : (i : ℕ) → i < total (c .sizes) → getD (after .work) i 0 ≡ getD (w .work) i 0
-  unfolding copyAt bufferAt
-  owner-word i h = getD-set-other (w .work) (copyAt (c .sizes) page) i (c .epoch + 1) 0 (omega arith)
+  pub owner-word : (i : ℕ) → i < total (c .sizes) → ownerOf (c .sizes) (after .work) i ≡ ownerOf (c .sizes) (w .work) i
+  unfolding ownerOf ownerAt copyAt
+  owner-word i h =
+      getD-set-other (w .work) (copyAt (c .sizes) page) (ownerAt (c .sizes) i) (c .epoch + 1) 0 (omega (arith, page-lt, devices .bounds .pages-max))
 
-  pub buffer-words : (d fill : ℕ) → d < c .sizes .disks → fill ≤ 64 → bufferOf (c .sizes) (after .work) d fill ≡ bufferOf (c .sizes) (w .work) d fill
+  pub buffer-words : (d fill : ℕ) → d < c .sizes .disks → fill ≤ 64 → bufferOf (after .work) d fill ≡ bufferOf (w .work) d fill
   unfolding bufferOf copyAt bufferAt
   buffer-words d fill h f =
-      part-sets-before (bufferAt (c .sizes) d) fill (w .work) (copyAt (c .sizes) page) ((c .epoch + 1) ∷ []) (omega arith)
+      part-sets-before (bufferAt d) fill (w .work) (copyAt (c .sizes) page) ((c .epoch + 1) ∷ []) (omega arith)

@@ -1,7 +1,7 @@
 -- While the store is open, its page memory is a plain table of slots: the committed contents with the open write sets over them.
 use mathlib.Core.Path.{_≡_, refl, sym, ap, subst, _∙_}
 use mathlib.Core.List.{List, [], map}
-use mathlib.Core.Bool.{Bool, true, false, not, and-eq-true-iff}
+use mathlib.Core.Bool.{Bool, true, false, not, and-eq-true-iff, _&&_}
 use Prim.Native.Nat.{ℕ, _<_}
 use native.Mathlib.Omega.{arith}
 use native.Mathlib.Decide.{ℕ-discrete}
@@ -13,7 +13,7 @@ use Rattle.model.specs.declared.Sizes.{Sizes}
 use Rattle.model.specs.declared.Core.{Core}
 use Rattle.model.specs.Sizes.{total, slotsIn, slotBase}
 use Rattle.model.specs.World.{World}
-use Rattle.model.specs.Memory.{ownerAt, ownerOf}
+use Rattle.model.specs.Memory.{ownerOf}
 use Rattle.model.specs.State.{isOpen}
 use Rattle.model.specs.Refusal.{verdict, accepted}
 use Rattle.model.specs.Causes.{locked, slotMissing}
@@ -23,6 +23,7 @@ use Rattle.model.specs.Call.{look, read}
 use Rattle.model.specs.Machine.{Machine, outcome, result}
 use Rattle.model.specs.History.{Told}
 use Rattle.model.specs.Promise.{PlainTable}
+use Rattle.model.proofs.KeptBases.{slot-words, lock-of}
 use Rattle.model.proofs.Geometry.{slotStart, slot-start}
 use Rattle.model.proofs.Lengths.{lengths-right}
 use Rattle.model.proofs.Slots.{patchOf, Fits, Shaped, words-length, words-at}
@@ -51,7 +52,7 @@ module _ {home : ℕ → ℕ} {puts : Told} {c : Core} {w : World} {r : Referenc
 
   -- the owner of a word's slot
   owner : ℕ → ℕ
-  owner i = getD (w .work) (slotStart s i) 0
+  owner i = ownerOf s (w .work) (slotStart s i)
 
   open-set : (t : ℕ) → hasSet t (r .writeSets) ≡ true → isOpen (c .table) t ≡ true
   open-set t h = g .sets .has t ∙ h
@@ -89,15 +90,14 @@ module _ {home : ℕ → ℕ} {puts : Told} {c : Core} {w : World} {r : Referenc
   pages-plain : w .pages ≡ wordsIn (plainTable r)
   unfolding plainTable
   pages-plain =
-      let long = lengths-right s w (g .safe .devices .lengths) .pages in
+      let long = lengths-right s (total s) w (g .safe .devices .lengths) .pages in
       ext-getD 0 _ _ (long ∙ sym (words-length s (plainTable r) shaped))
       (λ i h. page-word i (rw long at h) ∙ sym (rw (g .safe .sizes) (laid-word s (r .writeSets) (r .committed) (g .safe .shaped) (g .sets .fits) i)))
 
   -- a slot's words are its value in the table
   pub slot-value : (page slot : ℕ) → page < s .pages → slot < slotsIn s page → slotWords c w page slot ≡ getD (plainTable r) (slotIndex (r .sizes) page slot) []
-  unfolding slotWords
   slot-value page slot p q =
-      rw pages-plain
+      rw (slot-words c (g .safe .devices .bases) w page slot (omega (arith, g .safe .devices .bounds .pages-max)), pages-plain)
       (words-at s (plainTable r) shaped page slot p q ∙ ap (λ (z : Sizes). getD (plainTable r) (slotIndex z page slot) []) (sym (g .safe .sizes)))
 
   read-value : (reader page slot : ℕ) → verdict (readRows c w reader page slot) ≡ accepted
@@ -108,15 +108,15 @@ module _ {home : ℕ → ℕ} {puts : Told} {c : Core} {w : World} {r : Referenc
   -- a slot that somebody else owns has a write of the owner; a write of somebody else makes him its owner
   module _ (page slot : ℕ) (p : page < s .pages) (q : slot < slotsIn s page) where
     holder : ℕ
-    holder = ownerOf s (w .work) page slot
+    holder = ownerOf s (w .work) (slotBase s page slot)
 
     base-lt : slotBase s page slot < total s
     base-lt = slot-lt s (g .safe .devices .bounds) page slot p q
 
     holder-owner : owner (slotBase s page slot) ≡ holder
-    unfolding owner holder ownerOf ownerAt
+    unfolding owner holder
     holder-owner =
-        ap (λ (i : ℕ). getD (w .work) i 0)
+        ap (ownerOf s (w .work))
         (slot-start s page slot (slotBase s page slot) p q (omega arith) (omega (arith, g .safe .devices .bounds .used page p .width-min)) .0)
 
     writer-holds : (x : WriteSet) → All (Fits s) (x .writes) → Idle s (slotBase s page slot) (owner (slotBase s page slot)) x
@@ -133,12 +133,15 @@ module _ {home : ℕ → ℕ} {puts : Told} {c : Core} {w : World} {r : Referenc
             absurd (omega arith)
 
     locked-written : (number : ℕ) → locked c w number page slot ≡ writtenByOther number page slot (r .writeSets)
-    unfolding locked isOpen holder
+    unfolding isOpen holder
     locked-written number = both-ways _ _ to from
       where
+        lock : locked c w number page slot ≡ (isOpen (c .table) holder && not (eqb holder number))
+        lock = lock-of c (g .safe .devices .bases) w page slot (omega (arith, g .safe .devices .bounds .pages-max)) number
+
         to : locked c w number page slot ≡ true → writtenByOther number page slot (r .writeSets) ≡ true
         to h =
-            let k = and-eq-true-iff (isOpen (c .table) holder) (not (eqb holder number)) .0 h in
+            let k = and-eq-true-iff (isOpen (c .table) holder) (not (eqb holder number)) .0 (sym lock ∙ h) in
             found-other number page slot holder (r .writeSets) (sym (g .sets .has holder) ∙ k .0) (g .owners .written page slot p q (k .0))
             (eqb-false holder number (not-true _ (k .1)))
 
@@ -156,7 +159,7 @@ module _ {home : ℕ → ℕ} {puts : Told} {c : Core} {w : World} {r : Referenc
                 → (x .number ≡ number → ⊥) → writesSlot page slot (x .writes) ≡ true → locked c w number page slot ≡ true
             found x k ne h =
                 let same : x .number ≡ holder = writer-holds x (k .0 .0) (k .0 .1) h in
-                rw (sym (ap (isOpen (c .table)) same) ∙ open-set (x .number) (k .1), ne-eqb holder number (λ e. ne (same ∙ e)))
+                lock ∙ rw (sym (ap (isOpen (c .table)) same) ∙ open-set (x .number) (k .1), ne-eqb holder number (λ e. ne (same ∙ e)))
 
 -- the promise of specs/Promise.antt
 pub plain : {puts : Told} (m : Machine) (r : Reference) → Served puts (m .core) (m .world) r → PlainTable m r

@@ -4,7 +4,6 @@ use mathlib.Core.List.{List, [], _∷_, _++_, append-assoc}
 use mathlib.Core.Bool.{true, false}
 use Prim.Native.Nat.{ℕ, _+_, _≤_, _<_}
 use native.Mathlib.Omega.{arith}
-use lib.ListN.{getD}
 use Rattle.model.specs.declared.Sizes.{Sizes}
 use Rattle.model.specs.declared.Table.{Table}
 use Rattle.model.specs.declared.Core.{Core}
@@ -12,7 +11,7 @@ use Rattle.model.specs.Word.{_⊕_}
 use Rattle.model.specs.Sizes.{total, ringOf}
 use Rattle.model.specs.Record.{encode}
 use Rattle.model.specs.World.{World, Action, perform, stores, run}
-use Rattle.model.specs.Memory.{bufferAt, copyOf}
+use Rattle.model.specs.Memory.{copyOf}
 use Rattle.model.specs.State.{limit, keptOf, endOf, withLog, isOpen, placeOf, firstAt, hasUpdate}
 use Rattle.model.specs.Append.{Appended, append}
 use Rattle.model.specs.Transaction.{diskOf}
@@ -194,7 +193,7 @@ module _ {x : ℕ} {home : ℕ → ℕ} {puts : Told} {c : Core} {w : World} {r 
         rw put-logs
         (safe-written (serving1 .safe) e may1 written1 y t q sizes shaped (rw put-logs at good))
 
-    pub put-copies : ((i : ℕ) → bufferAt (c .sizes) (c .sizes .disks) ≤ i → getD (u .work) i 0 ≡ getD (perform (put .actions) w .work) i 0)
+    pub put-copies : ((p : ℕ) → p < c .sizes .pages → copyOf (c .sizes) (u .work) p ≡ copyOf (c .sizes) (perform (put .actions) w .work) p)
         → (isClose e ≡ false → e .copy ≤ c .epoch + 1) → (before c e ≡ true → isClose e ≡ false → e .copy ≤ c .epoch)
         → (t : Table) → Copies (withLog c (put .logs) t) u F1 (B1 ++ e ∷ [])
     unfolding withLog before

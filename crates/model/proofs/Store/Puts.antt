@@ -13,12 +13,12 @@ use Rattle.model.specs.declared.Sizes.{Sizes}
 use Rattle.model.specs.Below.{joinBelow, listBelow}
 use Rattle.model.specs.Sizes.{total}
 use Rattle.model.specs.World.{World, worldOf, Device, Action, store, write, anchor, logs, work, cost, act, perform, each, stores, covered, run}
-use Rattle.model.specs.Memory.{bufferAt, copyAt, workWords, copyOf, lengthsRight}
+use Rattle.model.specs.Memory.{copyAt, ownerAt, workWords, copyOf, ownerOf, lengthsRight}
 use Rattle.model.specs.Format.{freshMemory, freshWork}
 use Rattle.model.proofs.Below.{below-suc}
 use Rattle.model.proofs.Run.{perform-append, perform-work, covered-append, covered-cut, covered-all}
 use Rattle.model.proofs.Lengths.{Lengths}
-use Rattle.model.proofs.Parts.{getD-sets-before, getD-sets-inside}
+use Rattle.model.proofs.Parts.{getD-sets-behind, getD-sets-inside}
 
 -- the words of the disks below n, each set at its disk's place
 unfoldable pub setEach : (ℕ → ℕ) → (ℕ → ℕ) → ℕ → List ℕ → List ℕ
@@ -69,7 +69,7 @@ module _ (at word : ℕ → ℕ) where
       ∙ ap (λ (v : World). act (store anchor (at n) (word n)) v) (perform-each-start n w)
 
 -- every lent list has its length
-pub lengths-made : (s : Sizes) (w : World) → Lengths s w → lengthsRight s w ≡ true
+pub lengths-made : (s : Sizes) (w : World) → Lengths s (total s) w → lengthsRight s (total s) w ≡ true
 unfolding lengthsRight
 lengths-made s w h = rw (eq-eqb _ _ (h .pages), eq-eqb _ _ (h .backups), eq-eqb _ _ (h .logs), eq-eqb _ _ (h .work))
 
@@ -84,38 +84,38 @@ same-word l i n x k fits h =
     let long : length (replicate n x) ≡ n = length-replicate n x in
     getD-sets-inside l i (replicate n x) k (omega (arith, long)) (omega (arith, long)) ∙ getD-replicate n k x 0 h
 
--- the fresh memory: the owners first, then the copy numbers
+-- the fresh memory: the owners, and before them the copy numbers
 pub fresh-is : (s : Sizes) (copy : ℕ) (l : List ℕ)
-    → freshWork s copy l ≡ sets (sets l 0 (replicate (total s) 0)) (copyAt s 0) (replicate 64 copy)
+    → freshWork s copy l ≡ sets (sets l (ownerAt s 0) (replicate (total s) 0)) (copyAt s 0) (replicate 64 copy)
 unfolding freshWork freshMemory
 fresh-is s copy l =
-    let owners : List Action = each (write work) 0 (replicate (total s) 0) in
+    let owners : List Action = each (write work) (ownerAt s 0) (replicate (total s) 0) in
     let copies : List Action = each (write work) (copyAt s 0) (replicate 64 copy) in
     let w : World = worldOf [] [] [] [] l in
     ap (λ (v : World). v .work)
-    (perform-append owners copies w ∙ ap (perform copies) (perform-work 0 (replicate (total s) 0) w)
-    ∙ perform-work (copyAt s 0) (replicate 64 copy) (worldOf [] [] [] [] (sets l 0 (replicate (total s) 0))))
+    (perform-append owners copies w ∙ ap (perform copies) (perform-work (ownerAt s 0) (replicate (total s) 0) w)
+    ∙ perform-work (copyAt s 0) (replicate 64 copy) (worldOf [] [] [] [] (sets l (ownerAt s 0) (replicate (total s) 0))))
 
 -- the copy number of every page, read from there
-pub fresh-copy : (s : Sizes) (copy : ℕ) (l : List ℕ) → length l ≡ workWords s → (p : ℕ) → p < 64
+pub fresh-copy : (s : Sizes) (copy : ℕ) (l : List ℕ) → length l ≡ workWords s (total s) → (p : ℕ) → p < 64
     → copyOf s (freshWork s copy l) p ≡ copy
-unfolding copyOf copyAt workWords
+unfolding copyOf copyAt ownerAt workWords
 fresh-copy s copy l long p h =
     let owners : List ℕ = replicate (total s) 0 in
     let here : copyAt s p ≡ copyAt s 0 + p = omega arith in
-    rw (fresh-is s copy l) (ap (λ (i : ℕ). getD (sets (sets l 0 owners) (copyAt s 0) (replicate 64 copy)) i 0) here)
-    ∙ same-word (sets l 0 owners) (copyAt s 0) 64 copy p (omega (arith, length-sets l 0 owners)) h
+    rw (fresh-is s copy l) (ap (λ (i : ℕ). getD (sets (sets l (ownerAt s 0) owners) (copyAt s 0) (replicate 64 copy)) i 0) here)
+    ∙ same-word (sets l (ownerAt s 0) owners) (copyAt s 0) 64 copy p (omega (arith, length-sets l (ownerAt s 0) owners)) h
 
 -- no slot has an owner there
-pub fresh-owner : (s : Sizes) (copy : ℕ) (l : List ℕ) → length l ≡ workWords s → (i : ℕ) → i < total s → getD (freshWork s copy l) i 0 ≡ 0
-unfolding copyAt bufferAt workWords
+pub fresh-owner : (s : Sizes) (copy : ℕ) (l : List ℕ) → length l ≡ workWords s (total s) → (i : ℕ) → i < total s → ownerOf s (freshWork s copy l) i ≡ 0
+unfolding ownerOf ownerAt copyAt workWords
 fresh-owner s copy l long i h =
     let owners : List ℕ = replicate (total s) 0 in
-    let many : length owners ≡ total s = length-replicate (total s) 0 in
-    ap (λ (m : List ℕ). getD m i 0) (fresh-is s copy l)
-    ∙ getD-sets-before (sets l 0 owners) (copyAt s 0) (replicate 64 copy) i (omega arith)
-    ∙ first-word l owners i (omega arith) (omega arith)
-    ∙ getD-replicate (total s) i 0 0 h
+    let here : ownerAt s i ≡ ownerAt s 0 + i = omega arith in
+    ap (λ (m : List ℕ). getD m (ownerAt s i) 0) (fresh-is s copy l)
+    ∙ getD-sets-behind (sets l (ownerAt s 0) owners) (copyAt s 0) (replicate 64 copy) (ownerAt s i) (omega (arith, length-replicate {A = ℕ} 64 copy))
+    ∙ ap (λ (j : ℕ). getD (sets l (ownerAt s 0) owners) j 0) here
+    ∙ same-word l (ownerAt s 0) (total s) 0 i (omega arith) h
 
 -- a budget that does not reach past a list does not reach the store after it
 pub run-before : (budget : ℕ) (l m : List Action) (device : Device) (i x : ℕ) (w : World) → budget ≤ stores l

@@ -2,24 +2,30 @@
 use mathlib.Core.Path.{_≡_, refl, sym}
 use mathlib.Core.Bool.{Bool, true, false, not, _&&_, _||_}
 use Prim.Native.Nat.{ℕ, _+_, _-_, _≤_, _<_}
-use lib.Dec.{leb, ltb}
+use lib.Dec.{leb, ltb, eqb}
 use lib.ListN.{getD}
-use borrow.Author.Tests.{leb-true, ltb-true, ne-eqb, not-false}
+use borrow.Author.Tests.{leb-true, ltb-true, eqb-true, ne-eqb, not-false}
 use Rattle.model.specs.declared.Stage.{Stage}
 use Rattle.model.specs.declared.Stage.the-variants.{Shut, Replaying, Open, Copying}
 use Rattle.model.specs.declared.Core.{Core}
 use Rattle.model.specs.Below.{within, allBelow}
 use Rattle.model.specs.Sizes.{ringOf, sizesInBounds}
-use Rattle.model.specs.State.{places, limit, startOf, keptOf, tailOf, fillOf, endOf, numberAt, diskAtPlace, firstAt, reservedAt, hasUpdate, reservedOn, diskSound, placeSound, servingSound, checkpointSound, soundIn, sound}
-use Rattle.model.specs.Causes.{whenOpen, whenCopying, whenServing, stageForbids}
+use Rattle.model.specs.State.{places, limit, startOf, keptOf, tailOf, fillOf, endOf, numberAt, diskAtPlace, firstAt, reservedAt, hasUpdate, reservedFor, reservedOn, basesRight, diskSound, placeSound, servingSound, checkpointSound, soundIn, sound}
+use Rattle.model.specs.Causes.{whenShut, whenOpen, whenCopying, whenServing, stageForbids}
 use Rattle.model.proofs.Below.{all-each}
-use Rattle.model.proofs.Booleans.{true-false, both, in-range}
+use Rattle.model.proofs.Booleans.{true-false, both, all-four, in-range}
 
 -- Row 1: the stage is one that the call is for. That the state is within its bounds is known of every state that calls made
 -- (proofs/Sound), so no law takes it from here.
-pub stage-row : (allowed : Stage → Bool) (c : Core) → stageForbids allowed c ≡ false → allowed (c .stage) ≡ true
+pub stage-row : (allowed : Stage → Bool) (fits : Bool) (c : Core) → stageForbids allowed fits c ≡ false → allowed (c .stage) ≡ true
 unfolding stageForbids
-stage-row allowed c e = both (allowed (c .stage)) (sound c) (not-false _ e) .0
+stage-row allowed fits c e = both (allowed (c .stage)) fits (not-false _ e) .0
+
+pub not-shut : (allowed : Stage → Bool) → allowed Shut ≡ false → (s : Stage) → allowed s ≡ true → whenShut s ≡ false
+not-shut allowed never Shut e = true-false e never
+not-shut allowed never Replaying e = refl
+not-shut allowed never Open e = refl
+not-shut allowed never Copying e = refl
 
 -- a store that serves is open or copying
 pub open-serving : (c : Core) → whenOpen (c .stage) ≡ true → whenServing (c .stage) ≡ true
@@ -60,16 +66,36 @@ serving-sound c = go (c .stage)
     go Open e h = h
     go Copying e h = both (servingSound c) (checkpointSound c) h .0
 
--- its sizes are within their bounds
-pub sizes-sound : (c : Core) → servingSound c ≡ true → sizesInBounds (c .sizes) ≡ true
-unfolding servingSound
-sizes-sound c e =
-    let t = both (sizesInBounds (c .sizes) && allBelow (diskSound c) (c .sizes .disks)) (allBelow (placeSound c) places) e in
-    both (sizesInBounds (c .sizes)) (allBelow (diskSound c) (c .sizes .disks)) (t .0) .0
+-- its parts
+record ServingParts (c : Core) : Type 0 where
+  sizes : sizesInBounds (c .sizes) ≡ true
+  bases : basesRight c ≡ true
+  next : 0 < c .next
+  disks : allBelow (diskSound c) (c .sizes .disks) ≡ true
+  table : allBelow (placeSound c) places ≡ true
 
--- A disk's log: its buffer holds 64 words, its start is no later than its tail, and what is in it and what is reserved
--- fits the ring and the bound of positions.
+serving-parts : (c : Core) → servingSound c ≡ true → ServingParts c
+unfolding servingSound
+serving-parts c e =
+    let disks = allBelow (diskSound c) (c .sizes .disks) in
+    let t = both (sizesInBounds (c .sizes) && basesRight c && ltb 0 (c .next) && disks) (allBelow (placeSound c) places) e in
+    let four = all-four (sizesInBounds (c .sizes)) (basesRight c) (ltb 0 (c .next)) disks (t .0) in
+    record { sizes = four .0; bases = four .1; next = ltb-true _ _ (four .2); disks = four .3; table = t .1 }
+
+-- its sizes are within their bounds, what is kept of them is right, and its next number is no free place's
+pub sizes-sound : (c : Core) → servingSound c ≡ true → sizesInBounds (c .sizes) ≡ true
+sizes-sound c e = serving-parts c e .sizes
+
+pub bases-sound : (c : Core) → servingSound c ≡ true → basesRight c ≡ true
+bases-sound c e = serving-parts c e .bases
+
+pub next-sound : (c : Core) → servingSound c ≡ true → 0 < c .next
+next-sound c e = serving-parts c e .next
+
+-- A disk's log: the words reserved on it are counted right, its buffer holds 64 words, its start is no later than its tail, and
+-- what is in it and what is reserved fits the ring and the bound of positions.
 pub record DiskSound (c : Core) (d : ℕ) : Type 0 where
+  pub counted : reservedOn (c .table) d ≡ reservedFor (c .table) d
   pub fill : fillOf (c .logs) d ≤ 64
   pub ordered : startOf (c .logs) d ≤ tailOf (c .logs) d
   pub room : endOf (c .logs) d - keptOf (c .logs) d + reservedOn (c .table) d ≤ ringOf (c .sizes) d
@@ -78,25 +104,22 @@ pub record DiskSound (c : Core) (d : ℕ) : Type 0 where
 disk-bounds : (c : Core) (d : ℕ) → diskSound c d ≡ true → DiskSound c d
 unfolding diskSound
 disk-bounds c d e =
+    let counted = eqb (reservedOn (c .table) d) (reservedFor (c .table) d) in
     let fill = leb (fillOf (c .logs) d) 64 in
     let ordered = leb (startOf (c .logs) d) (tailOf (c .logs) d) in
     let room = leb (endOf (c .logs) d - keptOf (c .logs) d + reservedOn (c .table) d) (ringOf (c .sizes) d) in
-    let t2 = both (fill && ordered && room) (leb (endOf (c .logs) d + reservedOn (c .table) d) limit) e in
-    let t1 = both (fill && ordered) room (t2 .0) in
-    let t0 = both fill ordered (t1 .0) in
+    let t = both (counted && fill && ordered && room) (leb (endOf (c .logs) d + reservedOn (c .table) d) limit) e in
+    let four = all-four counted fill ordered room (t .0) in
     record {
-      fill = leb-true _ _ (t0 .0);
-      ordered = leb-true _ _ (t0 .1);
-      room = leb-true _ _ (t1 .1);
-      limit = leb-true _ _ (t2 .1);
+      counted = eqb-true _ _ (four .0);
+      fill = leb-true _ _ (four .1);
+      ordered = leb-true _ _ (four .2);
+      room = leb-true _ _ (four .3);
+      limit = leb-true _ _ (t .1);
     }
 
 pub disk-sound : (c : Core) (d : ℕ) → servingSound c ≡ true → d < c .sizes .disks → DiskSound c d
-unfolding servingSound
-disk-sound c d e h =
-    let t = both (sizesInBounds (c .sizes) && allBelow (diskSound c) (c .sizes .disks)) (allBelow (placeSound c) places) e in
-    disk-bounds c d
-    (all-each (diskSound c) (c .sizes .disks) (both (sizesInBounds (c .sizes)) (allBelow (diskSound c) (c .sizes .disks)) (t .0) .1) d h)
+disk-sound c d e h = disk-bounds c d (all-each (diskSound c) (c .sizes .disks) (serving-parts c e .disks) d h)
 
 -- A place of the table that holds a transaction: it is on a disk, has its two closing words reserved, and its first record
 -- lies in that disk's log.
@@ -123,10 +146,7 @@ place-bounds c i e some =
     }
 
 pub place-sound : (c : Core) (i : ℕ) → servingSound c ≡ true → i < places → (numberAt (c .table) i ≡ 0 → ⊥) → PlaceSound c i
-unfolding servingSound
-place-sound c i e h some =
-    let t = both (sizesInBounds (c .sizes) && allBelow (diskSound c) (c .sizes .disks)) (allBelow (placeSound c) places) e in
-    place-bounds c i (all-each (placeSound c) places (t .1) i h) some
+place-sound c i e h some = place-bounds c i (all-each (placeSound c) places (serving-parts c e .table) i h) some
 
 -- A checkpoint under way: its number is within the bound, and each remembered end lies in its disk's log.
 pub record CheckpointSound (c : Core) : Type 0 where

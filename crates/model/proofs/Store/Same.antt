@@ -4,14 +4,14 @@ use mathlib.Core.List.{List, _++_}
 use mathlib.Core.Bool.{true}
 use Prim.Native.Nat.{ℕ, _<_}
 use native.Mathlib.Omega.{arith}
-use lib.ListN.{getD}
 use Rattle.model.specs.declared.Sizes.{Sizes}
 use Rattle.model.specs.declared.Core.{Core}
 use Rattle.model.specs.Sizes.{total, slotsIn, slotBase}
 use Rattle.model.specs.World.{World}
-use Rattle.model.specs.Memory.{ownerAt, ownerOf, lengthsRight}
+use Rattle.model.specs.Memory.{ownerOf, lengthsRight}
 use Rattle.model.specs.Reference.{Reference}
 use Rattle.model.specs.Transaction.{diskOf}
+use Rattle.model.proofs.KeptBases.{bases-carried}
 use Rattle.model.proofs.Bounds.{Bounded}
 use Rattle.model.proofs.Geometry.{slot-end-total}
 use Rattle.model.proofs.Ledger.Entry.{Entry}
@@ -19,11 +19,12 @@ use Rattle.model.proofs.Ledger.Sums.{all-map}
 use Rattle.model.proofs.Store.View.{Devices, Own, Accounts, Sets, Owners}
 
 -- the sizes, the epoch and the logs, with the anchor: what the slices say of them
-pub devices-same : {c e : Core} {w u : World} → e .sizes ≡ c .sizes → e .epoch ≡ c .epoch → e .logs ≡ c .logs → u .anchor ≡ w .anchor
-    → lengthsRight (c .sizes) u ≡ true → Devices c w → Devices e u
-devices-same {c} {e} {w} {u} sizes epoch logs anchor lengths v =
+pub devices-same : {c e : Core} {w u : World} → e .sizes ≡ c .sizes → e .bases ≡ c .bases → e .epoch ≡ c .epoch → e .logs ≡ c .logs → u .anchor ≡ w .anchor
+    → lengthsRight (c .sizes) (total (c .sizes)) u ≡ true → Devices c w → Devices e u
+devices-same {c} {e} {w} {u} sizes bases epoch logs anchor lengths v =
     record {
       bounds = rw sizes (v .bounds);
+      bases = bases-carried c e bases sizes (v .bases);
       anchor = rw anchor (v .anchor);
       lengths = rw sizes lengths;
       sizes = rw (anchor, sizes) (v .sizes);
@@ -64,8 +65,7 @@ slot-lt s b page slot p q = omega (arith, slot-end-total s page slot p q, b .use
 
 -- the table, the next number and the owners
 pub owners-same : {c e : Core} {w u : World} {r : Reference} → Bounded (c .sizes) → e .sizes ≡ c .sizes → e .table ≡ c .table → e .next ≡ c .next
-    → ((i : ℕ) → i < total (c .sizes) → getD (u .work) i 0 ≡ getD (w .work) i 0) → Owners c w r → Owners e u r
-unfolding ownerOf ownerAt
+    → ((i : ℕ) → i < total (c .sizes) → ownerOf (c .sizes) (u .work) i ≡ ownerOf (c .sizes) (w .work) i) → Owners c w r → Owners e u r
 owners-same {c} {e} {w} {u} bounds sizes table next same v =
     record {
       below = rw (sizes, next) (λ page slot p q. rw (word page slot p q) (v .below page slot p q));
@@ -73,5 +73,5 @@ owners-same {c} {e} {w} {u} bounds sizes table next same v =
     }
   where
     word : (page slot : ℕ) → page < c .sizes .pages → slot < slotsIn (c .sizes) page
-        → getD (u .work) (slotBase (c .sizes) page slot) 0 ≡ getD (w .work) (slotBase (c .sizes) page slot) 0
+        → ownerOf (c .sizes) (u .work) (slotBase (c .sizes) page slot) ≡ ownerOf (c .sizes) (w .work) (slotBase (c .sizes) page slot)
     word page slot p q = same _ (slot-lt (c .sizes) bounds page slot p q)

@@ -40,8 +40,9 @@ use Rattle.model.proofs.Booleans.{true-false}
 use Rattle.model.proofs.Verdict.{row-passed}
 
 -- an accepted call found the stage that it is for
-pub row-one : (allowed : Stage → Bool) (c : Core) (rows : List Row) → verdict (row 1 (stageForbids allowed c) ∷ rows) ≡ accepted → allowed (c .stage) ≡ true
-row-one allowed c rows v = stage-row allowed c (row-passed _ rows v .0)
+pub row-one : (allowed : Stage → Bool) (fits : Bool) (c : Core) (rows : List Row) → verdict (row 1 (stageForbids allowed fits c) ∷ rows) ≡ accepted
+    → allowed (c .stage) ≡ true
+row-one allowed fits c rows v = stage-row allowed _ c (row-passed _ rows v .0)
 
 -- a call that stores nothing is never cut
 never-cut : {X : Type 0} (k : Call) (m : Machine) → storesNothing k ≡ true → finishes (budgetOf k) (taskOf k (m .core) (m .world) .actions) ≡ false → X
@@ -65,7 +66,7 @@ unfolding restartStepRows
 step-holds m h source v =
     let o = accepted-taken (restartStep source) m v (storeless-finishes (restartStep source) (m .core) (m .world) refl) in
     let t = taken-call (restartStep source) (m .core) (m .world) o in
-    let s = replayed h (row-one whenReplaying (m .core) _ v) in
+    let s = replayed h (row-one whenReplaying _ (m .core) _ v) in
     let p = rw (t .core, t .world) at (step-progress (m .core) (m .world) source (s .progress) o) in
     let found = step-source (m .core) (m .world) source v in
     replaying (p .0) (kept-devices (p .1) (perform-lengths _ (m .world)) (s .kept))
@@ -76,7 +77,7 @@ module _ (puts : Told) (m : Machine) (r : Reference) (h : Holding puts m r) wher
   unfolding beginTask beginRows perform
   step-begin =
       call-keeps begin puts m r h
-      (λ v f. puts-none (serving (begin-serves (served h (row-one whenServing (m .core) _ v)) v)))
+      (λ v f. puts-none (serving (begin-serves (served h (row-one whenServing _ (m .core) _ v)) v)))
       (λ v f. never-cut begin m refl f)
 
   step-look : (q : Look) → CallKeeps (look q) puts m r
@@ -88,43 +89,43 @@ module _ (puts : Told) (m : Machine) (r : Reference) (h : Holding puts m r) wher
   unfolding updateRows
   step-update s number page slot value budget =
       call-keeps (update number page slot value budget) puts m r h
-      (λ v f. serving (update-serves (served h (row-one whenServing (m .core) _ v)) s number page slot value budget 0 v))
-      (λ v f. update-cut (served h (row-one whenServing (m .core) _ v)) s number page slot value budget v f)
+      (λ v f. serving (update-serves (served h (row-one whenServing _ (m .core) _ v)) s number page slot value budget 0 v))
+      (λ v f. update-cut (served h (row-one whenServing _ (m .core) _ v)) s number page slot value budget v f)
 
   step-commit : sound (m .core) ≡ true → (number budget : ℕ) → CallKeeps (commit number budget) puts m r
   unfolding commitRows
   step-commit s number budget =
       call-keeps (commit number budget) puts m r h
-      (λ v f. serving (commit-serves (served h (row-one whenServing (m .core) _ v)) s number budget 0 v))
-      (λ v f. commit-cut (served h (row-one whenServing (m .core) _ v)) s number budget v f)
+      (λ v f. serving (commit-serves (served h (row-one whenServing _ (m .core) _ v)) s number budget 0 v))
+      (λ v f. commit-cut (served h (row-one whenServing _ (m .core) _ v)) s number budget v f)
 
   step-abort : sound (m .core) ≡ true → (number budget : ℕ) → CallKeeps (abort number budget) puts m r
   unfolding abortRows
   step-abort s number budget =
       call-keeps (abort number budget) puts m r h
-      (λ v f. serving (abort-serves (served h (row-one whenServing (m .core) _ v)) s number budget 0 v))
-      (λ v f. abort-cut (served h (row-one whenServing (m .core) _ v)) s number budget v f)
+      (λ v f. serving (abort-serves (served h (row-one whenServing _ (m .core) _ v)) s number budget 0 v))
+      (λ v f. abort-cut (served h (row-one whenServing _ (m .core) _ v)) s number budget v f)
 
   step-checkpoint-begin : CallKeeps checkpointBegin puts m r
   unfolding checkpointBeginRows checkpointBeginTask perform
   step-checkpoint-begin =
       call-keeps checkpointBegin puts m r h
-      (λ v f. puts-none (serving (checkpoint-begin-serves (served h (open-serving (m .core) (row-one whenOpen (m .core) _ v))) v)))
+      (λ v f. puts-none (serving (checkpoint-begin-serves (served h (open-serving (m .core) (row-one whenOpen _ (m .core) _ v))) v)))
       (λ v f. never-cut checkpointBegin m refl f)
 
   step-checkpoint-step : sound (m .core) ≡ true → (budget : ℕ) → CallKeeps (checkpointStep budget) puts m r
   unfolding checkpointStepRows
   step-checkpoint-step s budget =
       call-keeps (checkpointStep budget) puts m r h
-      (λ v f. puts-none (serving (checkpoint-step-serves (served h (copying-serving (m .core) (row-one whenCopying (m .core) _ v))) s v)))
-      (λ v f. kept-lost (checkpoint-step-cut budget (served h (copying-serving (m .core) (row-one whenCopying (m .core) _ v))) v (holding-kept h) f) [])
+      (λ v f. puts-none (serving (checkpoint-step-serves (served h (copying-serving (m .core) (row-one whenCopying _ (m .core) _ v))) s v)))
+      (λ v f. kept-lost (checkpoint-step-cut budget (served h (copying-serving (m .core) (row-one whenCopying _ (m .core) _ v))) v (holding-kept h) f) [])
 
   step-checkpoint-end : (budget : ℕ) → CallKeeps (checkpointEnd budget) puts m r
   unfolding checkpointEndRows
   step-checkpoint-end budget =
       call-keeps (checkpointEnd budget) puts m r h
-      (λ v f. puts-none (serving (checkpoint-end-serves (served h (copying-serving (m .core) (row-one whenCopying (m .core) _ v))) v)))
-      (λ v f. kept-lost (checkpoint-end-cut (served h (copying-serving (m .core) (row-one whenCopying (m .core) _ v))) v budget f) [])
+      (λ v f. puts-none (serving (checkpoint-end-serves (served h (copying-serving (m .core) (row-one whenCopying _ (m .core) _ v))) v)))
+      (λ v f. kept-lost (checkpoint-end-cut (served h (copying-serving (m .core) (row-one whenCopying _ (m .core) _ v))) v budget f) [])
 
   step-new : CallKeeps newState puts m r
   unfolding perform newCore
@@ -138,7 +139,7 @@ module _ (puts : Told) (m : Machine) (r : Reference) (h : Holding puts m r) wher
       let o = accepted-taken restartBegin m v f in
       let t = taken-call restartBegin (m .core) (m .world) o in
       let p = rw (t .core, t .world) at (begin-progress (m .core) (m .world) o) in
-      let s = stopped h (row-one whenShut (m .core) _ v) in
+      let s = stopped h (row-one whenShut _ (m .core) _ v) in
       let k = kept-devices (p .1) (perform-lengths _ (m .world)) (s .0) in
       puts-none {puts = puts}
       (replaying (p .0) k
@@ -162,8 +163,8 @@ module _ (puts : Told) (m : Machine) (r : Reference) (h : Holding puts m r) wher
   unfolding restartEndRows
   step-restart-end passes budget =
       call-keeps (restartEnd budget) puts m r h
-      (λ v f. serving (restart-end-serves (at-end (replayed h (row-one whenReplaying (m .core) _ v)) (accepted-taken (restartEnd budget) m v f)) passes v))
-      (λ v f. let s = replayed h (row-one whenReplaying (m .core) _ v) in kept-lost (restart-end-cut (m .core) (m .world) budget (s .kept) (s .progress .sizes) (s .progress .epoch) passes v f) [])
+      (λ v f. serving (restart-end-serves (at-end (replayed h (row-one whenReplaying _ (m .core) _ v)) (accepted-taken (restartEnd budget) m v f)) passes v))
+      (λ v f. let s = replayed h (row-one whenReplaying _ (m .core) _ v) in kept-lost (restart-end-cut (m .core) (m .world) budget (s .kept) (s .progress .sizes) (s .progress .epoch) passes v f) [])
     where
       at-end : Restarting puts m r → outcomeOf (resultOf (restartEnd budget) (m .core) (m .world) .answer) ≡ taken → AtEnd (m .core) (m .world) r
       at-end s o =

@@ -18,6 +18,7 @@ use Rattle.model.specs.Checkpoint.{perDisk, newStart}
 use Rattle.model.specs.Transaction.{diskOf}
 use Rattle.model.specs.Reference.{Reference}
 use Rattle.model.specs.History.{Told, startPut, startedFrom}
+use Rattle.model.proofs.KeptBases.{bases-carried}
 use Rattle.model.proofs.Reader.{Holds, holds-append}
 use Rattle.model.proofs.Run.{SameLengths}
 use Rattle.model.proofs.Growth.{kept-start}
@@ -89,6 +90,7 @@ module _ {home : ℕ → ℕ} {puts : Told} {c : Core} {w : World} {r : Referenc
     devices =
         record {
           bounds = g .safe .devices .bounds;
+          bases = bases-carried c now refl refl (g .safe .devices .bases);
           anchor = lengths .anchor ∙ g .safe .devices .anchor;
           lengths = lengths-same (c .sizes) lengths (g .safe .devices .lengths);
           sizes = moved .sizes ∙ g .safe .devices .sizes;

@@ -1,5 +1,5 @@
 -- An update keeps what holds of an open store; cut inside the flush that makes room for its record, it loses nothing.
-use mathlib.Core.Path.{_≡_, refl, subst}
+use mathlib.Core.Path.{_≡_, refl, subst, _∙_}
 use mathlib.Core.List.{List, [], _∷_, _++_, append-assoc}
 use mathlib.Core.Bool.{true, false, cond}
 use Prim.Native.Nat.{ℕ, _+_, _≤_, _<_}
@@ -12,21 +12,22 @@ use Rattle.model.specs.Sizes.{widthIn, slotBase, ringOf}
 use Rattle.model.specs.Record.{Record, encode, wordsOf}
 use Rattle.model.specs.World.{World, Action, write, pages, work, cost, act, perform, stores, run, finishes, each}
 use Rattle.model.specs.Memory.{ownerAt, ownerOf}
-use Rattle.model.specs.State.{limit, keptOf, endOf, withLog, isOpen, placeOf, firstAt, reservedAt, hasUpdate, withPlace, servingSound, sound}
+use Rattle.model.specs.State.{limit, keptOf, endOf, withLog, isOpen, placeOf, firstAt, reservedAt, hasUpdate, withPlace, servingSound, sound, slotPlace, baseOf, withReserved, reservedOn}
 use Rattle.model.specs.Refusal.{accepted, verdict}
-use Rattle.model.specs.Causes.{locked}
 use Rattle.model.specs.Append.{Appended, append}
 use Rattle.model.specs.Transaction.{diskOf, slotWords, updateRecord, updated, updateRows, updateTask}
 use Rattle.model.specs.Call.{update}
 use Rattle.model.specs.Reference.{Reference, afterTaken}
 use Rattle.model.specs.History.{Told, also, putBy}
+use Rattle.model.proofs.Bounds.{bounded}
+use Rattle.model.proofs.KeptBases.{place-kept, lock-of}
 use Rattle.model.proofs.Run.{perform-append, perform-pages, run-cut, stores-append, stores-written}
 use Rattle.model.proofs.Counts.{append-fits}
 use Rattle.model.proofs.Ledger.Entry.{Entry, recordOf, isClose}
 use Rattle.model.proofs.Ledger.Order.{sizeOf}
 use Rattle.model.proofs.Store.Told.{update-told}
 use Rattle.model.proofs.Store.View.{Kept, Serving, Served, runAt}
-use Rattle.model.proofs.Store.Rows.{serving-sound}
+use Rattle.model.proofs.Store.Rows.{serving-sound, sizes-sound, bases-sound}
 use Rattle.model.proofs.Store.Ready.{Ready, ready}
 use Rattle.model.proofs.Store.UpdateRoom.{Allowed, updateEntry, slotChanged, noted, update-size}
 use Rattle.model.proofs.Store.UpdateTable.{serving-updated}
@@ -40,9 +41,11 @@ module _ {c : Core} {w : World} {number page slot : ℕ} {value : List ℕ} (s :
   within-bounds : servingSound c ≡ true
   within-bounds = serving-sound c (a .serving) s
 
-  not-others : (u : ℕ) → isOpen (c .table) u ≡ true → (u ≡ number → ⊥) → u ≡ ownerOf (c .sizes) (w .work) page slot → ⊥
-  unfolding locked isOpen
-  not-others u o ne owns = true-false (rw (← owns, o, ne-eqb u number ne)) (a .unlocked)
+  not-others : (u : ℕ) → isOpen (c .table) u ≡ true → (u ≡ number → ⊥) → u ≡ ownerOf (c .sizes) (w .work) (slotBase (c .sizes) page slot) → ⊥
+  unfolding isOpen
+  not-others u o ne owns =
+      let small = bounded (c .sizes) (sizes-sound c within-bounds) .pages-max in
+      true-false (lock-of c (bases-sound c within-bounds) w page slot (omega (arith, a .page-lt)) number ∙ rw (← owns, o, ne-eqb u number ne)) (a .unlocked)
 
   update-allowed : Allowed c w number page slot value
   update-allowed =
@@ -119,17 +122,21 @@ module _ {home : ℕ → ℕ} {puts : Told} {c : Core} {w : World} {r : Referenc
       }
 
   same-record : recordOf (updateEntry c' v number page slot value) ≡ updateRecord c w number page slot value
-  unfolding withLog updateRecord recordOf isClose slotWords
+  unfolding withLog updateRecord recordOf isClose slotWords slotPlace baseOf
   same-record = rw (y .only .work-same, y .only .pages-same)
+
+  -- where its slot lies
+  place : slotPlace c page slot ≡ at
+  place = place-kept c (g .safe .devices .bases) page slot (omega (arith, may .page-lt, g .safe .devices .bounds .pages-max))
 
   -- what an update does, in two
   update-actions : updateTask c w number page slot value .actions
-      ≡ y .flushing ++ (put .actions ++ (each (write pages) at value ++ write work (ownerAt (c .sizes) page slot) number ∷ []))
+      ≡ y .flushing ++ (put .actions ++ (each (write pages) at value ++ write work (ownerAt (c .sizes) at) number ∷ []))
   unfolding updateTask
-  update-actions = rw (y .split words refl) (simp append-assoc)
+  update-actions = rw (place, y .split words refl) (simp append-assoc)
 
-  update-world : perform (updateTask c w number page slot value .actions) w ≡ slotChanged (perform (put .actions) v) at value number
-  unfolding perform act ownerAt
+  update-world : perform (updateTask c w number page slot value .actions) w ≡ slotChanged (c .sizes) (perform (put .actions) v) at value number
+  unfolding perform act
   update-world = rw (update-actions, perform-append, perform-append, perform-append, perform-pages)
 
   update-core : updateTask c w number page slot value .core ≡ withLog c (put .logs) (updated c number (length words))
@@ -139,9 +146,12 @@ module _ {home : ℕ → ℕ} {puts : Told} {c : Core} {w : World} {r : Referenc
   -- the end of the disk's log is the same before the flush and after it
   abbrev tableOf : ℕ → Table
   tableOf n =
-      withPlace (c .table) (placeOf (c .table) number) number d
+      withReserved
+      (withPlace (c .table) (placeOf (c .table) number) number d
       (cond (hasUpdate (c .table) (placeOf (c .table) number)) (firstAt (c .table) (placeOf (c .table) number)) (endOf (y .logs) d))
-      (reservedAt (c .table) (placeOf (c .table) number) + n)
+      (reservedAt (c .table) (placeOf (c .table) number) + n))
+      d
+      (reservedOn (c .table) d + n)
 
   same-table : tableOf (length words) ≡ updated c number (length words)
   unfolding updated
@@ -151,7 +161,7 @@ module _ {home : ℕ → ℕ} {puts : Told} {c : Core} {w : World} {r : Referenc
   abbrev After : Record → Table → Type 0
   After q t =
       Serving 0 home (also puts (record { disk = d; content = q } ∷ [])) (withLog c (append (c .sizes) (y .logs) (v .work) d (encode q) .logs) t)
-      (slotChanged (perform (append (c .sizes) (y .logs) (v .work) d (encode q) .actions) v) at value number)
+      (slotChanged (c .sizes) (perform (append (c .sizes) (y .logs) (v .work) d (encode q) .actions) v) at value number)
       (noted r number page slot value) (y .flushed) (y .buffered ++ updateEntry c' v number page slot value ∷ [])
 
   size' : sizeOf (updateEntry c' v number page slot value) ≡ length words
@@ -181,7 +191,7 @@ module _ {home : ℕ → ℕ} {puts : Told} {c : Core} {w : World} {r : Referenc
 
   -- only the flush has stores
   abbrev rest : List Action
-  rest = put .actions ++ (each (write pages) at value ++ write work (ownerAt (c .sizes) page slot) number ∷ [])
+  rest = put .actions ++ (each (write pages) at value ++ write work (ownerAt (c .sizes) at) number ∷ [])
 
   stores-rest : stores rest ≡ 0
   unfolding stores cost

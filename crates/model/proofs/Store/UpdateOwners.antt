@@ -6,14 +6,14 @@ use Prim.Native.Nat.{ℕ, _+_, _≤_, _<_}
 use native.Mathlib.Omega.{arith}
 use native.Mathlib.Decide.{ℕ-discrete, decLt}
 use lib.Dec.{eqb}
-use lib.ListN.{length, getD, set}
+use lib.ListN.{length, set}
 use lib.Seq.{getD-set-same, getD-set-other}
 use borrow.Author.Tests.{eq-eqb}
 use Rattle.model.specs.declared.Sizes.{Sizes}
 use Rattle.model.specs.declared.Core.{Core}
 use Rattle.model.specs.Sizes.{total, slotsIn, slotBase}
 use Rattle.model.specs.World.{World}
-use Rattle.model.specs.Memory.{ownerAt, ownerOf}
+use Rattle.model.specs.Memory.{ownerAt, ownerOf, workWords}
 use Rattle.model.specs.State.{isOpen}
 use Rattle.model.specs.Reference.{Reference, Write, WriteSet, writesOf, writesSlot, added, hasSet}
 use Rattle.model.proofs.Bounds.{Bounded}
@@ -91,7 +91,8 @@ writes-slot-kept page slot number e r has t h = rw (added-writes number e (r .wr
 module _ {c : Core} {w : World} {r : Reference} (own : Owners c w r) (bounds : Bounded (c .sizes))
     (number page slot : ℕ) (value : List ℕ) (may : Allowed c w number page slot value)
     (has : hasSet number (r .writeSets) ≡ true) (less : number < c .next)
-    (v : World) (long : total (c .sizes) ≤ length (v .work)) (same : (i : ℕ) → i < total (c .sizes) → getD (v .work) i 0 ≡ getD (w .work) i 0) where
+    (v : World) (long : workWords (c .sizes) (total (c .sizes)) ≤ length (v .work))
+    (same : (i : ℕ) → i < total (c .sizes) → ownerOf (c .sizes) (v .work) i ≡ ownerOf (c .sizes) (w .work) i) where
   abbrev s : Sizes
   s = c .sizes
 
@@ -102,17 +103,20 @@ module _ {c : Core} {w : World} {r : Reference} (own : Owners c w r) (bounds : B
   write = record { page = page; slot = slot; value = value }
 
   abbrev owner : ℕ → ℕ → ℕ
-  owner p i = getD (set (v .work) at number) (slotBase s p i) 0
+  owner p i = ownerOf s (set (v .work) (ownerAt s at) number) (slotBase s p i)
 
   module _ (p i : ℕ) (hp : p < s .pages) (hi : i < slotsIn s p) where
     mine : slotBase s p i ≡ at → owner p i ≡ number
-    mine e = rw e (getD-set-same (v .work) at number 0 (omega (arith, slot-lt s bounds page slot (may .page-lt) (may .slot-lt))))
+    unfolding ownerOf ownerAt workWords
+    mine e = rw e (getD-set-same (v .work) (ownerAt s at) number 0 (omega (arith, slot-lt s bounds page slot (may .page-lt) (may .slot-lt))))
 
-    others : (slotBase s p i ≡ at → ⊥) → owner p i ≡ getD (w .work) (slotBase s p i) 0
-    others ne = getD-set-other (v .work) at (slotBase s p i) number 0 ne ∙ same (slotBase s p i) (slot-lt s bounds p i hp hi)
+    others : (slotBase s p i ≡ at → ⊥) → owner p i ≡ ownerOf s (w .work) (slotBase s p i)
+    unfolding ownerOf ownerAt
+    others ne =
+        getD-set-other (v .work) (ownerAt s at) (ownerAt s (slotBase s p i)) number 0 (λ x. ne (omega arith))
+        ∙ same (slotBase s p i) (slot-lt s bounds p i hp hi)
 
     owner-below : owner p i < c .next
-    unfolding ownerOf ownerAt
     owner-below = go (ℕ-discrete (slotBase s p i) at)
       where
         go : Dec (slotBase s p i ≡ at) → owner p i < c .next
@@ -120,7 +124,6 @@ module _ {c : Core} {w : World} {r : Reference} (own : Owners c w r) (bounds : B
         go (no ne) = rw (others ne) (own .below p i hp hi)
 
     owner-writes : isOpen (c .table) (owner p i) ≡ true → writesSlot p i (writesOf (owner p i) (added number write (r .writeSets))) ≡ true
-    unfolding ownerOf ownerAt
     owner-writes o = go (ℕ-discrete (slotBase s p i) at)
       where
         go : Dec (slotBase s p i ≡ at) → writesSlot p i (writesOf (owner p i) (added number write (r .writeSets))) ≡ true
@@ -136,12 +139,11 @@ module _ {c : Core} {w : World} {r : Reference} (own : Owners c w r) (bounds : B
             (or-true (writesSlot p i (writesOf number (r .writeSets))))
         go (no ne) =
             rw (others ne)
-            (writes-slot-kept p i number write r has (getD (w .work) (slotBase s p i) 0) (own .written p i hp hi (rw (others ne) at o)))
+            (writes-slot-kept p i number write r has (ownerOf s (w .work) (slotBase s p i)) (own .written p i hp hi (rw (others ne) at o)))
 
   -- f is the state after the update
   pub owners-updated : (f : Core) → f .sizes ≡ c .sizes → f .next ≡ c .next → ((t : ℕ) → isOpen (f .table) t ≡ isOpen (c .table) t)
-      → Owners f (slotChanged v at value number) (noted r number page slot value)
-  unfolding ownerOf ownerAt
+      → Owners f (slotChanged s v at value number) (noted r number page slot value)
   owners-updated f sizes next opened =
       record {
         below = rw (sizes, next) owner-below;

@@ -11,18 +11,19 @@ use Rattle.model.specs.declared.Sizes.{Sizes}
 use Rattle.model.specs.declared.Logs.{Logs}
 use Rattle.model.specs.declared.Table.{Table}
 use Rattle.model.specs.declared.Core.{Core}
-use Rattle.model.specs.Word.{_⊕_, xors}
+use Rattle.model.specs.Word.{_⊕_, xors, part}
 use Rattle.model.specs.Sizes.{slotsIn, widthIn, slotBase, total}
 use Rattle.model.specs.Record.{encode}
 use Rattle.model.specs.World.{World}
-use Rattle.model.specs.Memory.{bufferAt, copyAt, workWords, ownerAt, ownerOf, copyOf}
+use Rattle.model.specs.Memory.{copyAt, workWords, ownerAt, ownerOf, copyOf}
 use Rattle.model.specs.State.{endOf, withLog, isOpen, placeOf, reservedAt}
 use Rattle.model.specs.Transaction.{diskOf, slotWords}
 use Rattle.model.specs.Reference.{Reference, Write, writesOf, added, withSets}
 use Rattle.model.specs.History.{Told}
+use Rattle.model.proofs.KeptBases.{slot-words}
 use Rattle.model.proofs.Xor.{⊕-self-left, ⊕-zero-r, length-xors-same, getD-xors-same}
 use Rattle.model.proofs.Lengths.{Lengths, lengths-right}
-use Rattle.model.proofs.Geometry.{pageOf, slotStart, slot-start, slot-in, slot-apart, slot-end-total}
+use Rattle.model.proofs.Geometry.{pageOf, slotStart, slot-start, slot-in, slot-apart, slot-end-total, page-in}
 use Rattle.model.proofs.Slots.{patchOf}
 use Rattle.model.proofs.WriteSets.{added-writes}
 use Rattle.model.proofs.Places.{open-place}
@@ -44,7 +45,7 @@ pub record Allowed (c : Core) (w : World) (number page slot : ℕ) (value : List
   pub page-lt : page < c .sizes .pages
   pub slot-lt : slot < slotsIn (c .sizes) page
   pub width : length value ≡ widthIn (c .sizes) page
-  pub free : (u : ℕ) → isOpen (c .table) u ≡ true → (u ≡ number → ⊥) → u ≡ ownerOf (c .sizes) (w .work) page slot → ⊥
+  pub free : (u : ℕ) → isOpen (c .table) u ≡ true → (u ≡ number → ⊥) → u ≡ ownerOf (c .sizes) (w .work) (slotBase (c .sizes) page slot) → ⊥
 
 -- the entry of its record, at the end of its transaction's disk
 abbrev pub updateEntry : Core → World → ℕ → ℕ → ℕ → List ℕ → Entry
@@ -62,9 +63,9 @@ updateEntry c w number page slot value =
     }
 
 -- the memories after it: the value in its slot, and the slot's owner
-abbrev pub slotChanged : World → ℕ → List ℕ → ℕ → World
-slotChanged v at value number =
-    record { anchor = v .anchor; pages = sets (v .pages) at value; backups = v .backups; logs = v .logs; work = set (v .work) at number }
+abbrev pub slotChanged : Sizes → World → ℕ → List ℕ → ℕ → World
+slotChanged s v at value number =
+    record { anchor = v .anchor; pages = sets (v .pages) at value; backups = v .backups; logs = v .logs; work = set (v .work) (ownerAt s at) number }
 
 -- the reference after it
 abbrev pub noted : Reference → ℕ → ℕ → ℕ → List ℕ → Reference
@@ -81,19 +82,21 @@ module _ {home : ℕ → ℕ} {puts : Told} {c : Core} {w : World} {r : Referenc
   abbrev e : Entry
   e = updateEntry c w number page slot value
 
-  right : Lengths s w
-  right = lengths-right s w (g .safe .devices .lengths)
+  right : Lengths s (total s) w
+  right = lengths-right s (total s) w (g .safe .devices .lengths)
 
   -- the slot lies within the page memory
   inside : at + widthIn s page ≤ total s
   inside = slot-end-total s page slot (may .page-lt) (may .slot-lt)
 
-  pub at-lt : at < total s
+  at-lt : at < total s
   at-lt = omega (arith, inside, g .safe .devices .bounds .used page (may .page-lt) .width-min)
 
+  old-words : slotWords c w page slot ≡ part at (widthIn s page) (w .pages)
+  old-words = slot-words c (g .safe .devices .bases) w page slot (omega (arith, may .page-lt, g .safe .devices .bounds .pages-max))
+
   old-width : length (slotWords c w page slot) ≡ length value
-  unfolding slotWords
-  old-width = length-part at (widthIn s page) (w .pages) (omega (arith, inside, right .pages)) ∙ sym (may .width)
+  old-width = ap length old-words ∙ length-part at (widthIn s page) (w .pages) (omega (arith, inside, right .pages)) ∙ sym (may .width)
 
   diff-width : length (e .diff) ≡ length value
   diff-width = length-xors-same (slotWords c w page slot) value old-width ∙ old-width
@@ -137,30 +140,29 @@ module _ {home : ℕ → ℕ} {puts : Told} {c : Core} {w : World} {r : Referenc
     here = slot-start s page slot i (may .page-lt) (may .slot-lt) (near .0) (near .1)
 
     differs : getD (e .diff) (i - at) 0 ≡ getD (w .pages) i 0 ⊕ getD value (i - at) 0
-    unfolding slotWords
     differs =
         let back : at + (i - at) ≡ i = omega (arith, near) in
         getD-xors-same (slotWords c w page slot) value old-width (i - at)
         ∙ ap (λ (x : ℕ). x ⊕ getD value (i - at) 0)
-        (getD-part at (widthIn s page) (w .pages) (i - at) (omega (arith, near)) ∙ ap (λ (k : ℕ). getD (w .pages) k 0) back)
+        (ap (λ (l : List ℕ). getD l (i - at) 0) old-words ∙ getD-part at (widthIn s page) (w .pages) (i - at) (omega (arith, near)) ∙ ap (λ (k : ℕ). getD (w .pages) k 0) back)
 
   may-update : MayUpdate (total s) (view c w r F B) e value
-  unfolding view ownerOf ownerAt
+  unfolding view
   may-update =
       record {
         opened = may .opened;
         change = is-change;
         lengths = diff-width;
         differs = λ i l h. differs i h;
-        free = λ i l h u o ne owns. may .free u o ne (owns ∙ ap (λ (k : ℕ). getD (w .work) k 0) (here i h .0));
+        free = λ i l h u o ne owns. may .free u o ne (owns ∙ ap (ownerOf s (w .work)) (here i h .0));
         copy = λ i l h. ap (copyOf s (w .work)) (here i h .1);
       }
 
   -- The world v after the record is buffered, and a table with the same transactions.
-  module _ (v : World) (k : InBuffer s (diskOf c number) w v) (long : length (v .work) ≡ workWords s) (t : Table)
+  module _ (v : World) (k : InBuffer s (diskOf c number) w v) (long : length (v .work) ≡ workWords s (total s)) (t : Table)
       (same-open : (u : ℕ) → isOpen t u ≡ isOpen (c .table) u) where
     abbrev u : World
-    u = slotChanged v at value number
+    u = slotChanged s v at value number
 
     pages-after : (i : ℕ) → getD (w .pages) i 0 ⊕ adds i e ≡ getD (sets (v .pages) at value) i 0
     pages-after i = rw (k .pages-same) (go (spanning at (length value) i) refl)
@@ -174,26 +176,29 @@ module _ {home : ℕ → ℕ} {puts : Told} {c : Core} {w : World} {r : Referenc
             ap (λ (x : ℕ). getD (w .pages) i 0 ⊕ x) (adds-out i e (rw diff-width h)) ∙ ⊕-zero-r (getD (w .pages) i 0)
             ∙ sym (getD-sets-outside (w .pages) at value i h)
 
-    -- an owner or a copy number other than the slot's owner
-    work-other : (j : ℕ) → (j ≡ at → ⊥) → getD (set (v .work) at number) j 0 ≡ getD (v .work) j 0
-    work-other j ne = getD-set-other (v .work) at j number 0 ne
+    -- the memory with the slot's owner: an owner or a copy number other than that
+    abbrev owned : List ℕ
+    owned = set (v .work) (ownerAt s at) number
 
-    copies-after : (p : ℕ) → copyOf s (w .work) p ≡ copyOf s (set (v .work) at number) p
-    unfolding copyOf copyAt bufferAt
-    copies-after p =
-        sym (work-other (copyAt s p) (λ x. omega (arith, at-lt)) ∙ copies-same k (copyAt s p) (may .disk) (omega arith))
+    work-other : (j : ℕ) → (j ≡ ownerAt s at → ⊥) → getD owned j 0 ≡ getD (v .work) j 0
+    work-other j ne = getD-set-other (v .work) (ownerAt s at) j number 0 ne
+
+    copies-after : (p : ℕ) → p < 64 → copyOf s (w .work) p ≡ copyOf s owned p
+    unfolding copyOf copyAt ownerAt
+    copies-after p h = sym (work-other (copyAt s p) (λ x. omega arith) ∙ copies-same k p (may .disk))
 
     owners-after : (i : ℕ) → i < total s
-        → cond (spanning at (length value) i) number (getD (w .work) (slotStart s i) 0) ≡ getD (set (v .work) at number) (slotStart s i) 0
-    unfolding workWords copyAt bufferAt
+        → cond (spanning at (length value) i) number (ownerOf s (w .work) (slotStart s i)) ≡ ownerOf s owned (slotStart s i)
+    unfolding ownerOf ownerAt workWords
     owners-after i l = go (spanning at (length value) i) refl
       where
         go : (b : Bool) → spanning at (length value) i ≡ b
-            → cond b number (getD (w .work) (slotStart s i) 0) ≡ getD (set (v .work) at number) (slotStart s i) 0
-        go true h = rw (here i h .0) (sym (getD-set-same (v .work) at number 0 (omega (arith, at-lt, long))))
+            → cond b number (ownerOf s (w .work) (slotStart s i)) ≡ ownerOf s owned (slotStart s i)
+        go true h = rw (here i h .0) (sym (getD-set-same (v .work) (ownerAt s at) number 0 (omega (arith, at-lt, long))))
         go false h =
-            sym (work-other (slotStart s i) (slot-apart s page slot i (g .safe .devices .bounds) (may .page-lt) (may .slot-lt) l (rw (may .width) at h))
-            ∙ owners-same k (slotStart s i) (slot-in s i l .start-lt))
+            sym (work-other (ownerAt s (slotStart s i))
+            (λ x. slot-apart s page slot i (g .safe .devices .bounds) (may .page-lt) (may .slot-lt) l (rw (may .width) at h) (omega arith))
+            ∙ owners-same k (slotStart s i) (may .disk))
 
     writes-after : (n : ℕ)
         → cond (eqb n number) (map (patchOf s) (writesOf n (r .writeSets)) ++ record { at = at; value = value } ∷ []) (map (patchOf s) (writesOf n (r .writeSets)))
@@ -223,7 +228,7 @@ module _ {home : ℕ → ℕ} {puts : Told} {c : Core} {w : World} {r : Referenc
           pages = λ i l. pages-after i;
           current = λ i l. rw (k .backups-same);
           other = λ i l. rw (k .backups-same);
-          copies = λ i l. copies-after (pageOf s i);
+          copies = λ i l. copies-after (pageOf s i) (omega (arith, page-in s i l .0, g .safe .devices .bounds .pages-max));
           owners = owners-after;
           committed = λ i l. refl;
           writes = λ n o. writes-after n;

@@ -14,8 +14,8 @@ use Rattle.model.specs.declared.Core.{Core}
 use Rattle.model.specs.Sizes.{slotBase, total, ringOf}
 use Rattle.model.specs.Record.{encode}
 use Rattle.model.specs.World.{World, perform}
-use Rattle.model.specs.Memory.{bufferAt, copyAt, workWords}
-use Rattle.model.specs.State.{places, limit, keptOf, fillOf, endOf, withLog, isOpen, placeOf, numberAt, diskAtPlace, firstAt, reservedAt, hasUpdate, withPlace}
+use Rattle.model.specs.Memory.{copyAt, workWords, ownerAt, copyOf}
+use Rattle.model.specs.State.{places, limit, keptOf, fillOf, endOf, withLog, isOpen, placeOf, numberAt, diskAtPlace, firstAt, reservedAt, hasUpdate, withPlace, withReserved, reservedOn}
 use Rattle.model.specs.Append.{Appended, append}
 use Rattle.model.specs.Transaction.{diskOf}
 use Rattle.model.specs.Reference.{Reference, Write}
@@ -35,7 +35,7 @@ use Rattle.model.proofs.Link.Buffered.{InBuffer, owners-same}
 use Rattle.model.proofs.Store.View.{Sets, Owners, Serving, open-used}
 use Rattle.model.proofs.Store.Logged.{Written, in-buffer, safe-written, copies-written, MayLog, longer}
 use Rattle.model.proofs.Store.LogEnd.{boundary-to, capped, early}
-use Rattle.model.proofs.Store.UpdateRoom.{Allowed, updateEntry, slotChanged, noted, at-lt, update-size, update-fit, update-unclosed, good-updated}
+use Rattle.model.proofs.Store.UpdateRoom.{Allowed, updateEntry, slotChanged, noted, update-size, update-fit, update-unclosed, good-updated}
 use Rattle.model.proofs.Store.UpdateOwners.{fits-added, owners-updated}
 use Rattle.model.proofs.Growth.{Small}
 use Rattle.model.proofs.Store.OneMore.{told-more, boundary-logged, since-still}
@@ -62,8 +62,11 @@ module _ {home : ℕ → ℕ} {puts : Told} {c : Core} {w : World} {r : Referenc
   abbrev reserve : ℕ
   reserve = reservedAt (c .table) place + sizeOf e
 
+  abbrev sum : ℕ
+  sum = reservedOn (c .table) d + sizeOf e
+
   abbrev t : Table
-  t = withPlace (c .table) place number d first reserve
+  t = withReserved (withPlace (c .table) place number d first reserve) d sum
 
   placed : place < places
   placed = open-place (c .table) number (may .opened) .1
@@ -72,10 +75,10 @@ module _ {home : ℕ → ℕ} {puts : Told} {c : Core} {w : World} {r : Referenc
   holds = place-holds (c .table) number placed
 
   same-place : (n : ℕ) → placeOf t n ≡ placeOf (c .table) n
-  same-place = update-place (c .table) (g .accounts .tabled) place number d first reserve placed holds
+  same-place = update-place (c .table) (g .accounts .tabled) place number d first reserve d sum placed holds
 
   same-open : (n : ℕ) → isOpen t n ≡ isOpen (c .table) n
-  same-open = update-open (c .table) (g .accounts .tabled) place number d first reserve placed holds
+  same-open = update-open (c .table) (g .accounts .tabled) place number d first reserve d sum placed holds
 
   -- two open transactions have two places
   apart : (n : ℕ) → isOpen (c .table) n ≡ true → (n ≡ number → ⊥) → placeOf (c .table) n ≡ place → ⊥
@@ -94,10 +97,10 @@ module _ {home : ℕ → ℕ} {puts : Told} {c : Core} {w : World} {r : Referenc
   first-le = omega (arith, log-end (g .safe .link) d (may .disk), boundary-to first (keptOf (c .logs) d) (on d F ++ on d B) first-edge)
 
   first-is : firstAt t (placeOf t number) ≡ first
-  first-is = ap (firstAt t) (same-place number) ∙ put-first (c .table) (g .accounts .tabled .sized) place number d first reserve placed
+  first-is = ap (firstAt t) (same-place number) ∙ put-first (c .table) (g .accounts .tabled .sized) place number d first reserve d sum placed
 
   reserved-is : reservedAt t (placeOf t number) ≡ reserve
-  reserved-is = ap (reservedAt t) (same-place number) ∙ put-reserved (c .table) (g .accounts .tabled .sized) place number d first reserve placed
+  reserved-is = ap (reservedAt t) (same-place number) ∙ put-reserved (c .table) (g .accounts .tabled .sized) place number d first reserve d sum placed
 
   -- one of its entries is the first: an old one, or this one
   begun : some (λ q. eqb (q .number) number && eqb (q .position) first) (F ++ (B ++ e ∷ [])) ≡ true
@@ -121,15 +124,15 @@ module _ {home : ℕ → ℕ} {puts : Told} {c : Core} {w : World} {r : Referenc
   unfolding diskOf
   disk-same n o (yes same) =
       ap (λ (m : ℕ). diskAtPlace t (placeOf t m)) same ∙ ap (diskAtPlace t) (same-place number)
-      ∙ put-disk (c .table) (g .accounts .tabled .sized) place number d first reserve placed ∙ ap (diskOf c) (sym same)
+      ∙ put-disk (c .table) (g .accounts .tabled .sized) place number d first reserve d sum placed ∙ ap (diskOf c) (sym same)
   disk-same n o (no ne) =
       ap (diskAtPlace t) (same-place n)
-      ∙ other-same (c .table) place number d first reserve (placeOf (c .table) n) (apart n o ne) .disk
+      ∙ other-same (c .table) place number d first reserve d sum (placeOf (c .table) n) (apart n o ne) .disk
 
   reserved-same : (n : ℕ) → isOpen (c .table) n ≡ true → (n ≡ number → ⊥) → reservedAt t (placeOf t n) ≡ reservedAt (c .table) (placeOf (c .table) n)
   reserved-same n o ne =
       ap (reservedAt t) (same-place n)
-      ∙ other-same (c .table) place number d first reserve (placeOf (c .table) n) (apart n o ne) .reserved
+      ∙ other-same (c .table) place number d first reserve d sum (placeOf (c .table) n) (apart n o ne) .reserved
 
   has-same : (n : ℕ) → isOpen (c .table) n ≡ true → (n ≡ number → ⊥) → hasUpdate t (placeOf t n) ≡ hasUpdate (c .table) (placeOf (c .table) n)
   unfolding hasUpdate
@@ -138,7 +141,7 @@ module _ {home : ℕ → ℕ} {puts : Told} {c : Core} {w : World} {r : Referenc
   first-same : (n : ℕ) → isOpen (c .table) n ≡ true → (n ≡ number → ⊥) → firstAt t (placeOf t n) ≡ firstAt (c .table) (placeOf (c .table) n)
   first-same n o ne =
       ap (firstAt t) (same-place n)
-      ∙ other-same (c .table) place number d first reserve (placeOf (c .table) n) (apart n o ne) .first
+      ∙ other-same (c .table) place number d first reserve d sum (placeOf (c .table) n) (apart n o ne) .first
 
   loggable : MayLog home c F B e
   loggable =
@@ -157,7 +160,7 @@ module _ {home : ℕ → ℕ} {puts : Told} {c : Core} {w : World} {r : Referenc
   entered : Entered (g .safe) e loggable t
   entered =
       record {
-        tabled = update-tabled (c .table) (g .accounts .tabled) place number d first reserve placed holds;
+        tabled = update-tabled (c .table) (g .accounts .tabled) place number d first reserve d sum placed holds;
         opened = same-open;
         disks = λ n o. disk-same n o (ℕ-discrete n number);
         others = λ n o ne. (has-same n o ne, first-same n o ne, reserved-same n o ne);
@@ -179,14 +182,22 @@ module _ {home : ℕ → ℕ} {puts : Told} {c : Core} {w : World} {r : Referenc
   bufferedWorld = perform (put .actions) w
 
   abbrev changed : World
-  changed = slotChanged bufferedWorld (slotBase (c .sizes) page slot) value number
+  changed = slotChanged (c .sizes) bufferedWorld (slotBase (c .sizes) page slot) value number
 
-  other-word : (i : ℕ) → total (c .sizes) ≤ i → getD (changed .work) i 0 ≡ getD (bufferedWorld .work) i 0
-  other-word i h =
-      getD-set-other (bufferedWorld .work) (slotBase (c .sizes) page slot) i number 0 (λ x. omega (arith, at-lt g number page slot value may))
+  abbrev at : ℕ
+  at = ownerAt (c .sizes) (slotBase (c .sizes) page slot)
+
+  -- the buffers and the copy numbers, which lie before the owners
+  before-owners : (i : ℕ) → i < ownerAt (c .sizes) 0 → getD (changed .work) i 0 ≡ getD (bufferedWorld .work) i 0
+  unfolding ownerAt
+  before-owners i h = getD-set-other (bufferedWorld .work) at i number 0 (λ x. omega arith)
+
+  copy-word : (p : ℕ) → p < c .sizes .pages → copyOf (c .sizes) (changed .work) p ≡ copyOf (c .sizes) (bufferedWorld .work) p
+  unfolding copyOf copyAt ownerAt
+  copy-word p h = before-owners (copyAt (c .sizes) p) (omega (arith, g .safe .devices .bounds .pages-max))
 
   written : Written (c .sizes) bufferedWorld changed
-  unfolding bufferAt
+  unfolding ownerAt copyAt
   written =
       record {
         anchor-same = refl;
@@ -198,16 +209,16 @@ module _ {home : ℕ → ℕ} {puts : Told} {c : Core} {w : World} {r : Referenc
               pages = length-sets (bufferedWorld .pages) (slotBase (c .sizes) page slot) value;
               backups = refl;
               logs = refl;
-              work = length-set (bufferedWorld .work) (slotBase (c .sizes) page slot) number;
+              work = length-set (bufferedWorld .work) at number;
             };
-        buffers-same = λ i h l. other-word i (omega arith);
+        buffers-same = λ i h. before-owners i (omega arith);
       }
 
   buffer : InBuffer (c .sizes) d w bufferedWorld
   buffer = in-buffer (g .safe) e loggable
 
-  long : length (bufferedWorld .work) ≡ workWords (c .sizes)
-  long = perform-lengths _ w .work ∙ lengths-right (c .sizes) w (g .safe .devices .lengths) .work
+  long : length (bufferedWorld .work) ≡ workWords (c .sizes) (total (c .sizes))
+  long = perform-lengths _ w .work ∙ lengths-right (c .sizes) (total (c .sizes)) w (g .safe .devices .lengths) .work
 
   abbrev updatedCore : Core
   updatedCore = withLog c (put .logs) t
@@ -225,13 +236,13 @@ module _ {home : ℕ → ℕ} {puts : Told} {c : Core} {w : World} {r : Referenc
       }
 
   owners-after : Owners updatedCore changed (noted r number page slot value)
-  unfolding withLog workWords copyAt bufferAt
+  unfolding withLog
   owners-after =
       owners-updated (g .owners) (g .safe .devices .bounds) number page slot value may (sym (g .sets .has number) ∙ may .opened) (open-used (g .safe) number (may .opened) .1)
-      bufferedWorld (omega (arith, long)) (owners-same buffer) updatedCore refl refl same-open
+      bufferedWorld (omega (arith, long)) (λ i h. owners-same buffer i (may .disk)) updatedCore refl refl same-open
 
   pub serving-updated : Serving 0 home (also puts (record { disk = d; content = recordOf e } ∷ [])) updatedCore changed (noted r number page slot value) F (B ++ e ∷ [])
-  unfolding withLog bufferAt
+  unfolding withLog
   serving-updated =
       record {
         stage = g .stage;
@@ -242,7 +253,7 @@ module _ {home : ℕ → ℕ} {puts : Told} {c : Core} {w : World} {r : Referenc
         accounts = accounts-logged (g .safe) e loggable (g .accounts) t entered (open-used (g .safe) number (may .opened) .1);
         copies =
             copies-written (g .safe) e loggable written (g .copies)
-            (λ i h. other-word i (omega arith)) (λ o. capped g e page (may .page-lt) refl) (λ h o. early g e page (may .page-lt) refl (may .disk) refl h) t;
+            copy-word (λ o. capped g e page (may .page-lt) refl) (λ h o. early g e page (may .page-lt) refl (may .disk) refl h) t;
         sets = sets-after;
         owners = owners-after;
         told = λ n h.

@@ -8,11 +8,11 @@ use lib.ListN.{length, getD}
 use native.Mathlib.Omega.{arith}
 use native.Mathlib.Decide.{decLt}
 use Rattle.model.specs.declared.Core.{Core}
-use Rattle.model.specs.Sizes.{total, slotsIn, ringOf}
+use Rattle.model.specs.Sizes.{total, slotsIn, ringOf, slotBase}
 use Rattle.model.specs.Anchor.{anchorWords, epochOn, sizesOn, startOn, backupAt}
 use Rattle.model.specs.World.{World}
 use Rattle.model.specs.Memory.{ownerOf, copyOf, lengthsRight}
-use Rattle.model.specs.State.{limit, startOf, keptOf, endOf, isOpen, placeOf, firstAt, reservedAt, hasUpdate}
+use Rattle.model.specs.State.{limit, startOf, keptOf, endOf, isOpen, placeOf, firstAt, reservedAt, hasUpdate, basesRight}
 use Rattle.model.specs.Causes.{whenOpen, whenServing}
 use Rattle.model.specs.Transaction.{diskOf}
 use Rattle.model.specs.Image.{imageOf, restarted}
@@ -55,7 +55,7 @@ view c w r F B =
       current = λ i. getD (w .backups) (backupAt (c .sizes) (c .epoch) + i) 0;
       other = λ i. getD (w .backups) (backupAt (c .sizes) (c .epoch + 1) + i) 0;
       copies = λ i. copyOf (c .sizes) (w .work) (pageOf (c .sizes) i);
-      owners = λ i. getD (w .work) (slotStart (c .sizes) i) 0;
+      owners = λ i. ownerOf (c .sizes) (w .work) (slotStart (c .sizes) i);
       committed = λ i. getD (wordsIn (r .committed)) i 0;
       writes = λ u. map (patchOf (c .sizes)) (writesOf u (r .writeSets));
       opened = isOpen (c .table);
@@ -63,11 +63,12 @@ view c w r F B =
       buffered = B;
     }
 
--- The slices have the state's lengths, and the anchor says what the state says.
+-- The slices have the state's lengths, the anchor says what the state says, and what is kept of the sizes is right.
 pub record Devices (c : Core) (w : World) : Type 0 where
   pub bounds : Bounded (c .sizes)
+  pub bases : basesRight c ≡ true
   pub anchor : length (w .anchor) ≡ anchorWords
-  pub lengths : lengthsRight (c .sizes) w ≡ true
+  pub lengths : lengthsRight (c .sizes) (total (c .sizes)) w ≡ true
   pub sizes : sizesOn (w .anchor) ≡ c .sizes
   pub epoch : epochOn (w .anchor) ≡ c .epoch
   pub formatted : 1 ≤ c .epoch
@@ -141,10 +142,10 @@ pub record Sets (c : Core) (r : Reference) : Type 0 where
 -- Slot owners: each was open once, and while it is open its write set has a write to the slot.
 pub record Owners (c : Core) (w : World) (r : Reference) : Type 0 where
   pub below : (page slot : ℕ) → page < c .sizes .pages → slot < slotsIn (c .sizes) page
-      → ownerOf (c .sizes) (w .work) page slot < c .next
+      → ownerOf (c .sizes) (w .work) (slotBase (c .sizes) page slot) < c .next
   pub written : (page slot : ℕ) → page < c .sizes .pages → slot < slotsIn (c .sizes) page
-      → isOpen (c .table) (ownerOf (c .sizes) (w .work) page slot) ≡ true
-      → writesSlot page slot (writesOf (ownerOf (c .sizes) (w .work) page slot) (r .writeSets)) ≡ true
+      → isOpen (c .table) (ownerOf (c .sizes) (w .work) (slotBase (c .sizes) page slot)) ≡ true
+      → writesSlot page slot (writesOf (ownerOf (c .sizes) (w .work) (slotBase (c .sizes) page slot)) (r .writeSets)) ≡ true
 
 -- The entries of a disk are the last of the records that the calls put there since its log began at `base`, and they begin where the
 -- words of those before end, which is where the log is told to start. Of those before none is an update of a transaction that is open

@@ -1,22 +1,23 @@
 -- The statements of specs/AnswersInCode.antt, each from the machine's.
 use mathlib.Core.Path.{sym, ap, subst, _∙_}
 use Rattle.model.specs.Refusal.{Result}
-use Rattle.model.specs.Call.{commit, abort, Gives}
-use Rattle.model.specs.Machine.{isRefused}
-use Rattle.model.specs.Trace.{KeepsContract}
+use Rattle.model.specs.Call.{commit, abort}
+use Rattle.model.specs.View.{coreOf}
+use Rattle.model.specs.Machine.{Machine, result, isRefused}
+use Rattle.model.specs.Trace.{viewOf, machineBefore}
 use Rattle.model.specs.Answers.{ClosingTaken, AnswersOwn, OwnSlices, Made, by, MadeSound, StatesMade, Returns, Returned}
 use Rattle.model.specs.AnswersInCode.{ClosingTakenInCode, OwnSlicesInCode, MadeInCode, StatesMadeInCode, ReturnedInCode}
 use Rattle.model.proofs.Answers.{closing-taken, own-slices}
 use Rattle.model.proofs.Returned.{returned}
 use Rattle.model.proofs.Sound.Made.{made-sound, states-made}
-use Rattle.model.proofs.Trace.Events.{as-machine, in-code}
-use Rattle.model.proofs.Trace.Promises.{carried, gave-outcome}
+use Rattle.model.proofs.Trace.Events.{as-defined, as-machine, in-code}
+use Rattle.model.proofs.Trace.Promises.{carries-over, gave-outcome}
 
 -- Commit and abort are not refused to an open transaction.
 pub closing-taken-in-code : ClosingTakenInCode
-unfolding ClosingTakenInCode ClosingTaken
+unfolding ClosingTakenInCode ClosingTaken viewOf coreOf
 closing-taken-in-code =
-    carried _ _ closing-taken (λ m r h serves t opened o budget on. (
+    carries-over _ _ closing-taken (λ m r h serves t opened o budget on. (
       λ is. ap isRefused (gave-outcome m o (commit t budget) is on) ∙ h serves t opened budget .0,
       λ is. ap isRefused (gave-outcome m o (abort t budget) is on) ∙ h serves t opened budget .1,
     ))
@@ -25,16 +26,18 @@ closing-taken-in-code =
 pub own-slices-in-code : OwnSlicesInCode
 unfolding OwnSlicesInCode OwnSlices
 own-slices-in-code =
-    carried _ _ own-slices (λ m r h o on.
-    subst (AnswersOwn m (o .call)) (sym (ap (λ (x : Result). x .answer) (as-machine m o on))) (h (o .call)))
+    carries-over _ _ own-slices (λ m r h o on.
+    subst (AnswersOwn (viewOf m) (o .call)) (sym (ap (λ (x : Result). x .answer) (as-machine m o on))) (h (o .call)))
 
 -- The states that the code hands back are made.
 pub made-in-code : MadeInCode
-unfolding MadeInCode KeepsContract Gives MadeSound
+unfolding MadeInCode MadeSound result viewOf coreOf
 made-in-code o k made =
+    let m : Machine = viewOf (machineBefore o) in
+    let gave = as-defined o k in
     record {
-      made = subst Made (sym (ap (λ (x : Result). x .core) k)) (by (o .call) (o .entry) made);
-      stage = rw (ap (λ (x : Result). x .answer) k) (made-sound (o .core) made .answers (o .call) (o .entry));
+      made = subst Made (sym (ap (λ (x : Result). x .core) gave)) (by (o .call) (m .world) made);
+      stage = rw (ap (λ (x : Result). x .answer) gave) (made-sound (m .core) made .answers (o .call) (m .world));
     }
 
 pub states-made-in-code : StatesMadeInCode
@@ -43,6 +46,7 @@ states-made-in-code = in-code _ states-made
 
 -- What an answer tells.
 pub returned-in-code : ReturnedInCode
-unfolding ReturnedInCode KeepsContract Gives Returned
+unfolding ReturnedInCode Returned result
 returned-in-code o k =
-    subst (Returns (o .call) (o .core) (o .entry)) (sym (ap (λ (x : Result). x .answer) k)) (returned (o .call) (o .core) (o .entry))
+    let m : Machine = viewOf (machineBefore o) in
+    subst (Returns (o .call) (m .core) (m .world)) (sym (ap (λ (x : Result). x .answer) (as-defined o k))) (returned (o .call) (m .core) (m .world))

@@ -18,12 +18,13 @@ use Rattle.model.specs.Refusal.{Result, verdict, accepted}
 use Rattle.model.specs.Causes.{whenServing, lengthsWrong, tailOn, tailIn}
 use Rattle.model.specs.Transaction.{diskOf, commitRows, commitTask}
 use Rattle.model.specs.Call.{commit}
+use Rattle.model.specs.View.{bodyOf}
 use Rattle.model.specs.Reference.{taken, interrupted, outcomeOf}
 use Rattle.model.specs.Machine.{Machine, result}
 use Rattle.model.specs.Promise.{coversCommit, CommitPoint, CommitPoints}
 use Rattle.model.specs.LogPromise.{Truth, StateTrue}
 use Rattle.model.specs.Answers.{StatesMade}
-use Rattle.model.specs.Trace.{followInCode, formattedInCode, AlwaysInCode}
+use Rattle.model.specs.Trace.{viewOf, followInCode, formattedInCode, AlwaysInCode}
 use Rattle.model.specs.LogPromiseInCode.{CommitPointsInCode}
 use Rattle.model.proofs.Members.{Every}
 use Rattle.model.proofs.Booleans.{cond-all}
@@ -113,7 +114,7 @@ module _ (m : Machine) (t : ℕ) (s : sound (m .core) ≡ true) (ok : verdict (c
       let r1 = row-passed _ _ ok in
       let r2 = row-passed _ _ (r1 .1) in
       let r5 = row-passed _ _ (r2 .1) in
-      let right = lengths-right (m .core .sizes) (m .world) (not-false _ (r5 .0)) in
+      let right = lengths-right (m .core .sizes) (m .core .bases .total) (m .world) (not-false _ (r5 .0)) in
       omega (arith, right .logs, disk-within (m .core .sizes) disk disk-below)
 
   tail-low : (whenServing (m .core .stage) ≡ true → Truth m) → tailOn (m .core .sizes) (m .world) disk ≤ endOf (m .core .logs) disk
@@ -145,10 +146,10 @@ module _ (m : Machine) (t : ℕ) where
 
 -- The commit point, seen after a commit of the code: see specs/LogPromiseInCode.antt.
 pub commit-points-in-code : CommitPointsInCode
-unfolding CommitPointsInCode AlwaysInCode CommitPoints StateTrue StatesMade
+unfolding CommitPointsInCode AlwaysInCode CommitPoints StateTrue StatesMade viewOf bodyOf
 commit-points-in-code o s f steps l c t budget is on =
-    let m = followInCode steps (formattedInCode o s) .machine in
+    let m = viewOf (followInCode steps (formattedInCode o s) .machine) in
     let points = in-code _ commit-point o s f steps l in
     let truth = in-code _ state-true o s f steps l in
     let passes = made-passes (in-code _ states-made o s f steps l) .1 in
-    subst (Leaves m t) (sym (gave m c (commit t budget) is on)) (commit-leaves m t budget passes (points t) truth)
+    subst (Leaves m t) (sym (gave _ c (commit t budget) is on)) (commit-leaves m t budget passes (points t) truth)

@@ -11,16 +11,18 @@ use Rattle.model.specs.Refusal.{row, rejected, Result, numberOf}
 use Rattle.model.specs.Causes.{slotMissing, locked}
 use Rattle.model.specs.Transaction.{updateRows, readRows, readWords}
 use Rattle.model.specs.Call.{Call, update, look, read, rowsOf, resultOf}
+use Rattle.model.specs.View.{coreOf}
 use Rattle.model.specs.Reference.{outcomeOf, Reference, writtenByOther}
 use Rattle.model.specs.Machine.{Machine, result, outcome, isRefused}
 use Rattle.model.specs.Promise.{PlainTable, Table}
-use Rattle.model.specs.Trace.{Observed, On, Guarded, TableInCode}
+use Rattle.model.specs.Trace.{MachineInCode, viewOf, Observed, On, Guarded, TableInCode}
 use Rattle.model.proofs.Booleans.{true-false, or-none}
 use Rattle.model.proofs.Verdict.{accepted-none, least-applies}
 use Rattle.model.proofs.Store.Cases.{call-cases}
 use Rattle.model.proofs.Store.Checks.{finds, number-row}
 use Rattle.model.proofs.PowerLoss.{table}
-use Rattle.model.proofs.Trace.Promises.{carried, gave-outcome, gave-number}
+use Rattle.model.proofs.Trace.Events.{as-got}
+use Rattle.model.proofs.Trace.Promises.{carries-over, gave-outcome, gave-number}
 
 -- A call that checks that its slot is there, and then that no other transaction has locked it.
 module _ (k : Call) (c : Core) (w : World) (number page slot : ℕ)
@@ -48,7 +50,10 @@ module _ (k : Call) (c : Core) (w : World) (number page slot : ℕ)
       (λ v f e. (accepted-none (rowsOf k c w) v _ eight, accepted-none (rowsOf k c w) v _ eleven))
       (λ v f e. (accepted-none (rowsOf k c w) v _ eight, accepted-none (rowsOf k c w) v _ eleven))
 
-module _ (m : Machine) (r : Reference) (t : PlainTable m r) (number page slot : ℕ) where
+module _ (n : MachineInCode) (r : Reference) (t : PlainTable (viewOf n) r) (number page slot : ℕ) where
+  abbrev m : Machine
+  m = viewOf n
+
   -- where a slot is there, locked means written by another
   lock-written : (b : Bool) → slotMissing (m .core .sizes) page slot ≡ false → locked (m .core) (m .world) number page slot ≡ b
       → writtenByOther number page slot (r .writeSets) ≡ b
@@ -60,39 +65,38 @@ module _ (m : Machine) (r : Reference) (t : PlainTable m r) (number page slot : 
   guards : (k : Call) (eight : List·Memᴰ (row 8 (slotMissing (m .core .sizes) page slot)) (rowsOf k (m .core) (m .world)))
       (eleven : List·Memᴰ (row 11 (locked (m .core) (m .world) number page slot)) (rowsOf k (m .core) (m .world)))
       (only : finds 11 (rowsOf k (m .core) (m .world)) ≡ locked (m .core) (m .world) number page slot)
-      → (o : Observed) → o .call ≡ k → On m o → Guarded r o number page slot
+      → (o : Observed) → o .call ≡ k → On n o → Guarded r o number page slot
   unfolding outcome result
   guards k eight eleven only o is on =
       record {
         eleven = λ e.
-            let x = answered-locked k (m .core) (m .world) number page slot eight eleven only (sym (gave-number m o k is on) ∙ e) in
+            let x = answered-locked k (m .core) (m .world) number page slot eight eleven only (sym (gave-number n o k is on) ∙ e) in
             lock-written true (x .0) (x .1);
         free = λ e.
-            let x = passed-unlocked k (m .core) (m .world) number page slot eight eleven only (sym (ap isRefused (gave-outcome m o k is on)) ∙ e) in
+            let x = passed-unlocked k (m .core) (m .world) number page slot eight eleven only (sym (ap isRefused (gave-outcome n o k is on)) ∙ e) in
             lock-written false (x .0) (x .1);
       }
 
 -- The page memory is a plain table of slots, and the code's reads and updates are answered as its.
 pub table-in-code : TableInCode
-unfolding TableInCode Table readRows updateRows finds
+unfolding TableInCode Table readRows updateRows finds viewOf coreOf
 table-in-code =
-    carried _ _ table (λ m r h serves.
+    carries-over _ _ table (λ m r h serves.
     let t = h serves in
     record {
       table = t;
       reads = λ o reader page slot words is on took e.
-          e ∙ ap (λ (c : Core). readWords c (o .entry) reader page slot) (on .core)
-          ∙ ap (λ (w : World). readWords (m .core) w reader page slot) (on .entry)
+          e ∙ ap (λ (x : MachineInCode). readWords (viewOf x .core) (viewOf x .world) reader page slot) (as-got m o on)
           ∙ t .reads reader page slot (sym (gave-outcome m o (look (read reader page slot)) is on) ∙ took);
       readLocks = λ o reader page slot is on.
           guards m r t reader page slot (look (read reader page slot)) (List·Memᴰ·tail (List·Memᴰ·tail (List·Memᴰ·tail (List·Memᴰ·head refl))))
           (List·Memᴰ·tail (List·Memᴰ·tail (List·Memᴰ·tail (List·Memᴰ·tail (List·Memᴰ·tail (List·Memᴰ·head refl))))))
-          (only-one (locked (m .core) (m .world) reader page slot)) o is on;
+          (only-one (locked (viewOf m .core) (viewOf m .world) reader page slot)) o is on;
       updateLocks = λ o number page slot value budget is on.
           guards m r t number page slot (update number page slot value budget)
           (List·Memᴰ·tail (List·Memᴰ·tail (List·Memᴰ·tail (List·Memᴰ·head refl))))
           (List·Memᴰ·tail (List·Memᴰ·tail (List·Memᴰ·tail (List·Memᴰ·tail (List·Memᴰ·tail (List·Memᴰ·tail (List·Memᴰ·head refl)))))))
-          (only-one (locked (m .core) (m .world) number page slot)) o is on;
+          (only-one (locked (viewOf m .core) (viewOf m .world) number page slot)) o is on;
     })
   where
     only-one : (b : Bool) → (b || false) ≡ b

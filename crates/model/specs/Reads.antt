@@ -1,0 +1,42 @@
+-- What a call tests of a state that no call made. Each tests what it reads, so that every index and sum is safe; a state that a call
+-- handed back passes (reads-pass in proofs/Tested.antt). The calls that read the whole state test all of it: `sound`. A format and a
+-- restart begin read no state, and test none.
+use Prim.Native.Nat.{ℕ, _+_}
+use mathlib.Core.Bool.{Bool, not, _&&_, _||_}
+use lib.Dec.{leb, ltb}
+use Rattle.model.specs.declared.Core.{Core}
+use Rattle.model.specs.Sizes.{pageWords, usedEntry, countsInBounds}
+use Rattle.model.specs.State.{limit, fillOf, endOf, placeOf, isOpen, diskAtPlace, reservedAt, reservedOn, baseOf}
+use Rattle.model.specs.World.{World}
+use Rattle.model.specs.Causes.{lengthsWrong, slotMissing}
+
+-- P, D, W and T are within their bounds
+unfoldable pub countsFit : Core → Bool
+countsFit c = countsInBounds (c .sizes) && leb (c .bases .total) 8192
+
+-- a slot that there is lies in a page within bounds, and this within T
+unfoldable pub slotFits : (page slot : ℕ) → Core → Bool
+slotFits page slot c =
+    slotMissing (c .sizes) page slot
+    || usedEntry (c .sizes) page && leb (baseOf c page + pageWords (c .sizes) page) (c .bases .total)
+
+-- an open transaction has a disk, with room for what is reserved on it, of which its own words are a part
+unfoldable pub placeFits : (place : ℕ) → Core → Bool
+placeFits place c =
+    ltb disk (c .sizes .disks) && leb (fillOf (c .logs) disk) 64
+    && leb 2 (reservedAt (c .table) place) && leb (reservedAt (c .table) place) (reservedOn (c .table) disk)
+    && leb (endOf (c .logs) disk + reservedOn (c .table) disk) limit
+  where
+    disk : ℕ
+    disk = diskAtPlace (c .table) place
+
+unfoldable pub homeFits : (number : ℕ) → Core → Bool
+homeFits number c = not (isOpen (c .table) number) || placeFits (placeOf (c .table) number) c
+
+-- A call that reads a state tests P, D, W and T (a begin no more than these); and where the lent slices have the lengths that these
+-- give, what it reads: else it is refused for a length.
+unfoldable pub fitsOn : (test : Bool) → Core → World → Bool
+fitsOn test c w = countsFit c && (lengthsWrong (c .sizes) (c .bases .total) w || test)
+
+unfoldable pub updateFits : (number page slot : ℕ) → Core → Bool
+updateFits number page slot c = slotFits page slot c && homeFits number c
