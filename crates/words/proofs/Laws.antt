@@ -1,13 +1,13 @@
 -- One turn of a loop over words: each law takes what n words give to what n + 1 words give.
 use mathlib.Core.Path.{_≡_, refl, sym, ap, _∙_}
 use Prim.Native.Nat.{ℕ, zero, suc, _+_, _≤_, _<_}
-use mathlib.Core.List.{List, [], _∷_, _++_}
+use mathlib.Core.List.{List, [], _∷_, _++_, append-nil}
 use native.Mathlib.Numerals.{add-one}
 use native.Mathlib.Nat.{add-zero, add-suc, suc-add, zero-add}
 use native.Mathlib.Omega.{arith}
-use lib.ListN.{length, getD, set, drop, replicate, length-drop, length-replicate}
+use lib.ListN.{length, getD, set, drop, replicate, length-drop, length-replicate, drop-of-length-le}
 use lib.Bits.{bitXor}
-use lib.Seq.{sets, take-suc, take-length, getD-drop}
+use lib.Seq.{sets, sets-eq, take-suc, take-length, getD-drop}
 use Rattle.model.specs.Word.{_⊕_, xors, part}
 use Rattle.model.specs.Image.{xorAt}
 use Rattle.model.proofs.Xor.{length-xors-same}
@@ -22,6 +22,17 @@ sets-snoc l at (x ∷ vs) v = rw (add-suc, ← suc-add) (sets-snoc (set l at x) 
 -- the same where the run's length is known by an equation
 pub sets-more : (l : List ℕ) (at : ℕ) (vs : List ℕ) (v n : ℕ) → length vs ≡ n → set (sets l at vs) (at + n) v ≡ sets l at (vs ++ (v ∷ []))
 sets-more l at vs v n e = rw (← e) (sym (sets-snoc l at vs v))
+
+-- two runs, one behind the other
+pub sets-append : (l : List ℕ) (at : ℕ) (a b : List ℕ) → sets l at (a ++ b) ≡ sets (sets l at a) (at + length a) b
+sets-append l at [] b = rw add-zero
+sets-append l at (x ∷ a) b = rw (add-suc, ← suc-add) (sets-append (set l at x) (suc at) a b)
+
+-- a run over the whole list
+pub sets-whole : (l vs : List ℕ) → length l ≡ length vs → sets l 0 vs ≡ vs
+sets-whole l vs e =
+    let none = drop-of-length-le l {i = 0 + length vs} (omega arith) in
+    sets-eq vs l 0 (omega arith) ∙ ap (λ (r : List ℕ). vs ++ r) none ∙ append-nil vs
 
 pub part-more : (at n : ℕ) (l : List ℕ) → at + n < length l → part at (n + 1) l ≡ part at n l ++ (getD l (at + n) 0 ∷ [])
 unfolding part
@@ -50,6 +61,11 @@ pub copy-more : (l : List ℕ) (at : ℕ) (source : List ℕ) (from i : ℕ) →
 copy-more l at source from i h =
     sets-more l at (part from i source) (getD source (from + i) 0) i (length-part from i source (omega arith))
     ∙ ap (sets l at) (sym (part-more from i source h))
+
+-- an array that a part of a list is copied over
+pub copied-part : (n at : ℕ) (source old : List ℕ) {after : List ℕ} → at + n ≤ length source → length old ≡ n
+    → after ≡ sets old 0 (part at n source) → after ≡ part at n source
+copied-part n at source old fits whole e = e ∙ sets-whole old (part at n source) (whole ∙ sym (length-part at n source fits))
 
 pub fill-more : (l : List ℕ) (at v i : ℕ) → set (sets l at (replicate i v)) (at + i) v ≡ sets l at (replicate (i + 1) v)
 fill-more l at v i = sets-more l at (replicate i v) v i (length-replicate i v) ∙ ap (sets l at) (sym (replicate-more i v))
