@@ -10,7 +10,7 @@ use borrow.Author.Tests.{le-leb}
 use Rattle.model.specs.World.{World, Action, write, pages, work, each, perform, stores, made, finishes}
 use Rattle.model.specs.declared.Sizes.{Sizes}
 use Rattle.model.specs.Sizes.{total}
-use Rattle.model.specs.Memory.{copyAt}
+use Rattle.model.specs.Memory.{copyAt, ownerAt}
 use Rattle.model.specs.Format.{freshMemory, freshWork}
 use Rattle.model.proofs.Run.{finished-run, stores-written, perform-pages, perform-work}
 use Rattle.model.proofs.Restart.Words.{withPages}
@@ -44,5 +44,5 @@ unfolding freshMemory
 fresh-written budget s copy w =
     let owners : List ℕ = replicate (total s) 0 in
     rw (fresh-is s copy (w .work))
-    (ran-then (work-written budget 0 owners w) _ refl
-    (work-written budget (copyAt s 0) (replicate 64 copy) (withWork w (sets (w .work) 0 owners))))
+    (ran-then (work-written budget (ownerAt s 0) owners w) _ refl
+    (work-written budget (copyAt s 0) (replicate 64 copy) (withWork w (sets (w .work) (ownerAt s 0) owners))))

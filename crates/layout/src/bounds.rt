@@ -1,7 +1,7 @@
 // The bounds of the sizes, and the lengths that they give the lent slices.
 use crate::anchor::RawSizes;
 use crate::disks::disk_at;
-use crate::places::total_in_bounds;
+use crate::memory::copy_place;
 use crate::places::words_in_slots;
 use model::Sizes;
 ghost use mathlib.Core.Path.{_≡_};
@@ -10,27 +10,33 @@ ghost use Prim.Native.Nat.{ℕ, _*_, _≤_, _<_};
 ghost use lib.Dec.{leb, eqb};
 ghost use lib.ListN.{getD};
 ghost use Rattle.model.specs.Below.{within, allBelow};
-ghost use Rattle.model.specs.Sizes.{total, logWords, entryInBounds, sizesInBounds};
-ghost use Rattle.model.specs.Memory.{workWords};
-ghost use Rattle.layout.specs.Raw.{sizesOf};
+ghost use Rattle.model.specs.Sizes.{entryInBounds, countsInBounds, sizesInBounds};
+ghost use Rattle.layout.specs.Raw.{sizesOf, countsOf, lengthsAre};
 
-// Whether the lent slices have the lengths that the sizes give; the anchor's is fixed.
-pub fn lengths_right(sizes: Sizes, pages: usize, backups: usize, logs: usize, work: usize) -> bool
-    requires { ⌜ sizesInBounds sizes ≡ true ⌝ }
-    ensures { λ r. ⌜ r ≡ (eqb pages (total sizes) && eqb backups (2 * total sizes) && eqb logs (logWords sizes) && eqb work (workWords sizes)) ⌝ }
+// Whether the lent slices have the lengths that D, W and T (`words`) give; the anchor's is fixed.
+pub fn lengths_right(
+    disks: u64,
+    ring: u64,
+    words: u64,
+    pages: usize,
+    backups: usize,
+    logs: usize,
+    work: usize,
+) -> bool
+    requires { ⌜ (disks ≤ 8) × (ring ≤ 65536) × (words ≤ 8192) ⌝ }
+    ensures { λ r. ⌜ r ≡ lengthsAre disks ring words pages backups logs work ⌝ }
 {
-    let words = total_in_bounds(sizes) as usize;
-    let disks = sizes.disks as usize;
-    if pages != words {
+    let all = words as usize;
+    if pages != all {
         return false;
     }
-    if backups != 2 * words {
+    if backups != 2 * all {
         return false;
     }
-    if logs != disk_at(sizes, sizes.disks) as usize {
+    if logs as u64 != disk_at(ring, disks) {
         return false;
     }
-    work == words + 64 * disks + 64
+    work == copy_place(disks, 64) + all
 }
 
 fn is_within(low: u64, high: u64, n: u64) -> bool
@@ -42,8 +48,8 @@ fn is_within(low: u64, high: u64, n: u64) -> bool
     n <= high
 }
 
-fn counts_in_bounds(pages: u64, disks: u64, ring: u64) -> bool
-    ensures { λ r. ⌜ r ≡ (within 1 64 pages && within 1 8 disks && within 128 65536 ring) ⌝ }
+pub fn counts_in_bounds(pages: u64, disks: u64, ring: u64) -> bool
+    ensures { λ r. ⌜ r ≡ countsInBounds (countsOf pages disks ring) ⌝ }
 {
     if !is_within(1, 64, pages) {
         return false;
@@ -55,7 +61,7 @@ fn counts_in_bounds(pages: u64, disks: u64, ring: u64) -> bool
 }
 
 // 0 for a used page's entry in bounds, else 1. A product of 1 to 128 has both its factors within that.
-fn used_fault(slots: u8, width: u8) -> u8
+pub fn used_fault(slots: u8, width: u8) -> u8
     ensures { λ r. ⌜ (r ≤ 1) × (r ≡ cond (within 1 128 slots && within 1 32 width && leb (slots * width) 128) 0 1) ⌝ }
 {
     let words = words_in_slots(slots, width);

@@ -2,6 +2,7 @@
 use model::Sizes;
 ghost use mathlib.Core.Path.{_≡_};
 ghost use Prim.Native.Nat.{_≤_, _<_, _^_};
+ghost use Rattle.model.specs.declared.Sizes.{Sizes};
 ghost use Rattle.model.specs.Sizes.{ringOf, diskAt};
 
 // The ring size of a disk: today that of every disk.
@@ -12,9 +13,9 @@ pub fn ring_of(sizes: Sizes, disk: u64) -> u64
 }
 
 // The index of a disk's tail word, which its ring follows.
-pub fn disk_at(sizes: Sizes, disk: u64) -> u64
-    requires { ⌜ (disk ≤ 8) × (sizes .ring ≤ 65536) ⌝ }
-    ensures { λ r. ⌜ (r ≡ diskAt sizes disk) × (r < 2 ^ 20) ⌝ }
+pub fn disk_at(ring: u64, disk: u64) -> u64
+    requires { ⌜ (disk ≤ 8) × (ring ≤ 65536) ⌝ }
+    ensures { λ r. ⌜ ((s : Sizes) → s .ring ≡ ring → r ≡ diskAt s disk) × (r < 2 ^ 20) ⌝ }
 {
-    disk * (sizes.ring + 1)
+    disk * (ring + 1)
 }

@@ -1,48 +1,51 @@
-// The work memory: where buffers and copy numbers lie in it, and the memory made fresh. Its last words are the copy numbers, and the
-// buffers lie before them: so both are found from its length, and the pages need not be summed up.
-use crate::places::total;
-use model::Sizes;
+// The work memory: where buffers, copy numbers and slot owners lie in it, and the memory made fresh.
 use words::fill_words;
 ghost use mathlib.Core.Path.{_≡_};
-ghost use mathlib.Core.Bool.{true};
-ghost use Prim.Native.Nat.{_≤_, _<_, _^_};
+ghost use Prim.Native.Nat.{_+_, _≤_, _<_};
 ghost use lib.ListN.{length};
-ghost use Rattle.model.specs.Sizes.{sizesInBounds};
-ghost use Rattle.model.specs.Memory.{bufferAt, copyAt, workWords, copyOf};
+ghost use Rattle.model.specs.declared.Sizes.{Sizes};
+ghost use Rattle.model.specs.Sizes.{total};
+ghost use Rattle.model.specs.Memory.{bufferAt, copyAt, ownerAt, copyOf};
 ghost use Rattle.model.specs.Format.{freshWork};
 
-// The first buffer word of a disk in a work memory of this length.
-pub fn buffer_place(sizes: Sizes, work: usize, disk: u64) -> u64
-    requires { ⌜ (disk < sizes .disks) × (sizes .disks ≤ 8) × (work ≡ workWords sizes) ⌝ }
-    ensures { λ r. ⌜ r ≡ bufferAt sizes disk ⌝ }
+// The first buffer word of a disk.
+pub fn buffer_place(disk: u64) -> u64
+    requires { ⌜ disk ≤ 8 ⌝ }
+    ensures { λ r. ⌜ (r ≡ bufferAt disk) × (r ≤ 512) ⌝ }
 {
-    work as u64 - 64 * (sizes.disks - disk + 1)
+    64 * disk
 }
 
-// The place of a page's copy number in a work memory of this length.
-pub fn copy_place(sizes: Sizes, work: usize, page: u64) -> usize
-    requires { ⌜ (page < 64) × (work ≡ workWords sizes) ⌝ }
-    ensures { λ r. ⌜ (r ≡ copyAt sizes page) × (r < work) ⌝ }
+// The place of a page's copy number, behind the buffers of so many disks.
+pub fn copy_place(disks: u64, page: u64) -> usize
+    requires { ⌜ (disks ≤ 8) × (page ≤ 64) ⌝ }
+    ensures { λ r. ⌜ ((s : Sizes) → s .disks ≡ disks → r ≡ copyAt s page) × (r ≤ 576) ⌝ }
 {
-    work - 64 + page as usize
+    buffer_place(disks) as usize + page as usize
+}
+
+// The place of the owner of a slot whose first page word has this index.
+pub fn owner_place(disks: u64, at: usize) -> usize
+    requires { ⌜ (disks ≤ 8) × (at ≤ 8192) ⌝ }
+    ensures { λ r. ⌜ ((s : Sizes) → s .disks ≡ disks → r ≡ ownerAt s at) ⌝ }
+{
+    copy_place(disks, 64) + at
 }
 
 // The copy number of a page.
-pub fn page_copy(sizes: Sizes, work: &[u64], page: u64) -> u64
-    requires { ⌜ (page < 64) × (length (now work) ≡ workWords sizes) ⌝ }
-    ensures { λ r. ⌜ r ≡ copyOf sizes (now (work .entry)) page ⌝ }
+pub fn page_copy(disks: u64, work: &[u64], page: u64) -> u64
+    requires { ⌜ (disks ≤ 8) × (page < 64) × (bufferAt disks + 64 ≤ length (now work)) ⌝ }
+    ensures { λ r. ⌜ ((s : Sizes) → s .disks ≡ disks → r ≡ copyOf s (now (work .entry)) page) ⌝ }
 {
-    let at = copy_place(sizes, work.len(), page);
+    let at = copy_place(disks, page);
     work[at]
 }
 
-// Work memory made fresh: no owners, every page with this copy number.
-pub fn fresh_work(work: &mut [u64], sizes: Sizes, copy: u64)
-    requires { ⌜ (sizesInBounds sizes ≡ true) × (length (now work) ≡ workWords sizes) ⌝ }
-    ensures { λ _. ⌜ now (work .exit) ≡ freshWork sizes copy (now (work .entry)) ⌝ }
+// Work memory made fresh: T owners, none of them a transaction, and every page with this copy number.
+pub fn fresh_work(work: &mut [u64], disks: u64, words: usize, copy: u64)
+    requires { ⌜ (disks ≤ 8) × (words ≤ 8192) × (bufferAt disks + 64 + words ≡ length (now work)) ⌝ }
+    ensures { λ _. ⌜ ((s : Sizes) → s .disks ≡ disks → total s ≡ words → now (work .exit) ≡ freshWork s copy (now (work .entry))) ⌝ }
 {
-    let words = total(sizes) as usize;
-    let copies = copy_place(sizes, work.len(), 0);
-    fill_words(work, 0, words, 0);
-    fill_words(work, copies, 64, copy);
+    fill_words(work, owner_place(disks, 0), words, 0);
+    fill_words(work, copy_place(disks, 0), 64, copy);
 }

@@ -1,9 +1,8 @@
 // Where pages and slots lie in the page memory.
 use model::Sizes;
 ghost use mathlib.Core.Path.{_≡_};
-ghost use mathlib.Core.Bool.{true};
 ghost use Prim.Native.Nat.{_*_, _≤_, _<_, _^_};
-ghost use Rattle.model.specs.Sizes.{pageWords, pageBase, slotBase, total, sizesInBounds};
+ghost use Rattle.model.specs.Sizes.{pageWords, pageBase, slotBase, total};
 
 pub fn word_of(byte: u8) -> u64
     ensures { λ r. ⌜ (r ≡ byte) × (r < 256) ⌝ }
@@ -54,22 +53,6 @@ pub fn total(sizes: Sizes) -> u64
     ensures { λ r. ⌜ (r ≡ total sizes) × (r < 2 ^ 32) ⌝ }
 {
     page_base(sizes, sizes.pages)
-}
-
-// The same of sizes in bounds. Pages that are not there have no words: so the loop is over all entries, and has a fixed length.
-pub fn total_in_bounds(sizes: Sizes) -> u16
-    requires { ⌜ sizesInBounds sizes ≡ true ⌝ }
-    ensures { λ r. ⌜ r ≡ total sizes ⌝ }
-{
-    let slots = sizes.slots;
-    let widths = sizes.widths;
-    let mut sum: u16 = 0;
-    let mut i: usize = 0;
-    while i < 64 {
-        sum += words_in_slots(slots[i], widths[i]);
-        i += 1;
-    }
-    sum
 }
 
 // The first word of a slot.

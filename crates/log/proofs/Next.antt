@@ -2,14 +2,13 @@
 use mathlib.Core.Path.{_≡_, refl}
 use mathlib.Core.List.{List, [], _∷_, _++_}
 use mathlib.Core.Bool.{true}
-use Prim.Native.Nat.{ℕ, _+_, _-_, _*_, _≤_, _<_, _^_}
+use Prim.Native.Nat.{ℕ, _+_, _*_, _≤_, _<_, _^_}
 use native.Mathlib.Omega.{arith}
 use lib.ListN.{length, replicate, length-replicate}
 use lib.Seq.{getD-set-same, getD-at}
 use Rattle.model.specs.declared.Sizes.{Sizes}
 use Rattle.model.specs.declared.Logs.{Logs}
-use Rattle.model.specs.Below.{sumBelow}
-use Rattle.model.specs.Sizes.{ringOf, diskAt, slotsIn, widthIn, pageWords, pageBase, total}
+use Rattle.model.specs.Sizes.{ringOf, diskAt}
 use Rattle.model.specs.World.{World}
 use Rattle.model.specs.Memory.{bufferAt}
 use Rattle.model.specs.State.{tailOf, fillOf}
@@ -55,9 +54,9 @@ appended-within within ends finished end logs work =
     }
 
 -- Any numbers and slices are those of some state and world, if the place is that of the disk behind rings of this size, and the buffer
--- leaves room before it for those of lower disks.
-abbrev pub some-sizes : ℕ → ℕ → Sizes
-some-sizes ring pageWord = record { pages = 1; disks = 0; ring = ring; slots = pageWord ∷ []; widths = 1 ∷ [] }
+-- that of the disk.
+abbrev pub some-sizes : ℕ → Sizes
+some-sizes ring = record { pages = 0; disks = 0; ring = ring; slots = []; widths = [] }
 
 abbrev pub some-logs : ℕ → ℕ → ℕ → Logs
 some-logs disk tail fill = record { starts = []; tails = replicate disk 0 ++ tail ∷ []; fills = replicate disk 0 ++ fill ∷ [] }
@@ -65,13 +64,13 @@ some-logs disk tail fill = record { starts = []; tails = replicate disk 0 ++ tai
 abbrev pub some-world : List ℕ → List ℕ → World
 some-world logs work = record { anchor = []; pages = []; backups = []; logs = logs; work = work }
 
-pub premises-met : (h : Home) (logs work : List ℕ) → h .disk * (h .ring + 1) ≡ h .place → 64 * h .disk ≤ h .buffer
-    → Lent (some-sizes (h .ring) (h .buffer - 64 * h .disk)) (some-logs (h .disk) (h .tail) (h .fill)) (some-world logs work) h logs work
-unfolding tailOf fillOf bufferAt ringOf diskAt total pageBase pageWords slotsIn widthIn sumBelow
-premises-met h logs work there room =
+pub premises-met : (h : Home) (logs work : List ℕ) → h .disk * (h .ring + 1) ≡ h .place → 64 * h .disk ≡ h .buffer
+    → Lent (some-sizes (h .ring)) (some-logs (h .disk) (h .tail) (h .fill)) (some-world logs work) h logs work
+unfolding tailOf fillOf bufferAt ringOf diskAt
+premises-met h logs work there here =
     record {
       lies = record { same-place = there; same-ring = refl };
-      same-buffer = omega arith;
+      same-buffer = here;
       same-tail = getD-at (replicate (h .disk) 0) (h .tail) [] 0 (h .disk) (length-replicate (h .disk) 0);
       same-fill = getD-at (replicate (h .disk) 0) (h .fill) [] 0 (h .disk) (length-replicate (h .disk) 0);
       same-logs = refl;

@@ -38,7 +38,7 @@ changeOf h difference = change (h .kind) (h .page) (h .slot) (h .number) (h .cop
 -- The numbers and the two slices are those of a disk, in a state and a world.
 pub record Lent (s : Sizes) (l : Logs) (w : World) (h : Home) (logs work : List ℕ) : Type 0 where
   pub lies : LiesAt s (h .disk) (h .place) (h .ring)
-  pub same-buffer : bufferAt s (h .disk) ≡ h .buffer
+  pub same-buffer : bufferAt (h .disk) ≡ h .buffer
   pub same-tail : tailOf l (h .disk) ≡ h .tail
   pub same-fill : fillOf l (h .disk) ≡ h .fill
   pub same-logs : w .logs ≡ logs

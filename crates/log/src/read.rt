@@ -24,7 +24,7 @@ pub fn extent_of(sizes: Sizes, disk: u64, tail: u64, end: u64) -> Extent
     ensures { λ r. ⌜ r ≡ extentOf sizes disk tail end ⌝ }
 {
     Extent {
-        place: disk_at(sizes, disk),
+        place: disk_at(sizes.ring, disk),
         ring: ring_of(sizes, disk),
         tail,
         end,

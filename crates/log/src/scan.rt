@@ -67,7 +67,7 @@ pub fn check_disks(sizes: Sizes, logs: &[u64], starts: [u64; 8]) -> Fault
     let mut d: u64 = 0;
     let mut fault = Fault::NoFault;
     'disks: while d < disks {
-        let place = disk_at(sizes, d);
+        let place = disk_at(sizes.ring, d);
         let ring = ring_words(logs, place, ring_of(sizes, d));
         let size = ring.len() as u64;
         let tail = logs[place as usize];

@@ -1,29 +1,20 @@
 -- The room rule of one disk's numbers, and the disk with the fewest buffered words.
-use mathlib.Core.Path.{_≡_, refl, sym, _∙_}
-use mathlib.Core.Bool.{Bool, true, false, _&&_}
+use mathlib.Core.Path.{_≡_, refl, sym, ap, _∙_}
+use mathlib.Core.Bool.{Bool, false, _&&_, and-true, and-false}
+use mathlib.Core.List.{List}
 use Prim.Native.Nat.{ℕ, _+_, _-_, _≤_, _<_, min}
 use native.Mathlib.Omega.{arith}
 use native.Mathlib.Numerals.{add-one}
 use native.Mathlib.Decide.{decLe}
-use lib.Dec.{leb}
+use lib.Dec.{leb, eqb}
 use lib.ListN.{getD}
-use borrow.Author.Tests.{le-leb, lt-leb}
+use borrow.Author.Tests.{le-leb, lt-leb, ne-eqb}
 use Rattle.model.specs.declared.Core.{Core}
 use Rattle.model.specs.declared.Logs.{Logs}
-use Rattle.model.specs.declared.Table.{Table}
 use Rattle.model.specs.Sizes.{ringOf}
 use Rattle.model.specs.State.{limit, startOf, keptOf, tailOf, fillOf, endOf, reservedOn}
-use Rattle.model.specs.Room.{hasRoom, loadOf, better, idlestBelow}
-use Rattle.table.specs.Parts.{cap, tableOf, coreOf, roomFor}
-use Rattle.table.proofs.Places.{reserved-parts}
-
-pub and-false : (b : Bool) → (b && false) ≡ false
-and-false true = refl
-and-false false = refl
-
-pub and-true : (b : Bool) → (b && true) ≡ b
-and-true true = refl
-and-true false = refl
+use Rattle.model.specs.Room.{hasRoom, loadOf, better, idlestBelow, idlest}
+use Rattle.table.specs.Parts.{cap, sumsOf, coreOf, roomFor}
 
 -- what ends above the limit has no room
 pub no-room : (start end reserved ring need : ℕ) → limit < end + reserved + need → false ≡ roomFor start end reserved ring need
@@ -38,29 +29,49 @@ unfolding roomFor
 room-by-ring start end reserved ring need h =
     rw (le-leb (end + reserved + need) limit h) (sym (and-true (leb (end - start + reserved + need) ring)))
 
--- a sum that is capped above the limit has room exactly where the sum has
-pub room-capped : (start end reserved ring need : ℕ)
-    → roomFor start end (min cap reserved) ring need ≡ roomFor start end reserved ring need
-room-capped start end reserved ring need =
-    elim (decLe reserved cap) [
-      | yes h ↦ (let e : min cap reserved ≡ reserved = omega arith in rw e)
-      | no h ↦ sym (no-room start end (min cap reserved) ring need (omega arith)) ∙ no-room start end reserved ring need (omega arith)
+-- the room that is left for nothing more
+pub room-none : (start end reserved ring : ℕ)
+    → (leb (end - start + reserved) ring && leb (end + reserved) limit) ≡ roomFor start end reserved ring 0
+unfolding roomFor
+room-none start end reserved ring =
+    let near : end - start + reserved + 0 ≡ end - start + reserved = omega arith in
+    let far : end + reserved + 0 ≡ end + reserved = omega arith in
+    rw (near, far)
+
+-- a sum that is capped above the limit is told from none that has room
+pub counted-capped : (a b : Bool) (start end kept sum ring : ℕ)
+    → (eqb kept (min cap sum) && a && b && roomFor start end kept ring 0) ≡ (eqb kept sum && a && b && roomFor start end kept ring 0)
+counted-capped a b start end kept sum ring =
+    elim (decLe kept limit) [
+      | yes h ↦ ap (λ (t : Bool). t && a && b && roomFor start end kept ring 0) (small h)
+      | no h ↦
+          rw (← no-room start end kept ring 0 (omega arith)) (and-false (eqb kept (min cap sum) && a && b) ∙ sym (and-false (eqb kept sum && a && b)))
     ]
+  where
+    small : kept ≤ limit → eqb kept (min cap sum) ≡ eqb kept sum
+    small h =
+        elim (decLe sum cap) [
+          | yes k ↦ (let e : min cap sum ≡ sum = omega arith in rw e)
+          | no k ↦ ne-eqb kept (min cap sum) (λ e. omega arith) ∙ sym (ne-eqb kept sum (λ e. omega arith))
+        ]
 
--- the room rule reads no more of a state than its ring, logs and table
-pub room-parts : (c : Core) (disks need d : ℕ) → hasRoom (coreOf disks (c .sizes .ring) (c .logs) (c .table)) need d ≡ hasRoom c need d
-unfolding hasRoom ringOf
-room-parts c disks need d = refl
+-- The room rule of a disk of a state is that of its numbers.
+pub room-here : (c : Core) (need d : ℕ)
+    → roomFor (startOf (c .logs) d) (endOf (c .logs) d) (reservedOn (c .table) d) (ringOf (c .sizes) d) need ≡ hasRoom c need d
+unfolding hasRoom roomFor keptOf
+room-here c need d = refl
 
--- what `has_room` computes
-pub room-computed : (disks ring : ℕ) (logs : Logs) (table : Table) (need d sum : ℕ) (r : Bool)
-    → sum ≡ min cap (reservedOn (tableOf (table .numbers) (table .disks) (table .reserved)) d)
-    → r ≡ roomFor (getD (logs .starts) d 0) (getD (logs .tails) d 0 + getD (logs .fills) d 0) sum ring need
-    → r ≡ hasRoom (coreOf disks ring logs table) need d
-unfolding hasRoom roomFor ringOf keptOf startOf tailOf fillOf endOf
-room-computed disks ring logs table need d sum r e h =
-    rw (h, e, reserved-parts table d)
-    (room-capped (getD (logs .starts) d 0) (getD (logs .tails) d 0 + getD (logs .fills) d 0) (reservedOn table d) ring need)
+-- what `idlest` computes of one disk
+pub room-computed : (disks ring : ℕ) (logs : Logs) (sums : List ℕ) (need d : ℕ) {r : Bool}
+    → r ≡ roomFor (getD (logs .starts) d 0) (getD (logs .tails) d 0 + getD (logs .fills) d 0) (getD sums d 0) ring need
+    → r ≡ hasRoom (coreOf disks ring logs (sumsOf sums)) need d
+unfolding hasRoom roomFor ringOf keptOf startOf tailOf fillOf endOf reservedOn
+room-computed disks ring logs sums need d h = h
+
+-- the choice reads no more of a state than its disks, ring, logs and the words reserved on each disk
+pub idlest-parts : (c : Core) (need : ℕ) → idlest (coreOf (c .sizes .disks) (c .sizes .ring) (c .logs) (sumsOf (c .table .sums))) need ≡ idlest c need
+unfolding idlest hasRoom ringOf reservedOn
+idlest-parts c need = refl
 
 -- one disk more
 pub idlest-step : (eligible : ℕ → Bool) (logs : Logs) (n best r : ℕ) (room : Bool) → best ≡ idlestBelow eligible (loadOf logs) n

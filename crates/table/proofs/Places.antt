@@ -2,15 +2,14 @@
 use mathlib.Core.Path.{_≡_, refl, sym}
 use mathlib.Core.Bool.{cond, not, _&&_}
 use mathlib.Core.List.{List}
-use Prim.Native.Nat.{ℕ, _+_, _≤_, _<_, min}
+use Prim.Native.Nat.{ℕ, _+_, _<_, min}
 use native.Mathlib.Omega.{arith}
 use lib.Dec.{eqb}
-use lib.ListN.{length, getD}
-use lib.Seq.{set-out}
+use lib.ListN.{getD}
 use borrow.Author.Tests.{eq-eqb, ne-eqb}
 use Rattle.model.specs.declared.Table.{Table}
 use Rattle.model.specs.Below.{sumBelow}
-use Rattle.model.specs.State.{numberAt, diskAtPlace, reservedAt, placeOf, withPlace, servedBy, reservedOn}
+use Rattle.model.specs.State.{numberAt, diskAtPlace, reservedAt, placeOf, servedBy, reservedFor}
 use Rattle.model.proofs.Below.{first-unique, first-none, sum-step}
 use Rattle.model.proofs.Reserved.{reservedBy}
 use Rattle.table.specs.Parts.{tableOf}
@@ -19,21 +18,15 @@ use Rattle.table.specs.Parts.{tableOf}
 abbrev pub Absent : List ℕ → ℕ → ℕ → Type 0
 Absent numbers n i = (k : ℕ) → k < i → getD numbers k 0 ≡ n → ⊥
 
-pub place-found : (t : Table) (n i : ℕ) → i < 16 → getD (t .numbers) i 0 ≡ n → Absent (t .numbers) n i → i ≡ placeOf t n
-unfolding placeOf numberAt
-place-found t n i h e before =
-    sym (first-unique (λ k. eqb (getD (t .numbers) k 0) n) 16 i h (eq-eqb _ _ e) (λ k l. ne-eqb _ _ (before k l)))
+module _ (t : Table) (n : ℕ) {numbers : List ℕ} (same : t .numbers ≡ numbers) where
+  pub place-found : (i : ℕ) → i < 16 → getD numbers i 0 ≡ n → Absent numbers n i → i ≡ placeOf t n
+  unfolding placeOf numberAt
+  place-found i h e before =
+      rw same (sym (first-unique (λ k. eqb (getD numbers k 0) n) 16 i h (eq-eqb _ _ e) (λ k l. ne-eqb _ _ (before k l))))
 
-pub place-none : (t : Table) (n : ℕ) → Absent (t .numbers) n 16 → 16 ≡ placeOf t n
-unfolding placeOf numberAt
-place-none t n none = sym (first-none (λ k. eqb (getD (t .numbers) k 0) n) 16 (λ k l. ne-eqb _ _ (none k l)))
-
--- a place past the end changes nothing
-pub put-past : (t : Table) (p : ℕ) → 16 ≤ p → length (t .numbers) ≡ 16 → length (t .disks) ≡ 16 → length (t .firsts) ≡ 16
-    → length (t .reserved) ≡ 16 → withPlace t p 0 0 0 0 ≡ t
-unfolding withPlace
-put-past t p h a b c d =
-    rw (set-out (t .numbers) p 0 (omega arith), set-out (t .disks) p 0 (omega arith), set-out (t .firsts) p 0 (omega arith), set-out (t .reserved) p 0 (omega arith))
+  pub place-none : Absent numbers n 16 → 16 ≡ placeOf t n
+  unfolding placeOf numberAt
+  place-none none = rw same (sym (first-none (λ k. eqb (getD numbers k 0) n) 16 (λ k l. ne-eqb _ _ (none k l))))
 
 -- The words reserved on a disk, place by place; the first positions do not count.
 module _ (ns ds rs : List ℕ) (disk : ℕ) where
@@ -47,10 +40,10 @@ module _ (ns ds rs : List ℕ) (disk : ℕ) where
       → r ≡ min m (sumBelow (reservedBy (tableOf ns ds rs) disk) (i + 1))
   reserved-more m i s w r p q h = omega (arith, sum-step (reservedBy (tableOf ns ds rs) disk) i, reserved-here i)
 
-  pub reserved-all : sumBelow (reservedBy (tableOf ns ds rs) disk) 16 ≡ reservedOn (tableOf ns ds rs) disk
-  unfolding reservedBy reservedOn
+  pub reserved-all : sumBelow (reservedBy (tableOf ns ds rs) disk) 16 ≡ reservedFor (tableOf ns ds rs) disk
+  unfolding reservedBy reservedFor
   reserved-all = refl
 
-pub reserved-parts : (t : Table) (disk : ℕ) → reservedOn (tableOf (t .numbers) (t .disks) (t .reserved)) disk ≡ reservedOn t disk
-unfolding reservedOn servedBy numberAt diskAtPlace reservedAt
+pub reserved-parts : (t : Table) (disk : ℕ) → reservedFor (tableOf (t .numbers) (t .disks) (t .reserved)) disk ≡ reservedFor t disk
+unfolding reservedFor servedBy numberAt diskAtPlace reservedAt
 reserved-parts t disk = refl

@@ -1,6 +1,6 @@
 -- The sums of reserved words, one for each disk: what one place adds to them.
 use mathlib.Core.Path.{_≡_, refl, sym, _∙_}
-use mathlib.Core.Bool.{Bool, true, false, cond, not, _&&_}
+use mathlib.Core.Bool.{Bool, true, false, cond, not, _&&_, and-false}
 use mathlib.Core.List.{List}
 use Prim.Native.Nat.{ℕ, _+_, _≤_, _<_, min}
 use native.Mathlib.Omega.{arith}
@@ -9,14 +9,13 @@ use lib.ListN.{length, getD, set}
 use lib.Seq.{getD-set-same, getD-set-other}
 use borrow.Author.Tests.{eq-eqb, ne-eqb, eqb-true, eqb-false}
 use Rattle.model.specs.declared.Table.{Table}
-use Rattle.model.specs.State.{reservedOn}
+use Rattle.model.specs.State.{reservedFor}
 use Rattle.table.specs.Parts.{cap, tableOf}
-use Rattle.table.proofs.HasRoom.{and-false}
 
 -- the sums of a table
 abbrev pub SumsOf : List ℕ → Table → Type 0
 SumsOf sums t =
-    (d : ℕ) → d < 8 → getD sums d 0 ≡ min cap (reservedOn (tableOf (t .numbers) (t .disks) (t .reserved)) d)
+    (d : ℕ) → d < 8 → getD sums d 0 ≡ min cap (reservedFor (tableOf (t .numbers) (t .disks) (t .reserved)) d)
 
 module _ (sums : List ℕ) (number disk words d : ℕ) where
   -- a free place adds nothing

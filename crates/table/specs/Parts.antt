@@ -13,9 +13,16 @@ use Rattle.model.specs.State.{limit, replayingCore, servingWith, startOf, tailO
 abbrev pub logsOf : List ℕ → List ℕ → List ℕ → Logs
 logsOf starts tails fills = record { starts = starts; tails = tails; fills = fills }
 
--- the first positions do not count for what is reserved
+-- what is kept of the reserved words does not count for the entries, nor the first positions for what they reserve
+abbrev pub entriesOf : List ℕ → List ℕ → List ℕ → List ℕ → Table
+entriesOf numbers disks firsts reserved = record { numbers = numbers; disks = disks; firsts = firsts; reserved = reserved; sums = [] }
+
 abbrev pub tableOf : List ℕ → List ℕ → List ℕ → Table
-tableOf numbers disks reserved = record { numbers = numbers; disks = disks; firsts = []; reserved = reserved }
+tableOf numbers disks reserved = entriesOf numbers disks [] reserved
+
+-- the room rule reads what is kept alone
+abbrev pub sumsOf : List ℕ → Table
+sumsOf sums = record { numbers = []; disks = []; firsts = []; reserved = []; sums = sums }
 
 -- the other parts do not count here
 abbrev pub coreOf : ℕ → ℕ → Logs → Table → Core
@@ -30,10 +37,11 @@ cap = 2 ^ 63
 unfoldable pub roomFor : ℕ → ℕ → ℕ → ℕ → ℕ → Bool
 roomFor start end reserved ring need = leb (end - start + reserved + need) ring && leb (end + reserved + need) limit
 
--- the bounds of one disk's log, where these words are reserved on each disk
-unfoldable pub logSound : ℕ → Logs → List ℕ → ℕ → Bool
-logSound ring logs sums d =
-    leb (fillOf logs d) 64 && leb (startOf logs d) (tailOf logs d) && roomFor (startOf logs d) (endOf logs d) (getD sums d 0) ring 0
+-- the bounds of one disk's log, where these words are kept as reserved on each disk, and the places reserve those
+unfoldable pub logSound : ℕ → Logs → (kept sums : List ℕ) → ℕ → Bool
+logSound ring logs kept sums d =
+    eqb (getD kept d 0) (getD sums d 0) && leb (fillOf logs d) 64 && leb (startOf logs d) (tailOf logs d)
+    && roomFor (startOf logs d) (endOf logs d) (getD kept d 0) ring 0
 
 -- the test of one entry of the table
 unfoldable pub entrySound : ℕ → Logs → ℕ → ℕ → ℕ → ℕ → Bool

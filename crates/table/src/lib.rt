@@ -1,4 +1,5 @@
 // The table of open transactions, log room, and the tests of a state handed in.
+mod counted;
 pub mod place;
 pub mod room;
 pub mod sound;

@@ -1,18 +1,18 @@
 // The tests that a state made by the calls passes, but for those of its sizes.
+use crate::counted::add_place;
 use crate::place::CLOSE_WORDS;
 use crate::room::LIMIT;
-use crate::room::add_place;
-use crate::room::room_for;
+use crate::room::has_room;
 use model::Core;
 use model::Logs;
 ghost use mathlib.Core.Path.{_≡_};
 ghost use mathlib.Core.Bool.{true, _&&_};
 ghost use Prim.Native.Nat.{ℕ, _+_, _≤_, _<_, min};
-ghost use lib.Dec.{leb, ltb};
+ghost use lib.Dec.{leb, ltb, eqb};
 ghost use lib.ListN.{getD, replicate};
 ghost use Rattle.model.specs.Below.{within, allBelow};
-ghost use Rattle.model.specs.State.{limit, places, reservedOn, diskSound, placeSound, checkpointSound};
-ghost use Rattle.table.specs.Parts.{cap, tableOf, logsOf, coreOf, roomFor, logSound, entrySound, endWithin, positionWithin};
+ghost use Rattle.model.specs.State.{limit, places, reservedFor, diskSound, placeSound, checkpointSound};
+ghost use Rattle.table.specs.Parts.{cap, entriesOf, tableOf, logsOf, coreOf, roomFor, logSound, entrySound, endWithin, positionWithin};
 
 // start ≤ position ≤ tail + fill, without the sum, which may not fit a word.
 fn covers(start: u64, tail: u64, fill: u64, position: u64) -> bool
@@ -27,34 +27,38 @@ fn covers(start: u64, tail: u64, fill: u64, position: u64) -> bool
     position - tail <= fill
 }
 
-// The bounds of one disk's log.
-fn disk_sound(start: u64, tail: u64, fill: u64, reserved: u64, ring: u64) -> bool
-    ensures { λ r. ⌜ r ≡ (leb fill 64 && leb start tail && roomFor start (tail + fill) reserved ring 0) ⌝ }
+// The bounds of one disk's log, and that the words reserved on it are kept right: they are these, at most the cap.
+fn disk_sound(start: u64, tail: u64, fill: u64, kept: u64, reserved: u64, ring: u64) -> bool
+    ensures { λ r. ⌜ r ≡ (eqb kept reserved && leb fill 64 && leb start tail && roomFor start (tail + fill) kept ring 0) ⌝ }
 {
+    if kept != reserved {
+        return false;
+    }
     if 64 < fill {
         return false;
     }
     if tail < start {
         return false;
     }
-    room_for(start, tail, fill, reserved, ring, 0)
+    has_room(start, tail, fill, kept, ring, 0)
 }
 
-// The bounds of every disk's log, `sums` being the words reserved on each.
+// The same of every disk, `sums` being the words that the places reserve on each.
 fn disks_sound<'a>(
     disks: usize,
     ring: u64,
     starts: &'a [u64; 8],
     tails: &'a [u64; 8],
     fills: &'a [u64; 8],
+    kept: &'a [u64; 8],
     sums: &'a [u64; 8],
 ) -> bool
     requires { ⌜ disks ≤ 8 ⌝ }
-    ensures { λ r. ⌜ r ≡ allBelow (logSound ring (logsOf (now (starts .entry)) (now (tails .entry)) (now (fills .entry))) (now (sums .entry))) disks ⌝ }
+    ensures { λ r. ⌜ r ≡ allBelow (logSound ring (logsOf (now (starts .entry)) (now (tails .entry)) (now (fills .entry))) (now (kept .entry)) (now (sums .entry))) disks ⌝ }
 {
     let mut d: usize = 0;
     while d < disks {
-        if !disk_sound(starts[d], tails[d], fills[d], sums[d], ring) {
+        if !disk_sound(starts[d], tails[d], fills[d], kept[d], sums[d], ring) {
             return false;
         }
         d += 1;
@@ -105,8 +109,8 @@ fn places_sound<'a>(
     reserved: &'a [u64; 16],
 ) -> bool
     requires { ⌜ (disks ≤ 8) × (now sums ≡ replicate 8 0) ⌝ }
-    ensures { λ r. ⌜ (r ≡ true → (d : ℕ) → d < 8 → getD (now (sums .exit)) d 0 ≡ min cap (reservedOn (tableOf (now (numbers .entry)) (now (homes .entry)) (now (reserved .entry))) d)) ⌝ }
-    ensures { λ r. ⌜ r ≡ allBelow (placeSound (coreOf disks 0 (logsOf (now (starts .entry)) (now (tails .entry)) (now (fills .entry))) (record { numbers = now (numbers .entry); disks = now (homes .entry); firsts = now (firsts .entry); reserved = now (reserved .entry) }))) places ⌝ }
+    ensures { λ r. ⌜ (r ≡ true → (d : ℕ) → d < 8 → getD (now (sums .exit)) d 0 ≡ min cap (reservedFor (tableOf (now (numbers .entry)) (now (homes .entry)) (now (reserved .entry))) d)) ⌝ }
+    ensures { λ r. ⌜ r ≡ allBelow (placeSound (coreOf disks 0 (logsOf (now (starts .entry)) (now (tails .entry)) (now (fills .entry))) (entriesOf (now (numbers .entry)) (now (homes .entry)) (now (firsts .entry)) (now (reserved .entry))))) places ⌝ }
 {
     let mut i: usize = 0;
     while i < 16 {
@@ -128,30 +132,35 @@ fn places_sound<'a>(
     true
 }
 
-// An open or copying state, but for its sizes. Its logs and table are copied once, here, and lent on.
+// The disks and the table of an open or copying state.
 pub fn serving_bounds(core: Core) -> bool
     requires { ⌜ core .sizes .disks ≤ 8 ⌝ }
     ensures { λ r. ⌜ r ≡ (allBelow (diskSound core) (core .sizes .disks) && allBelow (placeSound core) places) ⌝ }
 {
     let disks = core.sizes.disks as usize;
-    let ring = core.sizes.ring;
-    let logs = core.logs;
-    let table = core.table;
     let mut sums = [0u64; 8];
     if !places_sound(
         &mut sums,
         disks,
-        &logs.starts,
-        &logs.tails,
-        &logs.fills,
-        &table.numbers,
-        &table.disks,
-        &table.firsts,
-        &table.reserved,
+        &core.logs.starts,
+        &core.logs.tails,
+        &core.logs.fills,
+        &core.table.numbers,
+        &core.table.disks,
+        &core.table.firsts,
+        &core.table.reserved,
     ) {
         return false;
     }
-    disks_sound(disks, ring, &logs.starts, &logs.tails, &logs.fills, &sums)
+    disks_sound(
+        disks,
+        core.sizes.ring,
+        &core.logs.starts,
+        &core.logs.tails,
+        &core.logs.fills,
+        &core.table.sums,
+        &sums,
+    )
 }
 
 // Each remembered end lies in its log.

@@ -1,7 +1,7 @@
 use mathlib.Core.Path.{sym, _∙_}
-use native.Mathlib.Omega.{arith}
 use borrow.Author.Needs.{needs}
 use borrow.Author.Tests.{not-true, not-false}
+use Rattle.model.specs.Sizes.{countsInBounds}
 use Rattle.model.proofs.Booleans.{both, in-range}
 use Rattle.layout.proofs.Laws.{counts-out, all-entries}
 use Rattle.layout.proofs.bounds.sizes_in_bounds.Statement.{statement}
@@ -11,12 +11,14 @@ returns : tie.Need-returns
 returns c = counts-out _ (sym (c .before .counts-in-bounds .ensures) ∙ not-true _ (c .if1 .taken))
 
 used-faults-requires : tie.Need-used-faults-requires
+unfolding countsInBounds
 used-faults-requires c κs =
     let tested = c .before .before .before .before in
     let counts = sym (tested .before .counts-in-bounds .ensures) ∙ not-false _ (tested .if1 .left) in
     in-range 1 64 _ (both _ _ (both _ _ counts .0) .0) .1
 
 all-faults-requires : tie.Need-all-faults-requires
+unfolding countsInBounds
 all-faults-requires c κs =
     let tested = c .before .before .before .before .before .before .before in
     let counts = sym (tested .before .counts-in-bounds .ensures) ∙ not-false _ (tested .if1 .left) in

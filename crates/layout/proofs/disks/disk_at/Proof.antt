@@ -1,4 +1,4 @@
--- `layout::disks::disk_at` meets its contract: eight rings of the largest size lie within the bound.
+-- `layout::disks::disk_at` meets its contract: eight rings of the largest size lie within the bound. Assumes nothing.
 use mathlib.Core.Path.{refl}
 use Prim.Native.Nat.{_+_}
 use native.Mathlib.Omega.{arith}
@@ -9,11 +9,11 @@ use Rattle.layout.proofs.disks.disk_at.Statement.{statement}
 use Rattle.layout.proofs.disks.disk_at.Tie as tie
 
 mul-result : tie.Need-mul-result
-mul-result c = let a = c .before .args in omega (arith, mul-le-mul-right (a .sizes .ring + 1) (c .before .pre .0))
+mul-result c = omega (arith, mul-le-mul-right (c .args .ring + 1) (c .pre .0))
 
 returns : tie.Need-returns
 unfolding diskAt
-returns c = let a = c .before .args in (refl, omega (arith, mul-le-mul-right (a .sizes .ring + 1) (c .before .pre .0)))
+returns c = (λ s same. rw same refl, omega (arith, mul-le-mul-right (c .args .ring + 1) (c .pre .0)))
 
 pub disk-at-spec : {M : Type 1} → statement M
 disk-at-spec = tie.close (tie.spec (λ c. search needs) mul-result returns)

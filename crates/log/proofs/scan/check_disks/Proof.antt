@@ -52,7 +52,7 @@ disk-at-requires c κs =
 ring-words-requires : tie.Need-ring-words-requires Inv-loop μ-loop Inv-disks μ-disks
 ring-words-requires c κs =
     let a = c .before .before .before .before .before .before .before .args in
-    omega (arith, disk-fits (a .sizes) _ (c .before .before .before .before .before .before .before .pre) (c .before .before .before .disks .d) (c .before .before .disks-test .taken), c .before .disk-at .ensures .0, c .ring-of .ensures)
+    omega (arith, disk-fits (a .sizes) _ (c .before .before .before .before .before .before .before .pre) (c .before .before .before .disks .d) (c .before .before .disks-test .taken), c .before .disk-at .ensures .0 (a .sizes) refl, c .ring-of .ensures)
 
 mul-tail : tie.Need-mul-tail Inv-loop μ-loop Inv-disks μ-disks
 mul-tail c = omega (arith, c .before .before .disk-at .ensures .1)
@@ -60,7 +60,7 @@ mul-tail c = omega (arith, c .before .before .disk-at .ensures .1)
 shared-slice-read-tail : tie.Need-shared-slice-read-tail Inv-loop μ-loop Inv-disks μ-disks
 shared-slice-read-tail c =
     let a = c .before .before .before .before .before .before .before .before .before .args in
-    omega (arith, disk-fits (a .sizes) _ (c .before .before .before .before .before .before .before .before .before .pre) (c .before .before .before .before .before .disks .d) (c .before .before .before .before .disks-test .taken), c .before .before .before .disk-at .ensures .0)
+    omega (arith, disk-fits (a .sizes) _ (c .before .before .before .before .before .before .before .before .before .pre) (c .before .before .before .before .before .disks .d) (c .before .before .before .before .disks-test .taken), c .before .before .before .disk-at .ensures .0 (a .sizes) refl)
 
 mul-p : tie.Need-mul-p Inv-loop μ-loop Inv-disks μ-disks
 mul-p c = omega (arith, bounded _ (c .before .before .before .before .before .before .before .before .before .pre .bounds) .disks-max, c .before .before .before .before .disks-test .taken)
@@ -72,7 +72,7 @@ loop-holds : tie.Need-loop-holds Inv-loop μ-loop Inv-disks μ-disks
 loop-holds c =
     let a = c .before .before .before .before .before .before .before .before .before .args in
     let inv = c .before .before .before .before .before .disks .inv in
-    let at = c .before .before .before .disk-at .ensures .0 in (
+    let at = c .before .before .before .disk-at .ensures .0 (a .sizes) refl in (
       inv .1,
       rw (ring-is (a .sizes) (now (a .logs)) (c .before .before .before .before .before .disks .d) at (c .before .before .ring-of .ensures) (c .before .ring-words .ensures))
           (disk-begins (a .sizes) (now (a .logs)) (c .before .before .before .before .before .before .before .before .before .pre) (c .before .before .before .before .before .disks .d) (c .before .before .before .before .disks-test .taken) (λ e. getD (a .t3) e 0) (ap (λ (i : ℕ). getD (now (a .logs)) i 0) at)
@@ -83,7 +83,7 @@ rem-at : tie.Need-rem-at Inv-loop μ-loop Inv-disks μ-disks
 rem-at c =
     let a = c .before .before .before .before .before .before .before .before .before .before .before .args in
     let ring = disk-ring (a .sizes) _ (c .before .before .before .before .before .before .before .before .before .before .before .pre) (c .before .before .before .before .before .before .before .disks .d) (c .before .before .before .before .before .before .disks-test .taken) in
-    omega (arith, ap length (ring-is (a .sizes) _ (c .before .before .before .before .before .before .before .disks .d) (c .before .before .before .before .before .disk-at .ensures .0) (c .before .before .before .before .ring-of .ensures) (c .before .before .before .ring-words .ensures)), ring .ring-min)
+    omega (arith, ap length (ring-is (a .sizes) _ (c .before .before .before .before .before .before .before .disks .d) (c .before .before .before .before .before .disk-at .ensures .0 (a .sizes) refl) (c .before .before .before .before .ring-of .ensures) (c .before .before .before .ring-words .ensures)), ring .ring-min)
 
 slice-aggregate-decode-ring : tie.Need-slice-aggregate-decode-ring Inv-loop μ-loop Inv-disks μ-disks
 slice-aggregate-decode-ring c = search needs
@@ -95,7 +95,7 @@ decode-ring-requires : tie.Need-decode-ring-requires Inv-loop μ-loop Inv-disks 
 decode-ring-requires c κs =
     let a = c .before .before .before .before .before .before .before .before .before .before .before .before .before .args in
     let b = bounded (a .sizes) (c .before .before .before .before .before .before .before .before .before .before .before .before .before .pre .bounds) in
-    let at = c .before .before .before .before .before .before .before .disk-at .ensures .0 in
+    let at = c .before .before .before .before .before .before .before .disk-at .ensures .0 (a .sizes) refl in
     let ring : Ring (now (c .before .before .before .before .before .ring-words .result)) (getD (now (a .logs)) (c .before .before .before .before .before .before .before .disk-at .result) 0) =
     rw (ring-is (a .sizes) (now (a .logs)) (c .before .before .before .before .before .before .before .before .before .disks .d) at (c .before .before .before .before .before .before .ring-of .ensures) (c .before .before .before .before .before .ring-words .ensures), at)
     (disk-ring (a .sizes) (now (a .logs)) (c .before .before .before .before .before .before .before .before .before .before .before .before .before .pre) (c .before .before .before .before .before .before .before .before .before .disks .d) (c .before .before .before .before .before .before .before .before .disks-test .taken)) in

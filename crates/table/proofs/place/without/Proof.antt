@@ -1,20 +1,49 @@
--- `table::place::without` meets its contract: past the end of the table nothing is set. Assumes nothing.
-use mathlib.Core.Path.{sym}
+-- `table::place::without` meets its contract: by definition. Assumes nothing.
+use mathlib.Core.Path.{refl}
 use borrow.Author.Needs.{needs}
-use Rattle.model.specs.State.{without}
-use Rattle.table.proofs.Places.{put-past}
+use Rattle.model.specs.State.{diskAtPlace, reservedAt, reservedOn, withPlace, withReserved, without}
 use Rattle.table.proofs.place.without.Statement.{statement}
 use Rattle.table.proofs.place.without.Tie as tie
 
-returns : tie.Need-returns
-unfolding without
-returns c = rw (c .put-place .ensures, c .before .before .place-of .ensures)
+mul-saturating-sub : tie.Need-mul-saturating-sub
+unfolding diskAtPlace
+mul-saturating-sub c = search needs
 
-returns-2 : tie.Need-returns-2
-unfolding without
-returns-2 c = let t = c .before .before .args .table in
-    let e = c .before .place-of .ensures in
-    sym (put-past t _ (rw e at (c .if1 .left)) (search needs) (search needs) (search needs) (search needs))
+element-copy-out-saturating-sub : tie.Need-element-copy-out-saturating-sub
+unfolding diskAtPlace
+element-copy-out-saturating-sub c = search needs
+
+mul-t : tie.Need-mul-t
+unfolding diskAtPlace
+mul-t c = search needs
+
+element-write-t : tie.Need-element-write-t
+unfolding diskAtPlace
+element-write-t c = search needs
+
+returns : tie.Need-returns
+unfolding without withPlace withReserved diskAtPlace reservedAt reservedOn
+returns c = λ number at. rw (← at, c .saturating-sub .ensures) refl
 
 pub without-spec : {M : Type 1} → statement M
-without-spec = tie.close (tie.spec (λ c κs. search needs) (λ c κs. search needs) returns returns-2)
+without-spec =
+    tie.close
+    (tie.spec
+    (λ c. search needs)
+    (λ c. search needs)
+    mul-saturating-sub
+    element-copy-out-saturating-sub
+    (λ c. search needs)
+    (λ c. search needs)
+    (λ c κs. search needs)
+    mul-t
+    element-write-t
+    (λ c. search needs)
+    (λ c. search needs)
+    (λ c. search needs)
+    (λ c. search needs)
+    (λ c. search needs)
+    (λ c. search needs)
+    (λ c. search needs)
+    (λ c. search needs)
+    returns)

@@ -1,24 +1,41 @@
--- `table::room::has_room` meets its contract: the room rule does not tell the capped sum from the sum. Assumes nothing.
+-- `table::room::has_room` meets its contract: what is above the limit has no room, and the other sums fit a word. Assumes nothing.
+use native.Mathlib.Omega.{arith}
 use borrow.Author.Needs.{needs}
-use Rattle.table.proofs.HasRoom.{room-computed}
+use Rattle.table.proofs.HasRoom.{no-room, room-by-ring}
 use Rattle.table.proofs.room.has_room.Statement.{statement}
 use Rattle.table.proofs.room.has_room.Tie as tie
 
 returns : tie.Need-returns
-returns c = room-computed _ _ _ _ _ _ _ _ (c .before .before .before .before .reserved-each .ensures _ (search needs)) (c .room-for .ensures)
+returns c = no-room _ _ _ _ _ (omega arith)
+
+returns-2 : tie.Need-returns-2
+returns-2 c = no-room _ _ _ _ _ (omega arith)
+
+returns-3 : tie.Need-returns-3
+returns-3 c = no-room _ _ _ _ _ (omega arith)
+
+returns-4 : tie.Need-returns-4
+returns-4 c = no-room _ _ _ _ _ (omega arith)
+
+returns-5 : tie.Need-returns-5
+returns-5 c = no-room _ _ _ _ _ (omega arith)
+
+returns-6 : tie.Need-returns-6
+returns-6 c = rw (c .saturating-sub .ensures) (room-by-ring _ _ _ _ _ (omega arith))
 
 pub has-room-spec : {M : Type 1} → statement M
 has-room-spec =
     tie.close
     (tie.spec
+    returns
+    returns-2
+    returns-3
+    (λ c. search needs)
+    returns-4
+    (λ c. search needs)
+    (λ c. search needs)
+    returns-5
     (λ c κs. search needs)
     (λ c. search needs)
     (λ c. search needs)
-    (λ c. search needs)
-    (λ c. search needs)
-    (λ c. search needs)
-    (λ c. search needs)
-    (λ c. search needs)
-    (λ c. search needs)
-    (λ c κs. search needs)
-    returns)
+    returns-6)

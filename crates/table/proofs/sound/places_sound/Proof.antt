@@ -10,7 +10,7 @@ use Rattle.model.specs.Below.{sumBelow, allBelow}
 use Rattle.model.specs.State.{placeSound}
 use Rattle.model.proofs.Below.{all-more, all-stop, all-done}
 use Rattle.model.proofs.Reserved.{reservedBy}
-use Rattle.table.specs.Parts.{cap, logsOf, tableOf, coreOf}
+use Rattle.table.specs.Parts.{cap, logsOf, entriesOf, tableOf, coreOf}
 use Rattle.table.proofs.Places.{reserved-more, reserved-all}
 use Rattle.table.proofs.Tests.{place-computed}
 use Rattle.table.proofs.sound.places_sound.Statement.{statement}
@@ -18,7 +18,7 @@ use Rattle.table.proofs.sound.places_sound.Tie as tie
 
 abbrev Inv-loop : tie.InvT-loop
 Inv-loop sums₀ disks starts tails fills numbers homes firsts reserved i₀ sums i =
-    (i ≤ 16) × (allBelow (placeSound (coreOf disks 0 (logsOf starts tails fills) (record { numbers = numbers; disks = homes; firsts = firsts; reserved = reserved }))) i ≡ true)
+    (i ≤ 16) × (allBelow (placeSound (coreOf disks 0 (logsOf starts tails fills) (entriesOf numbers homes firsts reserved))) i ≡ true)
     × (length sums ≡ 8) × ((d : ℕ) → d < 8 → getD sums d 0 ≡ min cap (sumBelow (reservedBy (tableOf numbers homes reserved) d) i))
 
 abbrev μ-loop : tie.MeasureT-loop

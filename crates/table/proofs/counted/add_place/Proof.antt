@@ -1,9 +1,9 @@
--- `table::room::add_place` meets its contract: each sum is as it was, or has the place's words more. Assumes nothing.
+-- `table::counted::add_place` meets its contract: each sum is as it was, or has the place's words more. Assumes nothing.
 use borrow.Author.Needs.{needs}
 use native.Mathlib.Omega.{arith}
 use Rattle.table.proofs.Sums.{free-adds, away-adds, place-adds}
-use Rattle.table.proofs.room.add_place.Statement.{statement}
-use Rattle.table.proofs.room.add_place.Tie as tie
+use Rattle.table.proofs.counted.add_place.Statement.{statement}
+use Rattle.table.proofs.counted.add_place.Tie as tie
 
 returns : tie.Need-returns
 returns c d h =
