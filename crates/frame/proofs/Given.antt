@@ -11,9 +11,11 @@ use Rattle.model.specs.World.{World}
 use Rattle.model.specs.State.{sound}
 use Rattle.model.specs.Refusal.{Row, verdict, accepted, rejected}
 use Rattle.model.specs.Causes.{stageForbids, anchorWrong, lengthsWrong}
+use Rattle.model.specs.Reads.{fitsOn}
 use Rattle.model.specs.Call.{Call, rowsOf, taskOf, budgetOf, Gives}
 use Rattle.model.proofs.Booleans.{both}
 use Rattle.model.proofs.Verdict.{row-passed}
+use Rattle.model.proofs.Tested.{tested}
 use Rattle.device.specs.Ran.{Ran}
 use Rattle.frame.specs.Checks.{commonRows, CommonRefusal}
 use Rattle.frame.specs.Settle.{refusedWith, finishedWith, settled, Concludes}
@@ -24,12 +26,12 @@ unfolding verdict
 none-left = refl
 
 module _ {allowed : Stage → Bool} {c : Core} {w : World} {r : ℕ} (checks : CommonRefusal allowed c w r) where
-  pub common-refused : (r ≡ 0 → ⊥) → (rest : List Row) → verdict (commonRows allowed c w rest) ≡ rejected r 0 0
+  pub common-refused : (r ≡ 0 → ⊥) → (rest : List Row) → verdict (commonRows allowed (sound c) c w rest) ≡ rejected r 0 0
   common-refused some rest = checks .decides rest ∙ rw (ne-eqb r 0 some) refl
 
   module _ (none : r ≡ 0) where
     -- the rest decides
-    pub common-decided : (rest : List Row) → verdict (commonRows allowed c w rest) ≡ verdict rest
+    pub common-decided : (rest : List Row) → verdict (commonRows allowed (sound c) c w rest) ≡ verdict rest
     common-decided rest = checks .decides rest ∙ rw (eq-eqb r 0 none) refl
 
     pub common-passed : Passed allowed c w
@@ -38,11 +40,12 @@ module _ {allowed : Stage → Bool} {c : Core} {w : World} {r : ℕ} (checks : C
         let r1 = row-passed _ _ (common-decided [] ∙ none-left) in
         let r2 = row-passed _ _ (r1 .1) in
         let r5 = row-passed _ _ (r2 .1) in
-        let fits = both (allowed (c .stage)) (sound c) (not-false _ (r1 .0)) in
-        record { stage = fits .0; state = fits .1; anchor = eqb-true _ _ (not-false _ (r2 .0)); lengths = not-false _ (r5 .0) }
+        let first = both (allowed (c .stage)) (fitsOn (sound c) c w) (not-false _ (r1 .0)) in
+        let right = not-false _ (r5 .0) in
+        record { stage = first .0; state = tested (sound c) c w (first .1) right; anchor = eqb-true _ _ (not-false _ (r2 .0)); lengths = right }
 
   -- A call whose rows begin with these.
-  module _ (k : Call) {rest : List Row} (rows : rowsOf k c w ≡ commonRows allowed c w rest) where
+  module _ (k : Call) {rest : List Row} (rows : rowsOf k c w ≡ commonRows allowed (sound c) c w rest) where
     pub given-first : (r ≡ 0 → ⊥) → {reply : Reply} → reply ≡ refusedWith c r 0 0 → Gives k c w reply (budgetOf k) w
     given-first some e = rw e (refusal-given k c w r 0 0 (rw rows (common-refused some rest)))
 

@@ -1,69 +1,86 @@
 -- From the first checks and the end of a call to what `Gives` says of it.
-use mathlib.Core.Path.{_≡_, refl, _∙_}
+use mathlib.Core.Path.{_≡_, refl}
 use mathlib.Core.List.{List, [], _∷_}
-use mathlib.Core.Bool.{Bool, true, false, cond, not, _&&_}
-use Prim.Native.Nat.{ℕ, _-_, _*_, _≤_}
+use mathlib.Core.Bool.{Bool, true, false, cond, not, _&&_, _||_}
+use Prim.Native.Nat.{ℕ, _-_}
 use native.Mathlib.Omega.{arith}
 use lib.Dec.{eqb}
 use lib.ListN.{length}
-use borrow.Author.Tests.{not-false}
 use Rattle.model.specs.declared.Stage.{Stage}
-use Rattle.model.specs.declared.Sizes.{Sizes}
 use Rattle.model.specs.declared.Core.{Core}
 use Rattle.model.specs.declared.Answer.the-variants.{Finished}
 use Rattle.model.specs.declared.Reply.{Reply}
-use Rattle.model.specs.Sizes.{total, logWords}
 use Rattle.model.specs.Anchor.{anchorWords}
 use Rattle.model.specs.World.{World, made, finishes}
-use Rattle.model.specs.Memory.{lengthsRight, workWords}
+use Rattle.model.specs.Memory.{lengthsRight}
 use Rattle.model.specs.State.{newCore, sound}
 use Rattle.model.specs.Refusal.{Row, row, Task, accepted, rejected, verdict, conclude}
 use Rattle.model.specs.Causes.{stageForbids, anchorWrong, lengthsWrong}
+use Rattle.model.specs.Reads.{countsFit, fitsOn}
 use Rattle.model.specs.Call.{Call, rowsOf, taskOf, budgetOf, resultOf, Gives}
-use Rattle.model.proofs.Booleans.{both}
 use Rattle.model.proofs.Run.{made-le}
 use Rattle.device.specs.Ran.{Ran}
-use Rattle.frame.specs.Checks.{lengthRefusal, firstRefusal}
+use Rattle.layout.specs.Raw.{lengthsAre}
+use Rattle.layout.proofs.Laws.{lengths-are}
+use Rattle.frame.specs.Fits.{countsWithin}
+use Rattle.frame.specs.Checks.{anchorRefusal, CommonRefusal}
 use Rattle.frame.specs.Settle.{refusedWith, settled, Concludes}
+use Rattle.frame.proofs.Fitting.{counts-here}
 
--- What the first checks leave when none applies.
+-- What the first checks of a call that tests the whole state leave when none applies.
 pub record Passed (allowed : Stage → Bool) (c : Core) (w : World) : Type 0 where
   pub stage : allowed (c .stage) ≡ true
   pub state : sound c ≡ true
   pub anchor : length (w .anchor) ≡ anchorWords
-  pub lengths : lengthsRight (c .sizes) w ≡ true
+  pub lengths : lengthsRight (c .sizes) (c .bases .total) w ≡ true
 
--- row 1 by its tests: the code makes both, so a call that passes them has learnt both
-pub first-row : (allowed : Stage → Bool) (c : Core) → stageForbids allowed c ≡ false → (allowed (c .stage) ≡ true) × (sound c ≡ true)
-unfolding stageForbids
-first-row allowed c e = both (allowed (c .stage)) (sound c) (not-false _ e)
+-- rows 1, 2 and 5 by their tests, in the order in which these are made
+abbrev numberBy : (stage counts right state anchor : Bool) → ℕ
+numberBy stage counts right state anchor = cond stage (cond counts (cond right (cond state (cond anchor 0 2) 1) (cond anchor 5 2)) 1) 1
 
--- rows 1, 2 and 5 by their tests
-first-tests : (a b d : Bool) (rest : List Row)
-    → verdict (row 1 (not a) ∷ row 2 (not b) ∷ row 5 (not d) ∷ rest)
-    ≡ cond (eqb (cond a (cond b (cond d 0 5) 2) 1) 0) (verdict rest) (rejected (cond a (cond b (cond d 0 5) 2) 1) 0 0)
+by-tests : (stage counts right state anchor : Bool) (rest : List Row)
+    → verdict (row 1 (not (stage && (counts && (not right || state)))) ∷ row 2 (not anchor) ∷ row 5 (not right) ∷ rest)
+    ≡ cond (eqb (numberBy stage counts right state anchor) 0) (verdict rest) (rejected (numberBy stage counts right state anchor) 0 0)
 unfolding verdict
-first-tests false b d rest = refl
-first-tests true false d rest = refl
-first-tests true true false rest = refl
-first-tests true true true rest = refl
+by-tests false counts right state anchor rest = refl
+by-tests true false right state anchor rest = refl
+by-tests true true false state true rest = refl
+by-tests true true false state false rest = refl
+by-tests true true true false anchor rest = refl
+by-tests true true true true true rest = refl
+by-tests true true true true false rest = refl
 
--- the four lengths beside the anchor's
-abbrev fourRight : Sizes → World → Bool
-fourRight s w =
-    eqb (length (w .pages)) (total s) && eqb (length (w .backups)) (2 * total s) && eqb (length (w .logs)) (logWords s)
-    && eqb (length (w .work)) (workWords s)
+-- The first lines of a call, by what each test came to.
+module _ (allowed : Stage → Bool) (c : Core) (w : World) where
+  decided : {r : ℕ} → r ≡ numberBy (allowed (c .stage)) (countsFit c) (lengthsRight (c .sizes) (c .bases .total) w) (sound c) (eqb (length (w .anchor)) anchorWords)
+      → CommonRefusal allowed c w r
+  unfolding stageForbids fitsOn anchorWrong lengthsWrong
+  decided e =
+      record {
+        decides = λ rest.
+            rw e (by-tests (allowed (c .stage)) (countsFit c) (lengthsRight (c .sizes) (c .bases .total) w) (sound c) (eqb (length (w .anchor)) anchorWords) rest);
+      }
 
-module _ (allowed : Stage → Bool) (c : Core) (w : World) {a : Bool} {r : ℕ} (stage : a ≡ allowed (c .stage))
-    (first : r ≡ firstRefusal a c (length (w .anchor)) (length (w .pages)) (length (w .backups)) (length (w .logs)) (length (w .work)))
-  where
-    pub first-verdict : (rest : List Row)
-        → verdict (row 1 (stageForbids allowed c) ∷ row 2 (anchorWrong (w .anchor)) ∷ row 5 (lengthsWrong (c .sizes) w) ∷ rest)
-        ≡ cond (eqb r 0) (verdict rest) (rejected r 0 0)
-    unfolding stageForbids anchorWrong lengthsWrong lengthsRight firstRefusal lengthRefusal
-    first-verdict rest =
-        rw (first, stage)
-        (first-tests (allowed (c .stage) && sound c) (eqb (length (w .anchor)) anchorWords) (fourRight (c .sizes) w) rest)
+  pub stage-refused : allowed (c .stage) ≡ false → CommonRefusal allowed c w 1
+  stage-refused stage = decided (rw stage refl)
+
+  module _ (stage : allowed (c .stage) ≡ true) where
+    pub counts-refused : countsWithin (c .sizes .pages) (c .sizes .disks) (c .sizes .ring) (c .bases .total) ≡ false → CommonRefusal allowed c w 1
+    counts-refused counts = decided (rw (stage, ← counts-here c, counts) refl)
+
+    module _ (counts : countsWithin (c .sizes .pages) (c .sizes .disks) (c .sizes .ring) (c .bases .total) ≡ true) {right : Bool}
+        (lengths : right ≡ lengthsAre (c .sizes .disks) (c .sizes .ring) (c .bases .total) (length (w .pages)) (length (w .backups)) (length (w .logs)) (length (w .work)))
+      where
+        pub lengths-refused : right ≡ false → {r : ℕ} → r ≡ anchorRefusal (length (w .anchor)) 5 → CommonRefusal allowed c w r
+        unfolding anchorRefusal
+        lengths-refused wrong e = decided (rw (stage, ← counts-here c, counts, ← lengths-are (c .sizes) (c .bases .total) w, ← lengths, wrong) e)
+
+        pub state-refused : right ≡ true → sound c ≡ false → CommonRefusal allowed c w 1
+        state-refused long state = decided (rw (stage, ← counts-here c, counts, ← lengths-are (c .sizes) (c .bases .total) w, ← lengths, long, state) refl)
+
+        pub anchor-asked : right ≡ true → sound c ≡ true → {r : ℕ} → r ≡ anchorRefusal (length (w .anchor)) 0 → CommonRefusal allowed c w r
+        unfolding anchorRefusal
+        anchor-asked long state e = decided (rw (stage, ← counts-here c, counts, ← lengths-are (c .sizes) (c .bases .total) w, ← lengths, long, state) e)
 
 -- A refusal gives what its row says.
 pub refusal-given : (k : Call) (c : Core) (w : World) (number first second : ℕ)

@@ -12,11 +12,11 @@ use Rattle.model.specs.Memory.{bufferAt, workWords}
 use Rattle.model.specs.State.{tailOf, fillOf, servingSound}
 use Rattle.log.specs.declared.write.Home.{Home}
 
--- A serving state, and slices of the lengths that it gives.
+-- A serving state that passed the whole test, and slices of the lengths that it gives.
 pub record Serves (c : Core) (logs work : List ℕ) : Type 0 where
   pub state : servingSound c ≡ true
   pub log-words : length logs ≡ logWords (c .sizes)
-  pub work-words : length work ≡ workWords (c .sizes)
+  pub work-words : length work ≡ workWords (c .sizes) (c .bases .total)
 
 unfoldable pub homeOf : Sizes → Logs → ℕ → Home
 homeOf s l disk =
@@ -24,7 +24,7 @@ homeOf s l disk =
       disk = disk;
       place = diskAt s disk;
       ring = ringOf s disk;
-      buffer = bufferAt s disk;
+      buffer = bufferAt disk;
       tail = tailOf l disk;
       fill = fillOf l disk;
     }

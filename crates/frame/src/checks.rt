@@ -1,31 +1,34 @@
-// The checks that every call but format and restart begin makes first: its stage with the test of the state, the anchor's length, the
+// The checks that every call but format and restart begin makes first: its stage with its test of the state, the anchor's length, the
 // other lengths.
+use crate::fits::counts_fit;
 use crate::stages::When;
 use crate::stages::is_allowed;
 use crate::stages::is_open;
 use crate::stages::is_replaying;
 use crate::stages::is_shut;
 use layout::anchor::ANCHOR_WORDS;
+use layout::bases::bases_right;
 use layout::bounds::lengths_right;
 use layout::bounds::sizes_in_bounds;
 use model::Core;
-use model::Sizes;
 use table::sound::checkpoint_bounds;
 use table::sound::replay_bounds;
 use table::sound::serving_bounds;
 ghost use mathlib.Core.Path.{_≡_};
-ghost use mathlib.Core.Bool.{true, false};
-ghost use lib.ListN.{length};
-ghost use Rattle.model.specs.Sizes.{sizesInBounds};
 ghost use Rattle.model.specs.State.{servingSound, replaySound, sound};
-ghost use Rattle.model.specs.Causes.{whenShut};
 ghost use Rattle.model.specs.Moments.{oldWorld};
-ghost use Rattle.frame.specs.Checks.{lengthRefusal, firstRefusal, allowedIn, CommonRefusal};
+ghost use Rattle.frame.specs.Checks.{anchorRefusal, allowedIn, CommonRefusal};
 
 fn serving_sound(core: Core) -> bool
     ensures { λ r. ⌜ r ≡ servingSound core ⌝ }
 {
     if !sizes_in_bounds(core.sizes) {
+        return false;
+    }
+    if !bases_right(core.sizes, core.bases) {
+        return false;
+    }
+    if core.next == 0 {
         return false;
     }
     serving_bounds(core)
@@ -35,6 +38,9 @@ fn replay_sound(core: Core) -> bool
     ensures { λ r. ⌜ r ≡ replaySound core ⌝ }
 {
     if !sizes_in_bounds(core.sizes) {
+        return false;
+    }
+    if !bases_right(core.sizes, core.bases) {
         return false;
     }
     replay_bounds(core)
@@ -60,75 +66,15 @@ fn is_sound(core: Core) -> bool
     checkpoint_bounds(core)
 }
 
-// 2 for a wrong anchor, 5 for another wrong slice, else 0.
-fn length_refusal(
-    sizes: Sizes,
-    anchor: usize,
-    pages: usize,
-    backups: usize,
-    logs: usize,
-    work: usize,
-) -> u64
-    requires { ⌜ sizesInBounds sizes ≡ true ⌝ }
-    ensures { λ r. ⌜ r ≡ lengthRefusal sizes anchor pages backups logs work ⌝ }
+// 2 where the anchor's length is wrong.
+fn anchor_refusal(anchor: usize, otherwise: u64) -> u64
+    ensures { λ r. ⌜ r ≡ anchorRefusal anchor otherwise ⌝ }
 {
-    if anchor != ANCHOR_WORDS {
-        return 2;
-    }
-    if lengths_right(sizes, pages, backups, logs, work) {
-        0
-    } else {
-        5
-    }
+    if anchor == ANCHOR_WORDS { otherwise } else { 2 }
 }
 
-// By the lengths alone, which are handed over as numbers.
-fn refusal_of_lengths(
-    allowed: bool,
-    core: Core,
-    anchor: usize,
-    pages: usize,
-    backups: usize,
-    logs: usize,
-    work: usize,
-) -> u64
-    requires { ⌜ (allowed ≡ true → whenShut (core .stage) ≡ false) ⌝ }
-    ensures { λ r. ⌜ r ≡ firstRefusal allowed core anchor pages backups logs work ⌝ }
-{
-    if !allowed {
-        return 1;
-    }
-    if !is_sound(core) {
-        return 1;
-    }
-    length_refusal(core.sizes, anchor, pages, backups, logs, work)
-}
-
-// The number of the first of rows 1, 2 and 5 that applies, 0 where none does. A shut state is for no call that asks here.
-fn first_refusal(
-    allowed: bool,
-    core: Core,
-    anchor: &[u64],
-    pages: &[u64],
-    backups: &[u64],
-    logs: &[u64],
-    work: &[u64],
-) -> u64
-    requires { ⌜ (allowed ≡ true → whenShut (core .stage) ≡ false) ⌝ }
-    ensures { λ r. ⌜ r ≡ firstRefusal allowed core (length (now (anchor .entry))) (length (now (pages .entry))) (length (now (backups .entry))) (length (now (logs .entry))) (length (now (work .entry))) ⌝ }
-{
-    refusal_of_lengths(
-        allowed,
-        core,
-        anchor.len(),
-        pages.len(),
-        backups.len(),
-        logs.len(),
-        work.len(),
-    )
-}
-
-// The first lines of a call: the number of the first of rows 1, 2 and 5 that applies, 0 where none does.
+// The first lines of a call that tests the whole state: the number of the first of rows 1, 2 and 5 that applies, 0 where none does. The
+// state is tested only where the lengths are right: else one of them refuses.
 pub fn common_refusal(
     when: When,
     core: Core,
@@ -141,6 +87,28 @@ pub fn common_refusal(
     ensures { λ r. ⌜ CommonRefusal (allowedIn when) core (oldWorld anchor pages backups logs work) r ⌝ }
 {
     let stage = core.stage;
-    let fits = is_allowed(when, stage);
-    first_refusal(fits, core, anchor, pages, backups, logs, work)
+    if !is_allowed(when, stage) {
+        return 1;
+    }
+    let disks = core.sizes.disks;
+    let ring = core.sizes.ring;
+    let total = core.bases.total;
+    if !counts_fit(core.sizes.pages, disks, ring, total) {
+        return 1;
+    }
+    if !lengths_right(
+        disks,
+        ring,
+        total,
+        pages.len(),
+        backups.len(),
+        logs.len(),
+        work.len(),
+    ) {
+        return anchor_refusal(anchor.len(), 5);
+    }
+    if !is_sound(core) {
+        return 1;
+    }
+    anchor_refusal(anchor.len(), 0)
 }

@@ -1,4 +1,5 @@
 // States written out field by field: here alone, so that a field more is an edit of one file.
+use model::Bases;
 use model::Checkpoint;
 use model::Core;
 use model::Logs;
@@ -7,7 +8,7 @@ use model::Sizes;
 use model::Stage;
 use model::Table;
 ghost use mathlib.Core.Path.{_≡_};
-ghost use Rattle.model.specs.State.{noTable, noCheckpoint, noReplay, emptyLogs, newCore, openCore, replayingCore};
+ghost use Rattle.model.specs.State.{basesOf, noTable, noCheckpoint, noReplay, emptyLogs, newCore, openCore, replayingCore};
 
 fn no_table() -> Table
     ensures { λ r. ⌜ r ≡ noTable ⌝ }
@@ -17,6 +18,7 @@ fn no_table() -> Table
         disks: [0u64; 16],
         firsts: [0u64; 16],
         reserved: [0u64; 16],
+        sums: [0u64; 8],
     }
 }
 
@@ -60,9 +62,14 @@ pub fn new_core() -> Core
         slots: [0u8; 64],
         widths: [0u8; 64],
     };
+    let bases = Bases {
+        pages: [0u16; 64],
+        total: 0,
+    };
     Core {
         stage: Stage::Shut,
         sizes,
+        bases,
         epoch: 0,
         logs: empty_logs([0u64; 8]),
         table: no_table(),
@@ -73,12 +80,14 @@ pub fn new_core() -> Core
 }
 
 // An open state with no transaction, as format and restart end leave it.
-pub fn open_core(sizes: Sizes, epoch: u64, tails: [u64; 8]) -> Core
+pub fn open_core(sizes: Sizes, bases: Bases, epoch: u64, tails: [u64; 8]) -> Core
+    requires { ⌜ bases ≡ basesOf sizes ⌝ }
     ensures { λ r. ⌜ r ≡ openCore sizes epoch tails ⌝ }
 {
     Core {
         stage: Stage::Open,
         sizes,
+        bases,
         epoch,
         logs: empty_logs(tails),
         table: no_table(),
@@ -89,12 +98,20 @@ pub fn open_core(sizes: Sizes, epoch: u64, tails: [u64; 8]) -> Core
 }
 
 // The state that a restart begin leaves: every log at its start, the backup at its first page.
-pub fn replaying_core(sizes: Sizes, epoch: u64, starts: [u64; 8], tails: [u64; 8]) -> Core
+pub fn replaying_core(
+    sizes: Sizes,
+    bases: Bases,
+    epoch: u64,
+    starts: [u64; 8],
+    tails: [u64; 8],
+) -> Core
+    requires { ⌜ bases ≡ basesOf sizes ⌝ }
     ensures { λ r. ⌜ r ≡ replayingCore sizes epoch starts tails ⌝ }
 {
     Core {
         stage: Stage::Replaying,
         sizes,
+        bases,
         epoch,
         logs: Logs {
             starts,
