@@ -2,16 +2,17 @@
 use mathlib.Core.Path.{_≡_, refl, sym, ap, _∙_}
 use mathlib.Core.List.{List, [], _∷_, _++_, append-assoc}
 use mathlib.Core.Bool.{Bool, true, false}
-use Prim.Native.Nat.{ℕ, _+_, _-_, _≤_, _<_, min}
+use Prim.Native.Nat.{ℕ, suc, _+_, _*_, _≤_}
 use native.Mathlib.Omega.{arith}
-use lib.ListN.{length, take, set, replicate}
+use lib.ListN.{length, set}
 use lib.Seq.{sets, take-all}
 use borrow.Author.Tests.{le-leb}
 use Rattle.model.specs.declared.Sizes.{Sizes}
 use Rattle.model.specs.declared.Logs.{Logs}
 use Rattle.model.specs.Word.{xors, part}
-use Rattle.model.specs.Record.{encode}
+use Rattle.model.specs.Record.{header, encode}
 use Rattle.model.specs.World.{World, Action, write, pages, work, cost, act, perform, stores, covered, run, made, finishes, each}
+use Rattle.model.specs.Memory.{ownerAt}
 use Rattle.model.specs.Append.{append}
 use Rattle.model.proofs.Booleans.{true-false}
 use Rattle.model.proofs.Parts.{length-part}
@@ -22,7 +23,7 @@ use Rattle.device.proofs.Ran.{ran-then, ran-cut}
 use Rattle.log.specs.declared.write.Head.{Head}
 use Rattle.log.specs.declared.write.Logged.{Logged}
 use Rattle.log.specs.Write.{changeOf, Appends}
-use Rattle.log.proofs.Words.{part-set}
+use Rattle.log.proofs.Words.{change-length}
 use Rattle.access.specs.Tasks.{withMemory, replacing, Replaced}
 
 -- the difference of a slot has as many words as its value
@@ -30,17 +31,21 @@ module _ (at : ℕ) (value before : List ℕ) (fits : at + length value ≤ leng
   pub difference-length : length (xors (part at (length value) before) value) ≡ length value
   difference-length = omega (arith, length-xors (part at (length value) before) value, length-part at (length value) before fits)
 
-  -- put at the front of an array, it is what stands there
-  pub difference-taken : length value ≤ 32 → {after : List ℕ}
-      → after ≡ sets (replicate 32 0) 0 (xors (part at (length value) before) value)
-      → take (length value) after ≡ xors (part at (length value) before) value
-  unfolding part
-  difference-taken small {after} e =
-      let long = difference-length in
-      let zeros : List ℕ = replicate 32 0 in
-      let size : length zeros ≡ 32 = refl in
-      let put = part-set zeros 0 (xors (part at (length value) before) value) (omega (arith, long, size)) in
-      rw e (rw long at put)
+  pub record-length : (h : Head) → length (encode (changeOf h (xors (part at (length value) before) value))) ≡ 3 + length value
+  record-length h =
+      change-length (h .kind) (h .page) (h .slot) (h .number) (h .copy) (xors (part at (length value) before) value)
+      ∙ ap (λ (n : ℕ). 3 + n) difference-length
+
+-- a change whose words are put one by one and whose difference follows them
+pub change-put : (l : List ℕ) (to n : ℕ) (h : Head) (diff : List ℕ) → n ≡ length diff
+    → sets (set (set (set l to (h .kind + 8 * h .page + 512 * h .slot + 65536 * n)) (to + 1) (h .number)) (to + 2) (h .copy)) (to + 3) diff
+    ≡ sets l to (encode (changeOf h diff))
+unfolding encode header
+change-put l to n h diff e =
+    let one : to + 1 ≡ suc to = omega arith in
+    let two : to + 2 ≡ suc (suc to) = omega arith in
+    let three : to + 3 ≡ suc (suc (suc to)) = omega arith in
+    rw (e, one, two, three) refl
 
 -- a whole list copied is the list
 pub part-all : (words : List ℕ) → part 0 (length words) words ≡ words
@@ -48,19 +53,19 @@ unfolding part
 part-all words = take-all (length words) words (omega arith)
 
 -- words written in the page memory and a word in the work memory cost nothing
-pub memory-ran : (rest at : ℕ) (value : List ℕ) (number : ℕ) (v : World)
-    → Ran rest rest (each (write pages) at value ++ write work at number ∷ []) v
-    (withMemory v (sets (v .pages) at value) (v .logs) (set (v .work) at number)) true
+pub memory-ran : (rest at owner : ℕ) (value : List ℕ) (number : ℕ) (v : World)
+    → Ran rest rest (each (write pages) at value ++ write work owner number ∷ []) v
+    (withMemory v (sets (v .pages) at value) (v .logs) (set (v .work) owner number)) true
 unfolding made finishes stores cost perform act
-memory-ran rest at value number v =
-    let none : stores (each (write pages) at value ++ write work at number ∷ []) ≡ 0 =
-    stores-append (each (write pages) at value) (write work at number ∷ []) ∙ omega (arith, stores-written pages at value) in
-    let whole : finishes rest (each (write pages) at value ++ write work at number ∷ []) ≡ true = rw none (le-leb 0 rest (omega arith)) in
+memory-ran rest at owner value number v =
+    let none : stores (each (write pages) at value ++ write work owner number ∷ []) ≡ 0 =
+    stores-append (each (write pages) at value) (write work owner number ∷ []) ∙ omega (arith, stores-written pages at value) in
+    let whole : finishes rest (each (write pages) at value ++ write work owner number ∷ []) ≡ true = rw none (le-leb 0 rest (omega arith)) in
     record {
       world =
-          sym (finished-run rest (each (write pages) at value ++ write work at number ∷ []) v whole
-          ∙ perform-append (each (write pages) at value) (write work at number ∷ []) v
-          ∙ ap (perform (write work at number ∷ [])) (perform-pages at value v));
+          sym (finished-run rest (each (write pages) at value ++ write work owner number ∷ []) v whole
+          ∙ perform-append (each (write pages) at value) (write work owner number ∷ []) v
+          ∙ ap (perform (write work owner number ∷ [])) (perform-pages at value v));
       left = rw none (omega arith);
       finished = sym whole;
     }
@@ -73,21 +78,21 @@ module _ (s : Sizes) (l : Logs) (w v : World) (disk : ℕ) (head : Head) (at : �
   first = append s l (w .work) disk (encode (changeOf head (xors (part at (length value) (w .pages)) value))) .actions
 
   abbrev then-memory : List Action
-  then-memory = each (write pages) at value ++ write work at (head .number) ∷ []
+  then-memory = each (write pages) at value ++ write work (ownerAt s at) (head .number) ∷ []
 
   in-two : replacing s l w disk head at value .actions ≡ first ++ then-memory
   unfolding replacing
-  in-two = append-assoc first (each (write pages) at value) (write work at (head .number) ∷ [])
+  in-two = append-assoc first (each (write pages) at value) (write work (ownerAt s at) (head .number) ∷ [])
 
   pub replaced-cut : r .finished ≡ false → Replaced budget rest s l disk head at value w v r
   unfolding replacing
   replaced-cut cut = record { ran = rw (in-two, cut) (ran-cut (did .ran) then-memory cut); state = λ z. true-false z cut }
 
   pub replaced-whole : r .finished ≡ true
-      → Replaced budget rest s l disk head at value w (withMemory v (sets (v .pages) at value) (v .logs) (set (v .work) at (head .number))) r
+      → Replaced budget rest s l disk head at value w (withMemory v (sets (v .pages) at value) (v .logs) (set (v .work) (ownerAt s at) (head .number))) r
   unfolding replacing
   replaced-whole finished =
       record {
-        ran = rw (in-two, finished) (ran-then (did .ran) then-memory finished (memory-ran rest at value (head .number) v));
+        ran = rw (in-two, finished) (ran-then (did .ran) then-memory finished (memory-ran rest at (ownerAt s at) value (head .number) v));
         state = did .state;
       }

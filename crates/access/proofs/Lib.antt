@@ -1,5 +1,9 @@
 -- Each call: its rows by the tests of the code, and its task by the functions that it calls.
 pub mod SlotBounds
-pub mod Reading
+pub mod FirstRows
+pub mod Readings
 pub mod Differences
+pub mod PlanRows
+pub mod PlanReady
+pub mod PlanMade
 pub mod Updating

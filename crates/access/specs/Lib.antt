@@ -1,1 +1,4 @@
+pub mod Slots
+pub mod Reading
+pub mod Plans
 pub mod Tasks

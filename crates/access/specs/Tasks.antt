@@ -1,16 +1,15 @@
 -- The part of an update's task that a function does, where it is lent a part of the state.
 use mathlib.Core.Path.{_≡_}
 use mathlib.Core.List.{List, [], _∷_, _++_}
-use mathlib.Core.Bool.{true, cond}
-use Prim.Native.Nat.{ℕ, _+_}
+use mathlib.Core.Bool.{true}
+use Prim.Native.Nat.{ℕ}
 use lib.ListN.{length}
 use Rattle.model.specs.declared.Sizes.{Sizes}
 use Rattle.model.specs.declared.Logs.{Logs}
-use Rattle.model.specs.declared.Table.{Table}
 use Rattle.model.specs.Word.{xors, part}
 use Rattle.model.specs.Record.{encode}
 use Rattle.model.specs.World.{World, write, pages, work, each}
-use Rattle.model.specs.State.{placeOf, firstAt, reservedAt, hasUpdate, withPlace}
+use Rattle.model.specs.Memory.{ownerAt}
 use Rattle.model.specs.Append.{Appended, append}
 use Rattle.device.specs.Ran.{Ran}
 use Rattle.log.specs.declared.write.Head.{Head}
@@ -22,18 +21,11 @@ use Rattle.frame.specs.Home.{withDisk}
 abbrev pub withMemory : World → List ℕ → List ℕ → List ℕ → World
 withMemory w p l k = record { anchor = w .anchor; pages = p; backups = w .backups; logs = l; work = k }
 
--- the table with an update of so many words more, on a disk whose log ends at `end`
-unfoldable pub grown : Table → ℕ → ℕ → ℕ → ℕ → Table
-grown t number disk end words =
-    withPlace t (placeOf t number) number disk
-    (cond (hasUpdate t (placeOf t number)) (firstAt t (placeOf t number)) end)
-    (reservedAt t (placeOf t number) + words)
-
 -- An update's actions on the logs and the memories: the record appended, the slot set, its owner set; and the logs' part of the state.
 unfoldable pub replacing : Sizes → Logs → World → ℕ → Head → ℕ → List ℕ → Appended
 replacing s l w disk head at value =
     let added : Appended = append s l (w .work) disk (encode (changeOf head (xors (part at (length value) (w .pages)) value))) in
-    record { actions = added .actions ++ each (write pages) at value ++ write work at (head .number) ∷ []; logs = added .logs }
+    record { actions = added .actions ++ each (write pages) at value ++ write work (ownerAt s at) (head .number) ∷ []; logs = added .logs }
 
 pub record Replaced (budget rest : ℕ) (s : Sizes) (l : Logs) (disk : ℕ) (head : Head) (at : ℕ) (value : List ℕ) (before after : World) (r : Logged) : Type 0 where
   pub ran : Ran budget rest (replacing s l before disk head at value .actions) before after (r .finished)

@@ -1,5 +1,6 @@
 // The calls on a slot: update and read.
 mod change;
+mod plan;
 pub mod read;
 mod slots;
 pub mod update;

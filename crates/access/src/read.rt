@@ -1,22 +1,31 @@
 // Read: the slot's words as a part of the page memory, and the companion call for the number.
+use crate::slots::Slot;
+use crate::slots::find_slot;
 use crate::slots::is_locked;
+use crate::slots::no_slot;
 use crate::slots::reader_missing;
-use crate::slots::slot_missing;
 use crate::slots::slot_part;
-use frame::checks::common_refusal;
-use frame::stages::When;
+use frame::lent::lent_refusal;
+use layout::anchor::ANCHOR_WORDS;
 use model::Answer;
-use model::Core;
+use model::Carried;
+use model::Stage;
 ghost use mathlib.Core.Path.{_≡_};
-ghost use Rattle.model.specs.Moments.{oldWorld};
-ghost use Rattle.model.specs.Refusal.{verdict};
-ghost use Rattle.model.specs.Transaction.{readRows, readWords};
-ghost use Rattle.model.specs.Call.{read, look, Gives};
-ghost use Rattle.frame.specs.Checks.{verdictOf};
+ghost use Prim.Native.Nat.{_≤_};
+ghost use Rattle.model.specs.declared.Carried.{Carried};
+ghost use Rattle.model.specs.Moments.{old, oldWorld};
+ghost use Rattle.model.specs.Transaction.{readWords};
+ghost use Rattle.model.specs.Call.{read, look};
+ghost use Rattle.model.specs.View.{coreOf, bodyOf, Serves};
+ghost use Rattle.access.specs.Reading.{Told, Readable};
 
-// The number that a read is refused with, 0 if it is taken.
-fn read_refusal(
-    core: Core,
+// The slot that a read is for, or the number of the row that refuses the read. P, D, W and T are those of the state.
+fn readable(
+    stage: Stage,
+    count: u64,
+    disks: u64,
+    ring: u64,
+    total: u64,
     reader: u64,
     page: u64,
     slot: u64,
@@ -25,27 +34,46 @@ fn read_refusal(
     backups: &[u64],
     logs: &[u64],
     work: &[u64],
-) -> u64
-    ensures { λ r. ⌜ verdict (readRows core (oldWorld anchor pages backups logs work) reader page slot) ≡ verdictOf r ⌝ }
+) -> Slot
+    ensures { λ r. ⌜ ((h : Carried) → Told h stage count disks ring total
+        → Readable h (oldWorld anchor pages backups logs work) reader page slot r) ⌝ }
 {
-    let refusal = common_refusal(When::Serving, core, anchor, pages, backups, logs, work);
-    if refusal != 0 {
-        return refusal;
+    let first = lent_refusal(
+        stage,
+        count,
+        disks,
+        ring,
+        total,
+        anchor.len(),
+        pages.len(),
+        backups.len(),
+        logs.len(),
+        work.len(),
+    );
+    if first != 0 {
+        return no_slot(first);
     }
-    if slot_missing(core.sizes, page, slot) {
-        return 8;
+    let found = find_slot(work, count, total, page, slot);
+    if found.refusal == 1 {
+        return no_slot(1);
     }
-    if reader_missing(core.table, reader) {
-        return 9;
+    if anchor.len() != ANCHOR_WORDS {
+        return no_slot(2);
     }
-    if is_locked(core.sizes, core.table, work, reader, page, slot) {
-        return 11;
+    if found.refusal != 0 {
+        return no_slot(8);
     }
-    0
+    if reader_missing(work, reader) {
+        return no_slot(9);
+    }
+    if is_locked(work, disks, found.at, reader) {
+        return no_slot(11);
+    }
+    found
 }
 
 pub fn read_answer(
-    core: Core,
+    carried: Carried,
     reader: u64,
     page: u64,
     slot: u64,
@@ -55,13 +83,28 @@ pub fn read_answer(
     logs: &[u64],
     work: &[u64],
 ) -> Answer
-    ensures { λ r. ⌜ Gives (look (read reader page slot)) core (oldWorld anchor pages backups logs work)
-        (record { answer = r; core = core }) 0 (oldWorld anchor pages backups logs work) ⌝ }
+    ensures { λ r. ⌜ Serves (look (read reader page slot)) carried (oldWorld anchor pages backups logs work)
+        (record { answer = r; carried = carried }) 0 (oldWorld anchor pages backups logs work) ⌝ }
 {
-    let number = read_refusal(core, reader, page, slot, anchor, pages, backups, logs, work);
-    if number != 0 {
+    let stage = carried.stage;
+    let found = readable(
+        stage,
+        carried.pages,
+        carried.disks,
+        carried.ring,
+        carried.total,
+        reader,
+        page,
+        slot,
+        anchor,
+        pages,
+        backups,
+        logs,
+        work,
+    );
+    if found.refusal != 0 {
         return Answer::Refused {
-            number,
+            number: found.refusal,
             first: 0,
             second: 0,
         };
@@ -74,7 +117,7 @@ pub fn read_answer(
 
 // The slot's part of the page memory, an empty part if the read is refused.
 pub fn read<'a>(
-    core: Core,
+    carried: Carried,
     reader: u64,
     page: u64,
     slot: u64,
@@ -84,11 +127,26 @@ pub fn read<'a>(
     logs: &[u64],
     work: &[u64],
 ) -> &'a [u64]
-    ensures { λ r. ⌜ now r ≡ readWords core (oldWorld anchor pages backups logs work) reader page slot ⌝ }
+    ensures { λ r. ⌜ now r ≡ readWords (coreOf carried (old work)) (bodyOf (oldWorld anchor pages backups logs work)) reader page slot ⌝ }
 {
-    let number = read_refusal(core, reader, page, slot, anchor, pages, backups, logs, work);
-    if number != 0 {
+    let stage = carried.stage;
+    let found = readable(
+        stage,
+        carried.pages,
+        carried.disks,
+        carried.ring,
+        carried.total,
+        reader,
+        page,
+        slot,
+        anchor,
+        pages,
+        backups,
+        logs,
+        work,
+    );
+    if found.refusal != 0 {
         return &pages[0..0];
     }
-    slot_part(core.sizes, page, slot, pages)
+    slot_part(pages, found.at, found.width)
 }

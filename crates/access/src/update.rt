@@ -1,74 +1,49 @@
 // Update: its checks, then the change.
-use crate::change::changed_core;
-use crate::change::head_of;
 use crate::change::log_and_set;
-use crate::slots::is_locked;
-use crate::slots::slot_missing;
-use crate::slots::slot_width;
-use frame::checks::common_refusal;
-use frame::home::home_of_transaction;
-use frame::settle::refuse;
-use frame::settle::settle;
-use frame::stages::When;
-use layout::places::slot_base;
-use model::Core;
-use model::Reply;
-use table::place::is_open;
-use table::place::place_of;
-use table::room::has_room;
+use crate::plan::Plan;
+use crate::plan::plan_update;
+use frame::handed::cut;
+use frame::handed::finished;
+use frame::handed::refused;
+use frame::home::home_at;
+use head::places::HEAD_WORDS;
+use head::table::enter;
+use head::table::set_fill;
+use log::kinds::UPDATE;
+use log::write::Head;
+use model::Carried;
+use model::Handed;
+use words::saturating_sub;
 ghost use mathlib.Core.Path.{_≡_};
-ghost use mathlib.Core.Bool.{true};
-ghost use Prim.Native.Nat.{_*_, _<_};
+ghost use Prim.Native.Nat.{_≤_, _<_};
 ghost use lib.ListN.{length};
-ghost use Rattle.model.specs.Sizes.{widthIn};
-ghost use Rattle.model.specs.Record.{wordsOf, updateKind};
-ghost use Rattle.model.specs.World.{World, worldOf};
+ghost use Rattle.model.specs.World.{worldOf};
 ghost use Rattle.model.specs.Moments.{old, new, oldWorld};
-ghost use Rattle.model.specs.Memory.{workWords};
-ghost use Rattle.model.specs.State.{isOpen, servingSound};
-ghost use Rattle.model.specs.Room.{hasRoom};
-ghost use Rattle.model.specs.Refusal.{verdict};
-ghost use Rattle.model.specs.Transaction.{diskOf, slotRows};
-ghost use Rattle.model.specs.Call.{update, Gives};
-ghost use Rattle.frame.specs.Checks.{verdictOf};
+ghost use Rattle.model.specs.Call.{update};
+ghost use Rattle.model.specs.View.{headWords, Serves};
+ghost use Rattle.model.specs.Fields.{putWords, entering, filling};
 
-// The disk of an open transaction has log room for an update and for its compensation.
-fn has_update_room(core: Core, number: u64, page: u64) -> bool
-    requires { ⌜ (servingSound core ≡ true) × (isOpen (core .table) number ≡ true) × (page < 64) ⌝ }
-    ensures { λ r. ⌜ r ≡ hasRoom core (2 * wordsOf updateKind (widthIn (core .sizes) page)) (diskOf core number) ⌝ }
+// The head after an update whose log then ends with so many buffered words.
+fn count_update(work: &mut [u64], plan: Plan, number: u64, fill: u64)
+    requires { ⌜ (plan .place < 16) × (plan .disk < 8) × (headWords ≤ length (now work)) ⌝ }
+    ensures { λ _. ⌜ new work ≡ putWords (filling (plan .disk) fill)
+        (putWords (entering (plan .place) number (plan .disk) (plan .first) (plan .reserved) (plan .sum)) (old work)) ⌝ }
 {
-    let table = core.table;
-    let place = place_of(table, number);
-    let disk = table.disks[place] as usize;
-    let width = slot_width(core.sizes, page) as u64;
-    has_room(core.sizes.ring, core.logs, table, 2 * (3 + width), disk)
-}
-
-// The number of the first row after those of `common_refusal` that refuses an update, 0 where none does.
-fn slot_refusal(core: Core, number: u64, page: u64, slot: u64, value: &[u64], work: &[u64]) -> u64
-    requires { ⌜ (servingSound core ≡ true) × (length (now work) ≡ workWords (core .sizes)) ⌝ }
-    ensures { λ r. ⌜ ((w : World) → w .work ≡ now (work .entry) → verdict (slotRows core w number page slot (now (value .entry))) ≡ verdictOf r) ⌝ }
-{
-    if slot_missing(core.sizes, page, slot) {
-        return 8;
-    }
-    if !is_open(core.table, number) {
-        return 9;
-    }
-    if value.len() != slot_width(core.sizes, page) {
-        return 10;
-    }
-    if is_locked(core.sizes, core.table, work, number, page, slot) {
-        return 11;
-    }
-    if !has_update_room(core, number, page) {
-        return 14;
-    }
-    0
+    let disk = plan.disk as usize;
+    enter(
+        work,
+        plan.place,
+        number,
+        disk,
+        plan.first,
+        plan.reserved,
+        plan.sum,
+    );
+    set_fill(work, disk, fill);
 }
 
 pub fn update(
-    core: Core,
+    mut carried: Carried,
     number: u64,
     page: u64,
     slot: u64,
@@ -79,26 +54,61 @@ pub fn update(
     logs: &mut [u64],
     work: &mut [u64],
     budget: &mut u64,
-) -> Reply
-    ensures { λ r. ⌜ Gives (update number page slot (old value) (old budget)) core (oldWorld anchor pages backups logs work)
+) -> Handed
+    ensures { λ r. ⌜ Serves (update number page slot (old value) (old budget)) carried (oldWorld anchor pages backups logs work)
         r (new budget) (worldOf (old anchor) (new pages) (old backups) (new logs) (new work)) ⌝ }
 {
-    let refusal = common_refusal(When::Serving, core, anchor, pages, backups, logs, work);
-    if refusal != 0 {
-        return refuse(core, refusal);
-    }
-    let refused = slot_refusal(core, number, page, slot, value, work);
-    if refused != 0 {
-        return refuse(core, refused);
+    let stage = carried.stage;
+    let starts = carried.starts;
+    let tails = carried.tails;
+    let plan = plan_update(
+        stage,
+        carried.pages,
+        carried.disks,
+        carried.ring,
+        carried.total,
+        starts,
+        tails,
+        number,
+        page,
+        slot,
+        value.len(),
+        anchor,
+        pages,
+        backups,
+        logs,
+        work,
+    );
+    if plan.refusal != 0 {
+        return refused(carried, plan.refusal);
     }
     let before = *budget;
-    let home = home_of_transaction(core, work.len(), number);
-    let head = head_of(core, number, page, slot, work);
-    let at = slot_base(core.sizes, page, slot) as usize;
-    let added = log_and_set(home, head, at, value, pages, logs, work, budget);
+    let home = home_at(carried.ring, plan.disk, plan.tail, plan.fill);
+    let head = Head {
+        kind: UPDATE,
+        page,
+        slot,
+        number,
+        copy: plan.copy,
+    };
+    let body = &mut work[HEAD_WORDS..];
+    let added = log_and_set(
+        home,
+        head,
+        plan.at,
+        plan.owner,
+        value,
+        pages,
+        logs,
+        body,
+        budget,
+    );
+    let stores = saturating_sub(before, *budget);
     if !added.finished {
-        return settle(false, before, *budget, 0, core);
+        return cut(stores);
     }
-    let next = changed_core(core, number, home, added, value.len());
-    settle(true, before, *budget, 0, next)
+    count_update(work, plan, number, added.fill);
+    let d = plan.disk as usize;
+    carried.tails[d] = added.tail;
+    finished(carried, stores, 0)
 }

@@ -1,40 +1,164 @@
--- Begin: what it gives, by the tests of the code after the common ones.
-use mathlib.Core.Path.{_≡_, refl}
-use Prim.Native.Nat.{ℕ, _≤_, _<_}
-use borrow.Author.Tests.{le-leb, lt-leb}
+-- Begin: which row applies, by what the code tests, and the words that it leaves in the head.
+use mathlib.Core.Path.{_≡_, refl, sym, ap, _∙_}
+use mathlib.Core.List.{List, [], _∷_, _++_}
+use mathlib.Core.Bool.{Bool, true, false, _&&_, _||_}
+use Prim.Native.Nat.{ℕ, _+_, _-_, _≤_, _<_}
+use native.Mathlib.Omega.{arith}
+use lib.Dec.{leb}
+use lib.ListN.{length, getD, drop, take-append-drop}
+use borrow.Author.Tests.{le-leb, lt-leb, leb-true, eq-eqb, ne-eqb}
 use Rattle.model.specs.declared.Core.{Core}
-use Rattle.model.specs.declared.Reply.{Reply}
-use Rattle.model.specs.World.{World}
-use Rattle.model.specs.State.{limit, placeOf}
-use Rattle.model.specs.Room.{idlest}
-use Rattle.model.specs.Refusal.{verdict}
-use Rattle.model.specs.Causes.{whenServing, tableFull, spent}
+use Rattle.model.specs.declared.Carried.{Carried}
+use Rattle.model.specs.Word.{part}
+use Rattle.model.specs.Anchor.{anchorWords}
+use Rattle.model.specs.declared.Handed.{Handed}
+use Rattle.model.specs.World.{World, worldOf}
+use Rattle.model.specs.State.{limit, placeOf, keptOf, endOf, reservedOn}
+use Rattle.model.specs.Sizes.{ringOf}
+use Rattle.model.specs.Room.{noDisk, hasRoom, loadOf, idlest}
+use Rattle.model.specs.Refusal.{Row, row, verdict, accepted, rejected}
+use Rattle.model.specs.Causes.{whenServing, stageForbids, anchorWrong, lengthsWrong, tableFull, spent}
+use Rattle.model.specs.Reads.{countsFit, fitsOn}
 use Rattle.model.specs.Transaction.{beginRows, begun, beginTask}
-use Rattle.model.specs.Call.{begin, Gives}
-use Rattle.frame.specs.Checks.{CommonRefusal}
-use Rattle.frame.specs.Settle.{refusedWith, finishedWith}
-use Rattle.frame.proofs.Given.{given-refused, given-finished}
+use Rattle.model.specs.Call.{begin}
+use Rattle.model.specs.View.{headWords, headFills, headSums, coreIn, ownWork, coreOf, headLists, headOf, bodyOf, Serves}
+use Rattle.model.specs.Fields.{sums, putWords, entering}
+use Rattle.model.proofs.Booleans.{both}
+use Rattle.model.proofs.Meaning.{idlest-found}
+use Rattle.model.proofs.View.Fields.{field-read, putLists, Within, head-put}
+use Rattle.model.proofs.View.Head.{own-view}
+use Rattle.table.specs.Parts.{logsOf, sumsOf, coreOf as stateOf}
+use Rattle.table.proofs.HasRoom.{idlest-parts}
+use Rattle.head.proofs.InTable.{entered-lists}
+use Rattle.frame.specs.Handed.{finishedTo}
+use Rattle.frame.specs.Lent.{lentRefusal}
+use Rattle.frame.proofs.FirstChecks.{viewRows, Ready, lent-refused, lent-passed, serving-ready}
+use Rattle.frame.proofs.Shown.{shown-finished}
 
-module _ {c : Core} {w : World} {r : ℕ} (checks : CommonRefusal whenServing c w r) (none : r ≡ 0) {reply : Reply} where
-  pub begin-full : 16 ≤ placeOf (c .table) 0 → reply ≡ refusedWith c 12 0 0 → Gives begin c w reply 0 w
-  unfolding beginRows verdict tableFull
-  begin-full full e = given-refused checks begin refl none (rw (le-leb 16 (placeOf (c .table) 0) full) refl) e
+abbrev laterRows : Core → List Row
+laterRows c = row 12 (tableFull c) ∷ row 13 (spent (c .next)) ∷ row 14 (leb noDisk (idlest c 2)) ∷ []
 
-  module _ (place : placeOf (c .table) 0 < 16) where
-    pub begin-spent : limit ≤ c .next → reply ≡ refusedWith c 13 0 0 → Gives begin c w reply 0 w
-    unfolding beginRows verdict tableFull spent
-    begin-spent high e =
-        given-refused checks begin refl none (rw (lt-leb 16 (placeOf (c .table) 0) place, le-leb limit (c .next) high) refl) e
+-- a begin tests no word of the state
+no-test : (counts wrong : Bool) → counts ≡ counts && (wrong || true)
+no-test true true = refl
+no-test true false = refl
+no-test false wrong = refl
 
-    module _ (low : c .next < limit) where
-      pub begin-crowded : 8 ≤ idlest c 2 → reply ≡ refusedWith c 14 0 0 → Gives begin c w reply 0 w
-      unfolding beginRows verdict tableFull spent
-      begin-crowded no-disk e =
-          given-refused checks begin refl none
-          (rw (lt-leb 16 (placeOf (c .table) 0) place, lt-leb limit (c .next) low, le-leb 8 (idlest c 2) no-disk) refl) e
+rows-begin : (c : Core) (w : World) → beginRows c w ≡ viewRows true c w (laterRows c)
+unfolding beginRows fitsOn
+rows-begin c w =
+    ap (λ (fits : Bool). row 1 (stageForbids whenServing fits c) ∷ row 2 (anchorWrong (w .anchor)) ∷ row 5 (lengthsWrong (c .sizes) (c .bases .total) w) ∷ laterRows c)
+    (no-test (countsFit c) (lengthsWrong (c .sizes) (c .bases .total) w))
 
-      pub begin-given : idlest c 2 < 8 → {core : Core} → core ≡ begun c → reply ≡ finishedWith core (c .next) → Gives begin c w reply 0 w
-      unfolding beginRows verdict tableFull spent beginTask
-      begin-given disk same e =
-          given-finished checks begin refl none
-          (rw (lt-leb 16 (placeOf (c .table) 0) place, lt-leb limit (c .next) low, lt-leb 8 (idlest c 2) disk) refl) refl refl same e
+module _ (h : Carried) (w : World) {r : ℕ}
+    (answer : r ≡ lentRefusal (whenServing (h .stage)) (h .pages) (h .disks) (h .ring) (h .total) (length (w .anchor)) (length (w .pages)) (length (w .backups)) (length (w .logs)) (length (w .work)))
+  where
+    abbrev c : Core
+    c = coreOf h (w .work)
+
+    pub begin-refused : (r ≡ 0 → ⊥) → verdict (beginRows c (bodyOf w)) ≡ rejected r 0 0
+    begin-refused some = ap verdict (rows-begin c (bodyOf w)) ∙ lent-refused h w answer some true (laterRows c)
+
+    module _ (none : r ≡ 0) where
+      first-passed : verdict (beginRows c (bodyOf w)) ≡ verdict (row 1 false ∷ row 2 (anchorWrong (w .anchor)) ∷ laterRows c)
+      first-passed = ap verdict (rows-begin c (bodyOf w)) ∙ lent-passed h w answer none true (laterRows c)
+
+      pub begin-anchor : (length (w .anchor) ≡ anchorWords → ⊥) → verdict (beginRows c (bodyOf w)) ≡ rejected 2 0 0
+      unfolding verdict anchorWrong
+      begin-anchor other = first-passed ∙ rw (ne-eqb (length (w .anchor)) anchorWords other) refl
+
+      module _ (right : length (w .anchor) ≡ anchorWords) where
+        later : verdict (beginRows c (bodyOf w)) ≡ verdict (laterRows c)
+        unfolding verdict anchorWrong
+        later = first-passed ∙ rw (eq-eqb (length (w .anchor)) anchorWords right) refl
+
+        pub begin-full : 16 ≤ placeOf (c .table) 0 → verdict (beginRows c (bodyOf w)) ≡ rejected 12 0 0
+        unfolding verdict tableFull
+        begin-full full = later ∙ rw (le-leb 16 (placeOf (c .table) 0) full) refl
+
+        module _ (place : placeOf (c .table) 0 < 16) where
+          pub begin-spent : limit ≤ h .next → verdict (beginRows c (bodyOf w)) ≡ rejected 13 0 0
+          unfolding verdict tableFull spent coreOf
+          begin-spent high = later ∙ rw (lt-leb 16 (placeOf (c .table) 0) place, le-leb limit (h .next) high) refl
+
+          module _ (low : h .next < limit) where
+            pub begin-crowded : 8 ≤ idlest c 2 → verdict (beginRows c (bodyOf w)) ≡ rejected 14 0 0
+            unfolding verdict tableFull spent coreOf
+            begin-crowded no-disk =
+                later ∙ rw (lt-leb 16 (placeOf (c .table) 0) place, lt-leb limit (h .next) low, le-leb 8 (idlest c 2) no-disk) refl
+
+            pub begin-accepted : idlest c 2 < 8 → verdict (beginRows c (bodyOf w)) ≡ accepted
+            unfolding verdict tableFull spent coreOf
+            begin-accepted disk =
+                later ∙ rw (lt-leb 16 (placeOf (c .table) 0) place, lt-leb limit (h .next) low, lt-leb 8 (idlest c 2) disk) refl
+
+-- The disk that is chosen has room: so the sum of its reserved words has room for two more.
+room-sum : (c : Core) (disk : ℕ) → hasRoom c 2 disk ≡ true → reservedOn (c .table) disk + 2 ≤ limit
+unfolding hasRoom
+room-sum c disk e =
+    let x = both (leb (endOf (c .logs) disk - keptOf (c .logs) disk + reservedOn (c .table) disk + 2) (ringOf (c .sizes) disk)) (leb (endOf (c .logs) disk + reservedOn (c .table) disk + 2) limit) e in
+    omega (arith, leb-true (endOf (c .logs) disk + reservedOn (c .table) disk + 2) limit (x .1))
+
+chosen-sum : (c : Core) → c .sizes .disks ≤ 8 → idlest c 2 < 8 → reservedOn (c .table) (idlest c 2) + 2 ≤ limit
+unfolding idlest
+chosen-sum c eight low = room-sum c (idlest c 2) (idlest-found (hasRoom c 2) (loadOf (c .logs)) (c .sizes .disks) eight low .passes)
+
+-- the kept sum is a word of the head
+sum-read : (h : Carried) (work : List ℕ) → ownWork h work ≡ true → (disk : ℕ) → disk < 8
+    → reservedOn (coreOf h work .table) disk ≡ getD work (headSums + disk) 0
+unfolding reservedOn
+sum-read h work own disk low = field-read h work own sums disk low
+
+pub chosen-word : (h : Carried) (work : List ℕ) → ownWork h work ≡ true → h .disks ≤ 8 → {disk : ℕ} → disk ≡ idlest (coreOf h work) 2 → disk < 8
+    → getD work (headSums + disk) 0 + 2 ≤ limit
+unfolding coreOf
+chosen-word h work own eight {disk} same low =
+    let fits = rw (← same) at (chosen-sum (coreOf h work) eight (omega (arith, same, low))) in
+    omega (arith, fits, sum-read h work own disk low)
+
+-- The choice among the words of the head is that of the view.
+pub idlest-words : (h : Carried) (work : List ℕ) → ownWork h work ≡ true → {disks ring : ℕ} {starts tails : List ℕ}
+    → h .disks ≡ disks → h .ring ≡ ring → h .starts ≡ starts → h .tails ≡ tails
+    → idlest (stateOf disks ring (logsOf starts tails (part headFills 8 work)) (sumsOf (part headSums 8 work))) 2 ≡ idlest (coreOf h work) 2
+idlest-words h work own disks ring starts tails =
+    rw (← disks, ← ring, ← starts, ← tails, own-view h work own) (idlest-parts (coreIn h work) 2)
+
+-- The work memory after a begin.
+pub begun-words : (h : Carried) (work : List ℕ) → ownWork h work ≡ true → {place disk sum : ℕ} → place ≡ placeOf (coreOf h work .table) 0
+    → disk ≡ idlest (coreOf h work) 2 → place < 16 → disk < 8 → sum ≡ getD work (headSums + disk) 0 + 2
+    → {after : List ℕ} → after ≡ putWords (entering place (h .next) disk 0 2 sum) work
+    → after ≡ headOf (begun (coreOf h work)) ++ drop headWords work
+unfolding begun Within coreOf
+begun-words h work own {place} {disk} {sum} p d place-low disk-low s e =
+    let c = coreOf h work in
+    let total : sum ≡ reservedOn (c .table) disk + 2 = s ∙ ap (λ (n : ℕ). n + 2) (sym (sum-read h work own disk disk-low)) in
+    let lists : headLists (begun c) ≡ putLists (entering place (h .next) disk 0 2 sum) (headLists c) =
+    rw (p, total, d) (entered-lists c (h .next + 1) (placeOf (c .table) 0) (h .next) (idlest c 2) 0 2 (reservedOn (c .table) (idlest c 2) + 2)) in
+    e ∙ ap (putWords (entering place (h .next) disk 0 2 sum)) (sym (take-append-drop headWords work))
+    ∙ head-put h work (drop headWords work) own (entering place (h .next) disk 0 2 sum)
+    (place-low, (place-low, (place-low, (place-low, (disk-low, tt))))) (begun c) lists
+
+-- what is carried after it
+abbrev numbered : Carried → Carried
+numbered h =
+    record {
+      stage = h .stage;
+      pages = h .pages;
+      disks = h .disks;
+      ring = h .ring;
+      total = h .total;
+      epoch = h .epoch;
+      next = h .next + 1;
+      copied = h .copied;
+      starts = h .starts;
+      tails = h .tails;
+      ends = h .ends;
+    }
+
+pub begin-serves : (h : Carried) (w : World) → Ready h w → verdict (beginRows (coreOf h (w .work)) (bodyOf w)) ≡ accepted
+    → {work : List ℕ} → work ≡ headOf (begun (coreOf h (w .work))) ++ drop headWords (w .work)
+    → {reply : Handed} → reply ≡ finishedTo (numbered h) 0 (h .next)
+    → Serves begin h w reply 0 (worldOf (w .anchor) (w .pages) (w .backups) (w .logs) work)
+unfolding beginTask begun coreOf bodyOf
+begin-serves h w ready ok head reply =
+    shown-finished begin h w ok refl refl (serving-ready h w ready) head {carried = numbered h} refl reply

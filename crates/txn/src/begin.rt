@@ -1,61 +1,86 @@
 // Begin: the next number, and the idlest disk with log room.
-use frame::checks::common_refusal;
-use frame::settle::finish;
-use frame::settle::refuse;
-use frame::stages::When;
-use model::Core;
-use model::Reply;
+use frame::handed::finished;
+use frame::handed::refused;
+use frame::lent::lent_refusal;
+use head::places::FILLS_AT;
+use head::places::POSITIONS_AT;
+use head::places::SUMS_AT;
+use head::table::enter;
+use head::table::place_of;
+use layout::anchor::ANCHOR_WORDS;
+use model::Carried;
+use model::Handed;
 use table::place::CLOSE_WORDS;
-use table::place::place_of;
-use table::place::put_place;
 use table::room::LIMIT;
 use table::room::idlest;
 ghost use mathlib.Core.Path.{_≡_};
-ghost use Prim.Native.Nat.{_≤_, _<_};
-ghost use Rattle.model.specs.Moments.{oldWorld};
-ghost use Rattle.model.specs.State.{placeOf, limit};
+ghost use mathlib.Core.Bool.{true};
+ghost use Prim.Native.Nat.{_≤_};
+ghost use lib.ListN.{length};
+ghost use Rattle.model.specs.declared.Carried.{Carried};
+ghost use Rattle.model.specs.World.{worldOf};
+ghost use Rattle.model.specs.Moments.{old, new, oldWorld};
 ghost use Rattle.model.specs.Room.{idlest};
-ghost use Rattle.model.specs.Transaction.{begun};
-ghost use Rattle.model.specs.Call.{begin, Gives};
+ghost use Rattle.model.specs.Call.{begin};
+ghost use Rattle.model.specs.View.{headWords, ownWork, coreOf, Serves};
 
-// The state with one more transaction, at a free place and on a disk with room.
-fn enter(core: Core, place: usize, disk: usize) -> Core
-    requires { ⌜ (place ≡ placeOf (core .table) 0) × (disk ≡ idlest core 2) × (place < 16) × (core .next < limit) ⌝ }
-    ensures { λ r. ⌜ r ≡ begun core ⌝ }
+// The disk of a new transaction, by what is carried and by the head's words of the disks; 8 where none has room.
+fn idlest_disk(disks: u64, ring: u64, starts: [u64; 8], tails: [u64; 8], work: &[u64]) -> usize
+    requires { ⌜ (disks ≤ 8) × (headWords ≤ length (now work)) ⌝ }
+    ensures { λ r. ⌜ ((h : Carried) → ownWork h (old work) ≡ true → h .disks ≡ disks → h .ring ≡ ring → h .starts ≡ starts → h .tails ≡ tails
+        → r ≡ idlest (coreOf h (old work)) 2) × (r ≤ 8) ⌝ }
 {
-    let table = put_place(core.table, place, core.next, disk as u64, 0, CLOSE_WORDS);
-    Core {
-        table,
-        next: core.next + 1,
-        ..core
-    }
+    let fills = &work[FILLS_AT..SUMS_AT];
+    let sums = &work[SUMS_AT..POSITIONS_AT];
+    idlest(disks, ring, &starts, &tails, fills, sums, CLOSE_WORDS)
 }
 
 pub fn begin(
-    core: Core,
+    mut carried: Carried,
     anchor: &[u64],
     pages: &[u64],
     backups: &[u64],
     logs: &[u64],
-    work: &[u64],
-) -> Reply
-    ensures { λ r. ⌜ Gives begin core (oldWorld anchor pages backups logs work)
-        r 0 (oldWorld anchor pages backups logs work) ⌝ }
+    work: &mut [u64],
+) -> Handed
+    ensures { λ r. ⌜ Serves begin carried (oldWorld anchor pages backups logs work)
+        r 0 (worldOf (old anchor) (old pages) (old backups) (old logs) (new work)) ⌝ }
 {
-    let refusal = common_refusal(When::Serving, core, anchor, pages, backups, logs, work);
+    let stage = carried.stage;
+    let refusal = lent_refusal(
+        stage,
+        carried.pages,
+        carried.disks,
+        carried.ring,
+        carried.total,
+        anchor.len(),
+        pages.len(),
+        backups.len(),
+        logs.len(),
+        work.len(),
+    );
     if refusal != 0 {
-        return refuse(core, refusal);
+        return refused(carried, refusal);
     }
-    let place = place_of(core.table, 0);
+    if anchor.len() != ANCHOR_WORDS {
+        return refused(carried, 2);
+    }
+    let place = place_of(work, 0);
     if place >= 16 {
-        return refuse(core, 12);
+        return refused(carried, 12);
     }
-    if core.next >= LIMIT {
-        return refuse(core, 13);
+    let number = carried.next;
+    if number >= LIMIT {
+        return refused(carried, 13);
     }
-    let disk = idlest(core, CLOSE_WORDS);
+    let starts = carried.starts;
+    let tails = carried.tails;
+    let disk = idlest_disk(carried.disks, carried.ring, starts, tails, work);
     if disk >= 8 {
-        return refuse(core, 14);
+        return refused(carried, 14);
     }
-    finish(enter(core, place, disk), core.next)
+    let sum = work[SUMS_AT + disk] + CLOSE_WORDS;
+    enter(work, place, number, disk, 0, CLOSE_WORDS, sum);
+    carried.next = number + 1;
+    finished(carried, 0, number)
 }

@@ -1,19 +1,22 @@
 // Commit: the closing record, and a flush of its disk. The slots are released with the transaction's place in the table.
-use frame::checks::common_refusal;
-use frame::home::home_of_transaction;
-use frame::home::with_disk;
-use frame::settle::refuse;
-use frame::settle::settle;
-use frame::stages::When;
+use frame::entry::find_entry;
+use frame::handed::cut;
+use frame::handed::finished;
+use frame::handed::refused;
+use frame::home::home_at;
+use frame::lent::lent_refusal;
+use head::places::HEAD_WORDS;
+use head::table::leave;
+use head::table::set_fill;
+use layout::anchor::ANCHOR_WORDS;
 use log::kinds::COMMIT;
 use log::write::Home;
 use log::write::append_close;
 use log::write::flush_disk;
-use model::Core;
-use model::Reply;
+use model::Carried;
+use model::Handed;
 use table::place::CLOSE_WORDS;
-use table::place::is_open;
-use table::place::without;
+use words::saturating_sub;
 ghost use mathlib.Core.Path.{_≡_};
 ghost use Prim.Native.Nat.{_+_, _≤_, _<_};
 ghost use lib.ListN.{length};
@@ -21,14 +24,25 @@ ghost use Rattle.model.specs.declared.Sizes.{Sizes};
 ghost use Rattle.model.specs.declared.Logs.{Logs};
 ghost use Rattle.model.specs.World.{World, worldOf};
 ghost use Rattle.model.specs.Moments.{old, new, oldWorld};
-ghost use Rattle.model.specs.State.{limit, withLog, without};
-ghost use Rattle.model.specs.Call.{commit, Gives};
+ghost use Rattle.model.specs.State.{places, limit};
+ghost use Rattle.model.specs.Call.{commit};
+ghost use Rattle.model.specs.View.{headWords, Serves};
+ghost use Rattle.model.specs.Fields.{putWords};
 ghost use Rattle.device.specs.Ran.{Ran, withSlices};
 ghost use Rattle.log.specs.Write.{Within, Lent};
-ghost use Rattle.frame.specs.Home.{withDisk};
-ghost use Rattle.txn.specs.Tasks.{closing};
+ghost use Rattle.txn.specs.Tasks.{closing, closed, commitRefusal};
 
-// Appends the closing record to its disk's log and flushes it; true if all is stored.
+// Rows 1, 2 and 9, where the lengths other than the anchor's are right.
+fn commit_refusal(entry: u64, anchor: usize) -> u64
+    ensures { λ r. ⌜ r ≡ commitRefusal entry anchor ⌝ }
+{
+    if entry == 1 {
+        return 1;
+    }
+    if anchor == ANCHOR_WORDS { entry } else { 2 }
+}
+
+// Appends the closing record to its disk's log and flushes it; true if all is stored. `work` is what lies behind the head.
 fn store_close(
     home: Home,
     number: u64,
@@ -54,23 +68,17 @@ fn store_close(
     flush_disk(logs, work, after, budget)
 }
 
-// The state without the transaction, whose disk was `home`: its log ends after the closing record, and nothing is buffered.
-fn closed_core(core: Core, number: u64, home: Home) -> Core
-    requires { ⌜ (home .disk < 8) × (home .tail + home .fill ≤ limit) ⌝ }
-    ensures { λ r. ⌜ r ≡ withLog core (withDisk (core .logs) (home .disk) (home .tail + home .fill + 2) 0) (without (core .table) number) ⌝ }
+// Nothing is buffered on the disk, and the place is free; `sum` words stay reserved.
+fn close_place(work: &mut [u64], place: usize, disk: usize, sum: u64)
+    requires { ⌜ (place < places) × (disk < 8) × (headWords ≤ length (now work)) ⌝ }
+    ensures { λ _. ⌜ new work ≡ putWords (closed place disk sum) (old work) ⌝ }
 {
-    let end = home.tail + home.fill + CLOSE_WORDS;
-    let logs = with_disk(core.logs, home.disk, end, 0);
-    let table = without(core.table, number);
-    Core {
-        logs,
-        table,
-        ..core
-    }
+    set_fill(work, disk, 0);
+    leave(work, place, disk, sum);
 }
 
 pub fn commit(
-    core: Core,
+    mut carried: Carried,
     number: u64,
     anchor: &[u64],
     pages: &[u64],
@@ -78,22 +86,39 @@ pub fn commit(
     logs: &mut [u64],
     work: &mut [u64],
     budget: &mut u64,
-) -> Reply
-    ensures { λ r. ⌜ Gives (commit number (old budget)) core (oldWorld anchor pages backups logs work)
+) -> Handed
+    ensures { λ r. ⌜ Serves (commit number (old budget)) carried (oldWorld anchor pages backups logs work)
         r (new budget) (worldOf (old anchor) (old pages) (old backups) (new logs) (new work)) ⌝ }
 {
-    let refusal = common_refusal(When::Serving, core, anchor, pages, backups, logs, work);
+    let stage = carried.stage;
+    let refusal = lent_refusal(
+        stage,
+        carried.pages,
+        carried.disks,
+        carried.ring,
+        carried.total,
+        anchor.len(),
+        pages.len(),
+        backups.len(),
+        logs.len(),
+        work.len(),
+    );
     if refusal != 0 {
-        return refuse(core, refusal);
+        return refused(carried, refusal);
     }
-    if !is_open(core.table, number) {
-        return refuse(core, 9);
+    let tails = carried.tails;
+    let entry = find_entry(work, carried.disks, tails, number);
+    let row = commit_refusal(entry.refusal, anchor.len());
+    if row != 0 {
+        return refused(carried, row);
     }
     let before = *budget;
-    let home = home_of_transaction(core, work.len(), number);
-    if !store_close(home, number, logs, work, budget) {
-        return settle(false, before, *budget, 0, core);
+    let home = home_at(carried.ring, entry.disk, entry.tail, entry.fill);
+    if !store_close(home, number, logs, &mut work[HEAD_WORDS..], budget) {
+        return cut(saturating_sub(before, *budget));
     }
-    let next = closed_core(core, number, home);
-    settle(true, before, *budget, 0, next)
+    let disk = entry.disk as usize;
+    close_place(work, entry.place, disk, entry.sum - entry.reserved);
+    carried.tails[disk] = entry.tail + entry.fill + CLOSE_WORDS;
+    finished(carried, saturating_sub(before, *budget), 0)
 }

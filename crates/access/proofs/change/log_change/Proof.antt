@@ -1,45 +1,57 @@
--- `access::change::log_change` meets its contract: a difference, then an append. Assumes nothing.
-use mathlib.Core.Path.{_≡_, sym, ap, _∙_}
+-- `access::change::log_change` meets its contract: behind what is buffered, or after a flush, which may be cut. Assumes nothing.
+use native.Mathlib.Omega.{arith}
 use lib.ListN.{length}
-use Rattle.access.proofs.Differences.{difference-length, difference-taken}
+use borrow.Author.Tests.{not-true, not-false}
+use Rattle.model.specs.Word.{xors, part}
+use Rattle.model.specs.Record.{encode}
+use Rattle.log.specs.Write.{changeOf}
+use Rattle.log.proofs.Append.{put-fits, put-cut, put-flushed}
+use Rattle.access.proofs.Differences.{record-length}
 use borrow.Author.Needs.{needs}
 use Rattle.access.proofs.change.log_change.Statement.{statement}
 use Rattle.access.proofs.change.log_change.Tie as tie
 
-slice-aggregate-append-change : tie.Need-slice-aggregate-append-change
-slice-aggregate-append-change c =
-    let start = c .before .before .before .before .before .before .before .before .before .before in
-    let x = start .args in
-    sym
-    (ap length (difference-taken (x .at) (x .value .now) (x .pages .now) (start .pre .2) (start .pre .1 .width-small) (c .before .before .before .before .difference .ensures))
-    ∙ difference-length (x .at) (x .value .now) (x .pages .now) (start .pre .2))
-
-append-change-requires : tie.Need-append-change-requires
-append-change-requires c κs =
-    let start = c .before .before .before .before .before .before .before .before .before .before .before in
-    let x = start .args in
-    let built = difference-taken (x .at) (x .value .now) (x .pages .now) (start .pre .2) (start .pre .1 .width-small) (c .before .before .before .before .before .difference .ensures) in
-    let long = difference-length (x .at) (x .value .now) (x .pages .now) (start .pre .2) in
-    (start .pre .0, rw (built, long) (start .pre .1))
-
 returns : tie.Need-returns
-returns c =
+returns c = λ s l w lent.
+    let start = c .before .before .before .before .before .before .before .before .before in
+    let x = start .args in
+    let words = encode (changeOf (x .head) (xors (part (x .at) (length (x .value .now)) (x .pages .now)) (x .value .now))) in
+    let long = record-length (x .at) (x .value .now) (x .pages .now) (start .pre .2) (x .head) in
+    rw long at (put-fits lent words (omega (arith, long, c .before .before .before .before .if1 .taken)) (x .budget .now) _ (c .before .before .put-change .ensures))
+
+returns-2 : tie.Need-returns-2
+returns-2 c = λ s l w lent.
+    let start = c .before .before .before .before .before .before .before .before .before .before .before .before in
+    let x = start .args in
+    let words = encode (changeOf (x .head) (xors (part (x .at) (length (x .value .now)) (x .pages .now)) (x .value .now))) in
+    let long = record-length (x .at) (x .value .now) (x .pages .now) (start .pre .2) (x .head) in
+    put-cut lent words (omega (arith, long, c .before .before .before .before .before .before .before .if1 .left)) (c .before .before .before .flush-disk .ensures s l w lent) (not-true _ (c .if2 .taken))
+
+returns-3 : tie.Need-returns-3
+returns-3 c = λ s l w lent.
     let start = c .before .before .before .before .before .before .before .before .before .before .before .before .before .before .before .before in
     let x = start .args in
-    let built = difference-taken (x .at) (x .value .now) (x .pages .now) (start .pre .2) (start .pre .1 .width-small) (c .before .before .before .before .before .before .before .before .before .before .difference .ensures) in
-    let long = difference-length (x .at) (x .value .now) (x .pages .now) (start .pre .2) in
-    let append = c .before .before .before .before .append-change in
-    (λ s l w lent. rw (← built) (append .ensures .0 s l w lent), rw (built, long) at (append .ensures .1))
+    let words = encode (changeOf (x .head) (xors (part (x .at) (length (x .value .now)) (x .pages .now)) (x .value .now))) in
+    let long = record-length (x .at) (x .value .now) (x .pages .now) (start .pre .2) (x .head) in
+    rw long at (put-flushed lent words (omega (arith, long, c .before .before .before .before .before .before .before .before .before .before .before .if1 .left)) (c .before .before .before .before .before .before .before .flush-disk .ensures s l w lent) _ (not-false _ (c .before .before .before .before .if2 .left)) (c .before .before .put-change2 .ensures))
 
 pub log-change-spec : {M : Type 1} → statement M
 log-change-spec =
     tie.close
     (tie.spec
     (λ c. search needs)
+    (λ c. search needs)
+    (λ c. search needs)
     (λ c κs. search needs)
     (λ c. search needs)
-    slice-aggregate-append-change
-    append-change-requires
+    (λ c. search needs)
+    returns
+    (λ c κs. search needs)
     (λ c. search needs)
     (λ c. search needs)
-    returns)
+    returns-2
+    (λ c κs. search needs)
+    (λ c. search needs)
+    (λ c. search needs)
+    (λ c. search needs)
+    returns-3)

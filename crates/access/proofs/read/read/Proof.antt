@@ -1,32 +1,27 @@
 -- `access::read::read` meets its contract: a slot that is there lies in the page memory. Assumes nothing.
 use mathlib.Core.Path.{refl}
-use native.Mathlib.Omega.{arith}
-use borrow.Author.Tests.{ne-eqb}
 use Rattle.model.specs.World.{worldOf}
-use Rattle.model.specs.Refusal.{verdict}
-use Rattle.model.specs.Transaction.{slotWords, readRows, readWords}
-use Rattle.access.proofs.Reading.{read-taken, taken-number}
+use Rattle.access.proofs.Readings.{read-none, read-words}
 use borrow.Author.Needs.{needs}
 use Rattle.access.proofs.read.read.Statement.{statement}
 use Rattle.access.proofs.read.read.Tie as tie
 
 returns : tie.Need-returns
-unfolding readWords slotWords
-returns c = rw (c .before .before .read-refusal .ensures, ne-eqb (c .before .before .read-refusal .result) 0 (c .before .if1 .taken)) refl
+returns c =
+    let x = c .before .before .before .before .before .before .before .before .before .args in
+    let w = worldOf (x .anchor .now) (x .pages .now) (x .backups .now) (x .logs .now) (x .work .now) in
+    read-none (x .carried) w (c .before .before .before .readable .ensures (x .carried) (record { same-stage = refl; same-pages = refl; same-disks = refl; same-ring = refl; same-total = refl })) (c .before .if1 .taken)
 
 slot-part-requires : tie.Need-slot-part-requires
 slot-part-requires c κs =
-    let x = c .before .before .before .before .before .before .before .args in
-    let w = (worldOf (x .anchor .now) (x .pages .now) (x .backups .now) (x .logs .now) (x .work .now)) in
-    let taken = read-taken (x .core) w (x .reader) (x .page) (x .slot) (taken-number {v = verdict (readRows (x .core) w (x .reader) (x .page) (x .slot))} (c .before .read-refusal .ensures) (c .if1 .left)) in
-    (taken .0 .page-small, omega (arith, taken .0 .slot-small), taken .1)
+    let x = c .before .before .before .before .before .before .before .before .args in
+    c .before .before .readable .ensures (x .carried) (record { same-stage = refl; same-pages = refl; same-disks = refl; same-ring = refl; same-total = refl }) .within (c .if1 .left)
 
 returns-2 : tie.Need-returns-2
-unfolding readWords slotWords
 returns-2 c =
-    let x = c .before .before .before .before .before .before .before .before .args in
-    let w = (worldOf (x .anchor .now) (x .pages .now) (x .backups .now) (x .logs .now) (x .work .now)) in
-    rw (taken-number {v = verdict (readRows (x .core) w (x .reader) (x .page) (x .slot))} (c .before .before .read-refusal .ensures) (c .before .if1 .left)) (c .slot-part .ensures)
+    let x = c .before .before .before .before .before .before .before .before .before .args in
+    let w = worldOf (x .anchor .now) (x .pages .now) (x .backups .now) (x .logs .now) (x .work .now) in
+    read-words (x .carried) w (c .before .before .before .readable .ensures (x .carried) (record { same-stage = refl; same-pages = refl; same-disks = refl; same-ring = refl; same-total = refl })) (c .before .if1 .left) (c .slot-part .ensures)
 
 pub read-spec : {M : Type 1} → statement M
 read-spec =

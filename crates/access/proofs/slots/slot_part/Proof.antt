@@ -10,18 +10,9 @@ use Rattle.access.proofs.slots.slot_part.Tie as tie
 returns : tie.Need-returns
 unfolding part
 returns c =
-    let all : c .before .before .slot-base .result + c .before .slot-width .result - c .before .before .slot-base .result ≡ c .before .slot-width .result = omega arith in
-    rw (all, c .before .slot-width .ensures .0, c .before .before .slot-base .ensures .0) refl
+    let x = c .before .args in
+    let all : x .at + x .width - x .at ≡ x .width = omega arith in
+    rw all refl
 
 pub slot-part-spec : {M : Type 1} → statement M
-slot-part-spec =
-    tie.close
-    (tie.spec
-    (λ c κs. search needs)
-    (λ c κs. search needs)
-    (λ c. search needs)
-    (λ c. search needs)
-    (λ c. search needs)
-    (λ c. search needs)
-    (λ c. search needs)
-    returns)
+slot-part-spec = tie.close (tie.spec (λ c. search needs) (λ c. search needs) (λ c. search needs) (λ c. search needs) (λ c. search needs) returns)

@@ -1,73 +1,128 @@
 -- `txn::commit::commit` meets its contract: each refusal is the first row that applies, and then the task. Assumes nothing.
-use mathlib.Core.Path.{_≡_, refl, sym, _∙_}
-use mathlib.Core.Bool.{true, false}
+use mathlib.Core.Path.{_≡_, refl}
 use native.Mathlib.Omega.{arith}
+use lib.ListN.{length}
 use borrow.Author.Tests.{not-true, not-false}
-use Rattle.model.specs.State.{endOf}
-use Rattle.model.specs.Transaction.{diskOf, commitRows}
+use Rattle.model.specs.World.{worldOf}
 use Rattle.model.specs.Call.{commit}
-use Rattle.model.proofs.Booleans.{true-false}
-use Rattle.model.proofs.Store.Accepted.{disks-max, open-entry, open-below, own-room}
-use Rattle.frame.specs.Home.{homeOf}
-use Rattle.frame.proofs.Given.{given-first}
-use Rattle.frame.proofs.Homes.{serves-common, lent-there, within-there, disk-there}
-use Rattle.txn.proofs.Committing.{commit-unopened, commit-given}
+use Rattle.frame.proofs.Behind.{lent-behind, behind-back}
+use Rattle.frame.proofs.FirstChecks.{lent-ready, own-ready}
+use Rattle.frame.proofs.Shown.{shown-refused}
+use Rattle.txn.proofs.Committing.{commit-refused, commit-row, commit-standing, home-standing, close-fits, commit-cut, commit-whole}
 use borrow.Author.Needs.{needs}
 use Rattle.txn.proofs.commit.commit.Statement.{statement}
 use Rattle.txn.proofs.commit.commit.Tie as tie
 
+-- a tail for each disk, by the type
+eight : (c : tie.Start) → length (c .args .t1 .tails) ≡ 8
+eight c = search needs
+
 returns : tie.Need-returns
-unfolding commitRows
-returns c = given-first (c .before .before .common-refusal .ensures) (commit _ _) refl (c .before .if1 .taken) (c .refuse .ensures)
+returns c = shown-refused (commit _ _) _ _ (commit-refused _ _ _ (c .before .before .lent-refusal .ensures) (c .before .if1 .taken)) (c .refused .ensures)
+
+find-entry-requires : tie.Need-find-entry-requires
+find-entry-requires c κs =
+    let x = c .before .before .before .before .before .before .before .before .before .args in
+    let w = worldOf (x .anchor .now) (x .pages .now) (x .backups .now) (x .logs .now) (x .work .now) in
+    let ready = lent-ready (x .t1) w (c .before .before .before .lent-refusal .ensures) (c .before .before .if1 .left) in
+    (ready .counts .disks-max, omega (arith, ready .work))
 
 returns-2 : tie.Need-returns-2
-returns-2 c = commit-unopened (c .before .before .before .before .common-refusal .ensures) (c .before .before .before .if1 .left) _ _ (sym (c .before .before .is-open .ensures) ∙ not-true _ (c .before .if2 .taken)) (c .refuse2 .ensures)
+returns-2 c =
+    let x = c .before .before .before .before .before .before .before .before .before .before .before .before .before .args in
+    let w = worldOf (x .anchor .now) (x .pages .now) (x .backups .now) (x .logs .now) (x .work .now) in
+    let own = own-ready (x .t1) w (lent-ready (x .t1) w (c .before .before .before .before .before .before .before .lent-refusal .ensures) (c .before .before .before .before .before .before .if1 .left)) in
+    shown-refused (commit (x .number) (x .budget .now)) (x .t1) w
+    (commit-row (x .t1) w (x .number) (c .before .before .before .before .before .before .before .lent-refusal .ensures) (c .before .before .before .before .before .before .if1 .left) (c .before .before .before .find-entry .ensures (x .t1) own refl refl .refusal)
+    (c .before .before .commit-refusal .ensures) (c .before .if2 .taken)) (c .refused2 .ensures)
 
-home-of-transaction-requires : tie.Need-home-of-transaction-requires
-home-of-transaction-requires c κs =
-    let serves = serves-common (c .before .before .before .before .common-refusal .ensures) (c .before .before .before .if1 .left) in
-    (serves .state, sym (c .before .before .is-open .ensures) ∙ not-false _ (c .before .if2 .left), serves .work-words)
+home-at-requires : tie.Need-home-at-requires
+home-at-requires c κs =
+    let x = c .before .before .before .before .before .before .before .before .before .before .before .before .before .args in
+    let w = worldOf (x .anchor .now) (x .pages .now) (x .backups .now) (x .logs .now) (x .work .now) in
+    let s = commit-standing (x .t1) w (x .number) (c .before .before .before .before .before .before .before .lent-refusal .ensures) (c .before .before .before .before .before .before .if1 .left) (λ own. c .before .before .before .find-entry .ensures (x .t1) own refl refl) (c .before .before .commit-refusal .ensures) (c .before .if2 .left) in
+    (s .low, s .ready .counts .ring-max)
+
+sub-store-close : tie.Need-sub-store-close
+sub-store-close c =
+    let x = c .before .before .before .before .before .before .before .before .before .before .before .before .before .before .before .args in
+    let w = worldOf (x .anchor .now) (x .pages .now) (x .backups .now) (x .logs .now) (x .work .now) in
+    let s = commit-standing (x .t1) w (x .number) (c .before .before .before .before .before .before .before .before .before .lent-refusal .ensures) (c .before .before .before .before .before .before .before .before .if1 .left) (λ own. c .before .before .before .before .before .find-entry .ensures (x .t1) own refl refl) (c .before .before .before .before .commit-refusal .ensures) (c .before .before .before .if2 .left) in
+    omega (arith, s .ready .work)
+
+part-store-close-start : tie.Need-part-store-close-start
+part-store-close-start c =
+    let x = c .before .before .before .before .before .before .before .before .before .before .before .before .before .before .before .args in
+    let w = worldOf (x .anchor .now) (x .pages .now) (x .backups .now) (x .logs .now) (x .work .now) in
+    let s = commit-standing (x .t1) w (x .number) (c .before .before .before .before .before .before .before .before .before .lent-refusal .ensures) (c .before .before .before .before .before .before .before .before .if1 .left) (λ own. c .before .before .before .before .before .find-entry .ensures (x .t1) own refl refl) (c .before .before .before .before .commit-refusal .ensures) (c .before .before .before .if2 .left) in
+    omega (arith, s .ready .work)
 
 store-close-requires : tie.Need-store-close-requires
-unfolding homeOf endOf
 store-close-requires c κs =
-    let x = c .before .before .before .before .before .before .before .before .before .before .before .before .before .before .before .before .args in
-    let serves = serves-common (c .before .before .before .before .before .before .before .before .common-refusal .ensures) (c .before .before .before .before .before .before .before .if1 .left) in
-    let opened = sym (c .before .before .before .before .before .before .is-open .ensures) ∙ not-false _ (c .before .before .before .before .before .if2 .left) in
-    let home = c .before .before .before .home-of-transaction .ensures .0 in (
-      within-there (x .core) (diskOf (x .core) (x .number)) home _ _ serves (open-below (x .core) (x .number) (serves .state) opened),
-      rw home (own-room (x .core) (x .number) (serves .state) opened 2 (open-entry (x .core) (x .number) (serves .state) opened .sound .reserved) .1),
-    )
+    let x = c .before .before .before .before .before .before .before .before .before .before .before .before .before .before .before .before .before .args in
+    let w = worldOf (x .anchor .now) (x .pages .now) (x .backups .now) (x .logs .now) (x .work .now) in
+    let s = commit-standing (x .t1) w (x .number) (c .before .before .before .before .before .before .before .before .before .before .before .lent-refusal .ensures) (c .before .before .before .before .before .before .before .before .before .before .if1 .left) (λ own. c .before .before .before .before .before .before .before .find-entry .ensures (x .t1) own refl refl) (c .before .before .before .before .before .before .commit-refusal .ensures) (c .before .before .before .before .before .if2 .left) in
+    close-fits (x .t1) w (x .number) (x .budget .now) s (home-standing (x .t1) w (x .number) (x .budget .now) s (c .before .before .before .home-at .ensures)) (lent-behind (x .work .now))
 
 returns-3 : tie.Need-returns-3
 returns-3 c =
-    let x = c .before .before .before .before .before .before .before .before .before .before .before .before .before .before .before .before .before .before .before .before .before .before .before .args in
-    let home = c .before .before .before .before .before .before .before .before .before .before .home-of-transaction .ensures in
-    let cut : c .before .before .before .before .before .before .store-close .result ≡ false = not-true _ (c .before .if3 .taken) in
-    commit-given (c .before .before .before .before .before .before .before .before .before .before .before .before .before .before .before .common-refusal .ensures) (c .before .before .before .before .before .before .before .before .before .before .before .before .before .before .if1 .left) (x .number) (x .budget .now)
-    (sym (c .before .before .before .before .before .before .before .before .before .before .before .before .before .is-open .ensures) ∙ not-false _ (c .before .before .before .before .before .before .before .before .before .before .before .before .if2 .left)) (record { starts = home .1 .0; tails = home .1 .1; fills = home .1 .2 }) (home .0)
-    (c .before .before .before .before .before .before .store-close .ensures (x .core .sizes) (x .core .logs) _ (lent-there (x .core .sizes) (x .core .logs) _ (home .0) _ refl refl))
-    {core = x .core} (λ f. true-false f cut) (rw cut (c .settle .ensures))
+    let x = c .before .before .before .before .before .before .before .before .before .before .before .before .before .before .before .before .before .before .before .before .before .before .before .before .before .args in
+    let w = worldOf (x .anchor .now) (x .pages .now) (x .backups .now) (x .logs .now) (x .work .now) in
+    let s = commit-standing (x .t1) w (x .number) (c .before .before .before .before .before .before .before .before .before .before .before .before .before .before .before .before .before .before .before .lent-refusal .ensures) (c .before .before .before .before .before .before .before .before .before .before .before .before .before .before .before .before .before .before .if1 .left) (λ own. c .before .before .before .before .before .before .before .before .before .before .before .before .before .before .before .find-entry .ensures (x .t1) own refl refl) (c .before .before .before .before .before .before .before .before .before .before .before .before .before .before .commit-refusal .ensures) (c .before .before .before .before .before .before .before .before .before .before .before .before .before .if2 .left) in
+    let home = home-standing (x .t1) w (x .number) (x .budget .now) s (c .before .before .before .before .before .before .before .before .before .before .before .home-at .ensures) in
+    commit-cut (x .t1) w (x .number) (x .budget .now) s (eight (c .before .before .before .before .before .before .before .before .before .before .before .before .before .before .before .before .before .before .before .before .before .before .before .before .before)) home (lent-behind (x .work .now)) (c .before .before .before .before .before .before .before .store-close .ensures) (not-true _ (c .before .before .if3 .taken)) (behind-back (x .work .now) _)
+    (rw (← c .before .saturating-sub .ensures) (c .cut .ensures))
 
-closed-core-requires : tie.Need-closed-core-requires
-closed-core-requires c κs =
-    let x = c .before .before .before .before .before .before .before .before .before .before .before .before .before .before .before .before .before .before .before .before .before .before .args in
-    let serves = serves-common (c .before .before .before .before .before .before .before .before .before .before .before .before .before .before .common-refusal .ensures) (c .before .before .before .before .before .before .before .before .before .before .before .before .before .if1 .left) in
-    let below = open-below (x .core) (x .number) (serves .state) (sym (c .before .before .before .before .before .before .before .before .before .before .before .before .is-open .ensures) ∙ not-false _ (c .before .before .before .before .before .before .before .before .before .before .before .if2 .left)) in
-    let home = c .before .before .before .before .before .before .before .before .before .home-of-transaction .ensures .0 in (
-      omega (arith, disk-there (x .core .sizes) (x .core .logs) (diskOf (x .core) (x .number)) home, below, disks-max (x .core) (serves .state)),
-      omega (arith, within-there (x .core) (diskOf (x .core) (x .number)) home (x .logs .now) (x .work .now) serves below .end-small),
-    )
+sub-close-place : tie.Need-sub-close-place
+sub-close-place c =
+    let x = c .before .before .before .before .before .before .before .before .before .before .before .before .before .before .before .before .before .before .before .before .before .before .before .before .before .args in
+    let w = worldOf (x .anchor .now) (x .pages .now) (x .backups .now) (x .logs .now) (x .work .now) in
+    let s = commit-standing (x .t1) w (x .number) (c .before .before .before .before .before .before .before .before .before .before .before .before .before .before .before .before .before .before .before .lent-refusal .ensures) (c .before .before .before .before .before .before .before .before .before .before .before .before .before .before .before .before .before .before .if1 .left) (λ own. c .before .before .before .before .before .before .before .before .before .before .before .before .before .before .before .find-entry .ensures (x .t1) own refl refl) (c .before .before .before .before .before .before .before .before .before .before .before .before .before .before .commit-refusal .ensures) (c .before .before .before .before .before .before .before .before .before .before .before .before .before .if2 .left) in
+    s .placed .own-part
+
+close-place-requires : tie.Need-close-place-requires
+close-place-requires c κs =
+    let x = c .before .before .before .before .before .before .before .before .before .before .before .before .before .before .before .before .before .before .before .before .before .before .before .before .before .args in
+    let w = worldOf (x .anchor .now) (x .pages .now) (x .backups .now) (x .logs .now) (x .work .now) in
+    let s = commit-standing (x .t1) w (x .number) (c .before .before .before .before .before .before .before .before .before .before .before .before .before .before .before .before .before .before .before .lent-refusal .ensures) (c .before .before .before .before .before .before .before .before .before .before .before .before .before .before .before .before .before .before .if1 .left) (λ own. c .before .before .before .before .before .before .before .before .before .before .before .before .before .before .before .find-entry .ensures (x .t1) own refl refl) (c .before .before .before .before .before .before .before .before .before .before .before .before .before .before .commit-refusal .ensures) (c .before .before .before .before .before .before .before .before .before .before .before .before .before .if2 .left) in
+    (s .found .low, s .low, omega (arith, s .ready .work))
+
+add-carried : tie.Need-add-carried
+add-carried c =
+    let x = c .before .before .before .before .before .before .before .before .before .before .before .before .before .before .before .before .before .before .before .before .before .before .before .before .before .before .before .before .before .args in
+    let w = worldOf (x .anchor .now) (x .pages .now) (x .backups .now) (x .logs .now) (x .work .now) in
+    let s = commit-standing (x .t1) w (x .number) (c .before .before .before .before .before .before .before .before .before .before .before .before .before .before .before .before .before .before .before .before .before .before .before .lent-refusal .ensures) (c .before .before .before .before .before .before .before .before .before .before .before .before .before .before .before .before .before .before .before .before .before .before .if1 .left) (λ own. c .before .before .before .before .before .before .before .before .before .before .before .before .before .before .before .before .before .before .before .find-entry .ensures (x .t1) own refl refl) (c .before .before .before .before .before .before .before .before .before .before .before .before .before .before .before .before .before .before .commit-refusal .ensures) (c .before .before .before .before .before .before .before .before .before .before .before .before .before .before .before .before .before .if2 .left) in
+    omega (arith, s .placed .end-small)
+
+add-carried-2 : tie.Need-add-carried-2
+add-carried-2 c =
+    let x = c .before .before .before .before .before .before .before .before .before .before .before .before .before .before .before .before .before .before .before .before .before .before .before .before .before .before .before .before .before .args in
+    let w = worldOf (x .anchor .now) (x .pages .now) (x .backups .now) (x .logs .now) (x .work .now) in
+    let s = commit-standing (x .t1) w (x .number) (c .before .before .before .before .before .before .before .before .before .before .before .before .before .before .before .before .before .before .before .before .before .before .before .lent-refusal .ensures) (c .before .before .before .before .before .before .before .before .before .before .before .before .before .before .before .before .before .before .before .before .before .before .if1 .left) (λ own. c .before .before .before .before .before .before .before .before .before .before .before .before .before .before .before .before .before .before .before .find-entry .ensures (x .t1) own refl refl) (c .before .before .before .before .before .before .before .before .before .before .before .before .before .before .before .before .before .before .commit-refusal .ensures) (c .before .before .before .before .before .before .before .before .before .before .before .before .before .before .before .before .before .if2 .left) in
+    omega (arith, s .placed .end-small, s .placed .own-min, s .placed .own-part)
+
+mul-carried : tie.Need-mul-carried
+mul-carried c =
+    let x = c .before .before .before .before .before .before .before .before .before .before .before .before .before .before .before .before .before .before .before .before .before .before .before .before .before .before .before .before .before .args in
+    let w = worldOf (x .anchor .now) (x .pages .now) (x .backups .now) (x .logs .now) (x .work .now) in
+    let s = commit-standing (x .t1) w (x .number) (c .before .before .before .before .before .before .before .before .before .before .before .before .before .before .before .before .before .before .before .before .before .before .before .lent-refusal .ensures) (c .before .before .before .before .before .before .before .before .before .before .before .before .before .before .before .before .before .before .before .before .before .before .if1 .left) (λ own. c .before .before .before .before .before .before .before .before .before .before .before .before .before .before .before .before .before .before .before .find-entry .ensures (x .t1) own refl refl) (c .before .before .before .before .before .before .before .before .before .before .before .before .before .before .before .before .before .before .commit-refusal .ensures) (c .before .before .before .before .before .before .before .before .before .before .before .before .before .before .before .before .before .if2 .left) in
+    omega (arith, s .low)
+
+element-write-carried : tie.Need-element-write-carried
+element-write-carried c =
+    let x = c .before .before .before .before .before .before .before .before .before .before .before .before .before .before .before .before .before .before .before .before .before .before .before .before .before .before .before .before .before .args in
+    let w = worldOf (x .anchor .now) (x .pages .now) (x .backups .now) (x .logs .now) (x .work .now) in
+    let s = commit-standing (x .t1) w (x .number) (c .before .before .before .before .before .before .before .before .before .before .before .before .before .before .before .before .before .before .before .before .before .before .before .lent-refusal .ensures) (c .before .before .before .before .before .before .before .before .before .before .before .before .before .before .before .before .before .before .before .before .before .before .if1 .left) (λ own. c .before .before .before .before .before .before .before .before .before .before .before .before .before .before .before .before .before .before .before .find-entry .ensures (x .t1) own refl refl) (c .before .before .before .before .before .before .before .before .before .before .before .before .before .before .before .before .before .before .commit-refusal .ensures) (c .before .before .before .before .before .before .before .before .before .before .before .before .before .before .before .before .before .if2 .left) in
+    s .low
 
 returns-4 : tie.Need-returns-4
 returns-4 c =
-    let x = c .before .before .before .before .before .before .before .before .before .before .before .before .before .before .before .before .before .before .before .before .before .before .before .before .args in
-    let home = c .before .before .before .before .before .before .before .before .before .before .before .home-of-transaction .ensures in
-    let whole : c .before .before .before .before .before .before .before .store-close .result ≡ true = not-false _ (c .before .before .if3 .left) in
-    commit-given (c .before .before .before .before .before .before .before .before .before .before .before .before .before .before .before .before .common-refusal .ensures) (c .before .before .before .before .before .before .before .before .before .before .before .before .before .before .before .if1 .left) (x .number) (x .budget .now)
-    (sym (c .before .before .before .before .before .before .before .before .before .before .before .before .before .before .is-open .ensures) ∙ not-false _ (c .before .before .before .before .before .before .before .before .before .before .before .before .before .if2 .left)) (record { starts = home .1 .0; tails = home .1 .1; fills = home .1 .2 }) (home .0)
-    (c .before .before .before .before .before .before .before .store-close .ensures (x .core .sizes) (x .core .logs) _ (lent-there (x .core .sizes) (x .core .logs) _ (home .0) _ refl refl))
-    (λ _. c .before .closed-core .ensures) (rw whole (c .settle2 .ensures))
+    let x = c .before .before .before .before .before .before .before .before .before .before .before .before .before .before .before .before .before .before .before .before .before .before .before .before .before .before .before .before .before .before .before .args in
+    let w = worldOf (x .anchor .now) (x .pages .now) (x .backups .now) (x .logs .now) (x .work .now) in
+    let s = commit-standing (x .t1) w (x .number) (c .before .before .before .before .before .before .before .before .before .before .before .before .before .before .before .before .before .before .before .before .before .before .before .before .before .lent-refusal .ensures) (c .before .before .before .before .before .before .before .before .before .before .before .before .before .before .before .before .before .before .before .before .before .before .before .before .if1 .left) (λ own. c .before .before .before .before .before .before .before .before .before .before .before .before .before .before .before .before .before .before .before .before .before .find-entry .ensures (x .t1) own refl refl) (c .before .before .before .before .before .before .before .before .before .before .before .before .before .before .before .before .before .before .before .before .commit-refusal .ensures) (c .before .before .before .before .before .before .before .before .before .before .before .before .before .before .before .before .before .before .before .if2 .left) in
+    let home = home-standing (x .t1) w (x .number) (x .budget .now) s (c .before .before .before .before .before .before .before .before .before .before .before .before .before .before .before .before .before .home-at .ensures) in
+    commit-whole (x .t1) w (x .number) (x .budget .now) s (eight (c .before .before .before .before .before .before .before .before .before .before .before .before .before .before .before .before .before .before .before .before .before .before .before .before .before .before .before .before .before .before .before)) home (lent-behind (x .work .now)) (c .before .before .before .before .before .before .before .before .before .before .before .before .before .store-close .ensures) (not-false _ (c .before .before .before .before .before .before .before .before .if3 .left)) (behind-back (x .work .now) _)
+    (c .before .before .before .before .before .close-place .ensures) (rw (← c .before .saturating-sub2 .ensures) (c .finished .ensures))
 
 pub commit-spec : {M : Type 1} → statement M
 commit-spec =
@@ -75,21 +130,29 @@ commit-spec =
     (tie.spec
     (λ c κs. search needs)
     (λ c κs. search needs)
-    (λ c. search needs)
-    (λ c. search needs)
     returns
+    find-entry-requires
     (λ c κs. search needs)
     (λ c κs. search needs)
-    (λ c. search needs)
     (λ c. search needs)
     returns-2
-    home-of-transaction-requires
+    home-at-requires
+    sub-store-close
+    part-store-close-start
+    (λ c. search needs)
     store-close-requires
+    (λ c κs. search needs)
     (λ c κs. search needs)
     (λ c. search needs)
     (λ c. search needs)
     returns-3
-    closed-core-requires
+    sub-close-place
+    close-place-requires
+    add-carried
+    add-carried-2
+    mul-carried
+    element-write-carried
+    (λ c κs. search needs)
     (λ c κs. search needs)
     (λ c. search needs)
     (λ c. search needs)

@@ -1,7 +1,7 @@
 -- `txn::commit::store_close` meets its contract: an append, and a flush of what it left. Assumes nothing.
 use borrow.Author.Tests.{not-true, not-false}
 use Rattle.log.proofs.Next.{appended-lent, appended-within}
-use Rattle.txn.proofs.Committing.{closing-cut, closing-flushed}
+use Rattle.txn.proofs.Committed.{closing-cut, closing-flushed}
 use borrow.Author.Needs.{needs}
 use Rattle.txn.proofs.commit.store_close.Statement.{statement}
 use Rattle.txn.proofs.commit.store_close.Tie as tie

@@ -1,8 +1,8 @@
--- `access::change::first_position` meets its contract: by cases on whether there is an update. Assumes nothing.
+-- `access::plan::first_position` meets its contract: by cases on whether there is an update. Assumes nothing.
 use mathlib.Core.Path.{refl}
 use borrow.Author.Tests.{lt-ltb, le-ltb}
-use Rattle.access.proofs.change.first_position.Statement.{statement}
-use Rattle.access.proofs.change.first_position.Tie as tie
+use Rattle.access.proofs.plan.first_position.Statement.{statement}
+use Rattle.access.proofs.plan.first_position.Tie as tie
 
 returns : tie.Need-returns
 returns c = rw (lt-ltb _ _ (c .if1 .taken)) refl
