@@ -22,7 +22,8 @@ use Rattle.model.proofs.Faults.{fault-end, fault-own, fault-rest}
 use Rattle.model.proofs.RingThenBuffer.{parts-as-one, parts-end}
 use Rattle.model.proofs.Growth.{tail-end, kept-le}
 use Rattle.model.proofs.Updates.{abort-words}
-use Rattle.model.proofs.Store.Rows.{sizes-sound, disk-sound}
+use Rattle.model.proofs.KeptBases.{total-kept}
+use Rattle.model.proofs.Store.Rows.{sizes-sound, bases-sound, disk-sound}
 use Rattle.model.proofs.Store.Accepted.{small-buffers, open-entry, open-below, own-room, disks-max}
 use Rattle.frame.specs.Home.{Serves}
 use Rattle.abort.specs.declared.scope.Scope.{Scope}
@@ -41,7 +42,7 @@ module _ (c : Core) (number : ℕ) {logs work : List ℕ} (serves : Serves c log
         sizes = sizes-sound c (serves .state);
         disk-below = below;
         log-words = serves .log-words;
-        work-words = serves .work-words;
+        work-words = rw (total-kept c (bases-sound c (serves .state))) at (serves .work-words);
         fills-small = small-buffers c (serves .state);
         end-small = omega (arith, disk-sound c (diskOf c number) (serves .state) below .limit);
       }

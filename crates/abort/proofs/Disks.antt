@@ -10,10 +10,10 @@ use Rattle.model.specs.Sizes.{total}
 use Rattle.model.specs.Word.{part}
 use Rattle.model.specs.Decode.{readLog}
 use Rattle.model.specs.World.{World}
-use Rattle.model.specs.Memory.{bufferAt, bufferOf, copyAt, workWords}
+use Rattle.model.specs.Memory.{bufferAt, bufferOf, copyAt, ownerAt, workWords}
 use Rattle.model.specs.State.{limit, tailOf, fillOf, endOf}
 use Rattle.model.specs.Append.{append}
-use Rattle.model.proofs.Bounds.{Bounded, bounded, total-max}
+use Rattle.model.proofs.Bounds.{Bounded, bounded}
 use Rattle.model.proofs.Lengths.{length-buffer}
 use Rattle.log.specs.declared.write.Home.{Home}
 use Rattle.log.specs.declared.write.Logged.{Logged}
@@ -32,8 +32,8 @@ pub record Small (s : Sizes) (disk : ℕ) (work : List ℕ) : Type 0 where
   pub pages : s .pages ≤ 64
   pub disks : s .disks ≤ 8
   pub below : disk < 8
-  pub words : total s ≤ 8192
-  pub buffer : total s + 64 * disk + 64 ≤ length work
+  pub buffer : 64 * disk + 64 ≤ length work
+  pub copies : bufferAt (s .disks) + 64 ≤ length work
 
 -- the buffered words of a log lie within the work memory
 pub record Lies (r : Window) (work : List ℕ) : Type 0 where
@@ -49,26 +49,24 @@ module _ {s : Sizes} {l : Logs} {disk : ℕ} {logs work : List ℕ} (at : Servin
   fill-small = at .fills-small disk (at .disk-below)
 
   pub small : Small s disk work
-  unfolding workWords copyAt bufferAt
+  unfolding workWords ownerAt copyAt bufferAt
   small =
       record {
         pages = bounds .pages-max;
         disks = bounds .disks-max;
         below = omega (arith, at .disk-below, bounds .disks-max);
-        words = total-max s bounds;
         buffer = omega (arith, at .work-words, at .disk-below);
+        copies = omega (arith, at .work-words);
       }
 
   -- where its log ends and its buffered words lie
-  pub asked : (disk < s .disks) × (s .disks ≤ 8) × (s .ring ≤ 65536) × (length work ≡ workWords s) × (length work ≤ 10000) × (endOf l disk ≤ limit)
-  unfolding workWords copyAt bufferAt
-  asked =
-      (at .disk-below, bounds .disks-max, bounds .ring-max, at .work-words, omega (arith, at .work-words, small .words, bounds .disks-max), at .end-small)
+  pub asked : (disk < 8) × (fillOf l disk ≤ 64) × (endOf l disk ≤ limit)
+  asked = (small .below, fill-small, at .end-small)
 
   pub extended : (disk ≤ 8) × (s .ring ≤ 65536)
   extended = (omega (arith, small .below), bounds .ring-max)
 
-  module _ {r : Window} (e : r ≡ windowOf s l disk) where
+  module _ {r : Window} (e : r ≡ windowOf l disk) where
     pub lies : Lies r work
     unfolding windowOf bufferAt
     lies =
@@ -76,14 +74,14 @@ module _ {s : Sizes} {l : Logs} {disk : ℕ} {logs work : List ℕ} (at : Servin
         (record {
           ordered = omega arith;
           inside = omega (arith, small .buffer, fill-small);
-          low = omega (arith, small .words, small .below, fill-small);
+          low = omega (arith, small .below, fill-small);
         })
 
     -- the log that is read through them
-    buffered : take (r .stop - r .start) (drop (r .start) work) ≡ bufferOf s work disk (fillOf l disk)
+    buffered : take (r .stop - r .start) (drop (r .start) work) ≡ bufferOf work disk (fillOf l disk)
     unfolding windowOf bufferOf part
     buffered =
-        let f : bufferAt s disk + fillOf l disk - bufferAt s disk ≡ fillOf l disk = omega arith in
+        let f : bufferAt disk + fillOf l disk - bufferAt disk ≡ fillOf l disk = omega arith in
         rw (e, f) refl
 
     pub lent-end : r .end ≡ endOf l disk
@@ -117,18 +115,18 @@ module _ {s : Sizes} {l : Logs} {disk : ℕ} {logs work : List ℕ} (at : Servin
       lent-readable h =
           let low : to ≤ tailOf l disk + fillOf l disk = rw e at h in
           rw (is, buffered, e)
-          (readable s bounds logs disk (tailOf l disk) (bufferOf s work disk (fillOf l disk)) to (at .log-words) (at .disk-below)
-          (omega (arith, length-buffer s work disk (fillOf l disk) (omega (arith, small .buffer, fill-small)))) (omega (arith, at .end-small)))
+          (readable s bounds logs disk (tailOf l disk) (bufferOf work disk (fillOf l disk)) to (at .log-words) (at .disk-below)
+          (omega (arith, length-buffer work disk (fillOf l disk) (omega (arith, small .buffer, fill-small)))) (omega (arith, at .end-small)))
 
       pub lent-reader : readLog s logs disk (x .tail) (take (r .stop - r .start) (drop (r .start) work)) ≡ reader s l disk logs work
       lent-reader = rw lent-tail lent-here
 
   -- the disk as an append takes it
-  pub home-asked : (disk < s .disks) × (s .disks ≤ 8) × (s .ring ≤ 65536) × (length work ≡ workWords s)
-  home-asked = (at .disk-below, bounds .disks-max, bounds .ring-max, at .work-words)
+  pub home-asked : (disk < s .disks) × (s .disks ≤ 8) × (s .ring ≤ 65536)
+  home-asked = (at .disk-below, bounds .disks-max, bounds .ring-max)
 
   pub home-lies : {h : Home} → h ≡ homeOf s l disk → Within h logs work
-  home-lies e = rw e (home-fits s l logs work disk bounds (at .log-words) (at .work-words) (at .disk-below) fill-small (at .end-small))
+  home-lies e = rw e (home-fits s (total s) l logs work disk (omega (arith, bounds .ring-min)) (at .log-words) (at .work-words) (at .disk-below) fill-small (at .end-small))
 
   -- a slot has at most 32 words
   pub slim : {page slot width : ℕ} → InSlot s page slot width → width ≤ 32

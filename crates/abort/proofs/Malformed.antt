@@ -7,7 +7,7 @@ use native.Mathlib.Omega.{arith}
 use lib.ListN.{take, drop}
 use Rattle.model.specs.declared.Sizes.{Sizes}
 use Rattle.model.specs.declared.Logs.{Logs}
-use Rattle.model.specs.declared.Fault.the-variants.{NoFault, BadRecord}
+use Rattle.model.specs.declared.Fault.the-variants.{NoFault}
 use Rattle.model.specs.Decode.{readLog}
 use Rattle.model.specs.Scan.{Scan, end, bad, scan, ringThenBuffer, faultIn, updatesIn, updateWords}
 use Rattle.model.specs.State.{tailOf, endOf}
@@ -65,7 +65,7 @@ module _ (s : Sizes) (l : Logs) (disk number from : ℕ) (logs work : List ℕ) 
       }
 
 -- as it is lent
-module _ {s : Sizes} {l : Logs} {disk : ℕ} {logs work : List ℕ} (at : Serving s l disk logs work) {r : Window} (e : r ≡ windowOf s l disk)
+module _ {s : Sizes} {l : Logs} {disk : ℕ} {logs work : List ℕ} (at : Serving s l disk logs work) {r : Window} (e : r ≡ windowOf l disk)
     (number from : ℕ) {x : Extent} (to : x ≡ extentOf s disk (r .tail) (r .end)) where
   pub lent-found : {f : Survey} {notes : List ℕ}
       → Surveyed disk number (ringThenBuffer s (readLog s logs disk (x .tail) (take (r .stop - r .start) (drop (r .start) work))) (x .tail) (x .end)) from f notes

@@ -35,7 +35,7 @@ unfolding tailOf withFill
 tail-put l disk n = refl
 
 module _ (s : Sizes) (l : Logs) (w : World) (disk : ℕ) (sized : SizedLogs l) (below : disk < 8) (small : fillOf l disk ≤ 64)
-    (disk-fits : diskAt s disk + ringOf s disk + 1 ≤ length (w .logs)) (buffer-fits : bufferAt s disk + 64 ≤ length (w .work))
+    (disk-fits : diskAt s disk + ringOf s disk + 1 ≤ length (w .logs)) (buffer-fits : bufferAt disk + 64 ≤ length (w .work))
     (words : List ℕ) (short : length words ≤ 64) (q : ℕ) (before : q < endOf l disk) (room : endOf l disk ≤ q + ringOf s disk) where
   -- the log's reader in a world after some actions
   abbrev after : Bool → ℕ → ℕ
@@ -43,18 +43,18 @@ module _ (s : Sizes) (l : Logs) (w : World) (disk : ℕ) (sized : SizedLogs l) (
       reader s (appendIf b s l (w .work) disk words .logs) disk (perform (appendIf b s l (w .work) disk words .actions) w .logs)
       (perform (appendIf b s l (w .work) disk words .actions) w .work)
 
-  long : length (bufferOf s (w .work) disk (fillOf l disk)) ≡ fillOf l disk
-  long = length-buffer s (w .work) disk (fillOf l disk) (omega arith)
+  long : length (bufferOf (w .work) disk (fillOf l disk)) ≡ fillOf l disk
+  long = length-buffer (w .work) disk (fillOf l disk) (omega arith)
 
   ends : endOf l disk ≡ tailOf l disk + fillOf l disk
   unfolding endOf
   ends = refl
 
   behind : fillOf l disk + length words ≤ 64
-      → bufferOf s (sets (w .work) (bufferAt s disk + fillOf l disk) words) disk (fillOf l disk + length words)
-      ≡ bufferOf s (w .work) disk (fillOf l disk) ++ words
+      → bufferOf (sets (w .work) (bufferAt disk + fillOf l disk) words) disk (fillOf l disk + length words)
+      ≡ bufferOf (w .work) disk (fillOf l disk) ++ words
   unfolding bufferOf
-  behind fits = part-sets-end (bufferAt s disk) (fillOf l disk) (w .work) words (omega arith)
+  behind fits = part-sets-end (bufferAt disk) (fillOf l disk) (w .work) words (omega arith)
 
   -- the words go behind those that the buffer has
   put-reads : fillOf l disk + length words ≤ 64 → after true q ≡ reader s l disk (w .logs) (w .work) q
@@ -62,18 +62,18 @@ module _ (s : Sizes) (l : Logs) (w : World) (disk : ℕ) (sized : SizedLogs l) (
   put-reads fits =
       let fill : fillOf (withFill l disk (fillOf l disk + length words)) disk ≡ fillOf l disk + length words =
       fill-set l disk (fillOf l disk + length words) (omega (arith, sized .fills)) in
-      rw (tail-put l disk (fillOf l disk + length words), fill, perform-work (bufferAt s disk + fillOf l disk) words w, behind fits)
-      (read-append s (w .logs) disk (tailOf l disk) (bufferOf s (w .work) disk (fillOf l disk)) words q (omega (arith, long, ends)))
+      rw (tail-put l disk (fillOf l disk + length words), fill, perform-work (bufferAt disk + fillOf l disk) words w, behind fits)
+      (read-append s (w .logs) disk (tailOf l disk) (bufferOf (w .work) disk (fillOf l disk)) words q (omega (arith, long, ends)))
 
   -- they follow a flush
   flush-then-reads : after false q ≡ reader s l disk (w .logs) (w .work) q
   unfolding flush buffered endOf
   flush-then-reads =
-      let buffer : List ℕ = bufferOf s (w .work) disk (fillOf l disk) in
+      let buffer : List ℕ = bufferOf (w .work) disk (fillOf l disk) in
       let v : World = perform (storeAll s disk (tailOf l disk) buffer) w in
       let tail : tailOf (withFill (afterFlush l disk) disk (length words)) disk ≡ tailOf l disk + length buffer =
       tail-put (afterFlush l disk) disk (length words) ∙ tail-flushed l disk sized below ∙ omega (arith, long) in
-      rw (perform-append (storeAll s disk (tailOf l disk) buffer) (buffered s disk 0 words) w, perform-work (bufferAt s disk + 0) words v, tail)
+      rw (perform-append (storeAll s disk (tailOf l disk) buffer) (buffered s disk 0 words) w, perform-work (bufferAt disk + 0) words v, tail)
       (read-ring s (v .logs) disk (tailOf l disk + length buffer) _ q (omega (arith, long))
       ∙ sym (read-ring s (v .logs) disk (tailOf l disk + length buffer) [] q (omega (arith, long)))
       ∙ flush-reads s disk (tailOf l disk) buffer w q disk-fits (omega (arith, long)) (omega (arith, long)))
@@ -87,7 +87,7 @@ module _ (s : Sizes) (l : Logs) (w : World) (disk : ℕ) (sized : SizedLogs l) (
 
 -- so does the compensation of an update
 compensate-reads : (s : Sizes) (l : Logs) (w : World) (number disk : ℕ) (u : Update) → SizedLogs l → disk < 8 → fillOf l disk ≤ 64
-    → diskAt s disk + ringOf s disk + 1 ≤ length (w .logs) → bufferAt s disk + 64 ≤ length (w .work) → length (u .diff) ≤ 32
+    → diskAt s disk + ringOf s disk + 1 ≤ length (w .logs) → bufferAt disk + 64 ≤ length (w .work) → length (u .diff) ≤ 32
     → (q : ℕ) → q < endOf l disk → endOf l disk ≤ q + ringOf s disk
     → reader s (compensate s l w number disk u .logs) disk (perform (compensate s l w number disk u .actions) w .logs)
     (perform (compensate s l w number disk u .actions) w .work) q
@@ -104,7 +104,7 @@ compensate-reads s l w number disk u sized below small disk-fits buffer-fits sho
 
 -- and of a list of them
 pub undo-reads : (s : Sizes) (l : Logs) (w : World) (number disk : ℕ) (us : List Update) → SizedLogs l → Small s l → disk < s .disks → disk < 8
-    → diskAt s disk + ringOf s disk + 1 ≤ length (w .logs) → bufferAt s disk + 64 ≤ length (w .work) → Every (λ u. length (u .diff) ≤ 32) us
+    → diskAt s disk + ringOf s disk + 1 ≤ length (w .logs) → bufferAt disk + 64 ≤ length (w .work) → Every (λ u. length (u .diff) ≤ 32) us
     → (q : ℕ) → q < endOf l disk → endOf l disk + updateWords us ≤ q + ringOf s disk
     → reader s (undoAll s l w number disk us .logs) disk (perform (undoAll s l w number disk us .actions) w .logs)
     (perform (undoAll s l w number disk us .actions) w .work) q

@@ -19,13 +19,13 @@ use Rattle.abort.specs.declared.window.Window.{Window}
 use Rattle.abort.specs.declared.record.Progress.{Progress}
 
 -- a disk's log: its tail, its end, and where the buffered words lie in the work memory
-unfoldable pub windowOf : Sizes → Logs → ℕ → Window
-windowOf s l disk =
+unfoldable pub windowOf : Logs → ℕ → Window
+windowOf l disk =
     record {
       tail = tailOf l disk;
       end = endOf l disk;
-      start = bufferAt s disk;
-      stop = bufferAt s disk + fillOf l disk;
+      start = bufferAt disk;
+      stop = bufferAt disk + fillOf l disk;
     }
 
 -- A disk of a state, and slices of the lengths that its sizes give.
@@ -33,7 +33,7 @@ pub record Serving (s : Sizes) (l : Logs) (disk : ℕ) (logs work : List ℕ) : 
   pub sizes : sizesInBounds s ≡ true
   pub disk-below : disk < s .disks
   pub log-words : length logs ≡ logWords s
-  pub work-words : length work ≡ workWords s
+  pub work-words : length work ≡ workWords s (total s)
   pub fills-small : (e : ℕ) → e < s .disks → fillOf l e ≤ 64
   pub end-small : endOf l disk ≤ limit
 
@@ -50,7 +50,7 @@ pub record Did (budget rest : ℕ) (added : Appended) (before after : World) (r 
 
 -- a disk's log as it is read, ring then buffer
 abbrev pub reader : Sizes → Logs → ℕ → List ℕ → List ℕ → ℕ → ℕ
-reader s l disk logs work = readLog s logs disk (tailOf l disk) (bufferOf s work disk (fillOf l disk))
+reader s l disk logs work = readLog s logs disk (tailOf l disk) (bufferOf work disk (fillOf l disk))
 
 -- its records from a position on
 unfoldable pub logFrom : Sizes → Logs → ℕ → List ℕ → List ℕ → ℕ → Scan

@@ -12,19 +12,22 @@ use frame::settle::settle;
 use frame::stages::When;
 use model::Core;
 use model::Fault;
+use model::Logs;
 use model::Reply;
 use table::place::is_open;
+use table::place::place_of;
 use table::place::without;
 ghost use mathlib.Core.Path.{_≡_};
 ghost use mathlib.Core.List.{List, []};
 ghost use mathlib.Core.Bool.{true};
-ghost use Prim.Native.Nat.{ℕ};
+ghost use Prim.Native.Nat.{ℕ, _<_};
 ghost use lib.ListN.{length};
 ghost use Rattle.model.specs.declared.Fault.the-variants.{NoFault};
 ghost use Rattle.model.specs.Sizes.{total};
 ghost use Rattle.model.specs.World.{worldOf};
 ghost use Rattle.model.specs.Moments.{old, new, oldWorld};
-ghost use Rattle.model.specs.State.{isOpen};
+ghost use Rattle.model.specs.State.{placeOf, isOpen, without, withLog};
+ghost use Rattle.model.specs.Transaction.{diskOf};
 ghost use Rattle.model.specs.Abort.{abortFault};
 ghost use Rattle.model.specs.Call.{abort, Gives};
 ghost use Rattle.frame.specs.Home.{Serves};
@@ -69,6 +72,20 @@ fn roll_back(
     log_close(sizes, reached, at.disk, number, logs, work, budget)
 }
 
+// The state with the logs that the work leaves, and without the transaction.
+fn closed(core: Core, number: u64, logs: Logs) -> Core
+    requires { ⌜ (placeOf (core .table) number < 16) × (diskOf core number < 8) ⌝ }
+    ensures { λ r. ⌜ r ≡ withLog core logs (without (core .table) number) ⌝ }
+{
+    let place = place_of(&core.table.numbers, number);
+    let table = without(core.table, place);
+    Core {
+        logs,
+        table,
+        ..core
+    }
+}
+
 pub fn abort(
     core: Core,
     number: u64,
@@ -86,7 +103,7 @@ pub fn abort(
     if refusal != 0 {
         return refuse(core, refusal);
     }
-    if !is_open(core.table, number) {
+    if !is_open(&core.table.numbers, number) {
         return refuse(core, 9);
     }
     let found = examine(core, number, logs, work);
@@ -97,11 +114,6 @@ pub fn abort(
     let allowance = *budget;
     let done = roll_back(core, number, pages, logs, work, budget, found.notes);
     let after = done.logs;
-    let table = without(core.table, number);
-    let next = Core {
-        logs: after,
-        table,
-        ..core
-    };
+    let next = closed(core, number, after);
     settle(done.finished, allowance, *budget, 0, next)
 }

@@ -34,7 +34,7 @@ pub fn site_at(
     requires { ⌜ Serving sizes heads disk (now logs) (now work) × (position < endOf heads disk) ⌝ }
     ensures { λ r. ⌜ r ≡ siteAt (reader sizes heads disk (now (logs .entry)) (now (work .entry))) position ⌝ }
 {
-    let log = window_of(sizes, heads, work.len(), disk);
+    let log = window_of(heads, disk);
     let start = log.start as usize;
     let stop = log.stop as usize;
     let extent = extent_of(sizes, disk, log.tail, log.end);
@@ -92,7 +92,7 @@ pub fn difference_at(
     requires { ⌜ (position + 3 + width ≤ endOf heads disk) × (width ≤ 32) ⌝ }
     ensures { λ r. ⌜ take width r ≡ span (reader sizes heads disk (now (logs .entry)) (now (work .entry))) (position + 3) width ⌝ }
 {
-    let log = window_of(sizes, heads, work.len(), disk);
+    let log = window_of(heads, disk);
     let start = log.start as usize;
     let stop = log.stop as usize;
     let extent = extent_of(sizes, disk, log.tail, log.end);

@@ -37,7 +37,7 @@ pub fn survey_from(
     requires { ⌜ Serving sizes heads disk (now logs) (now work) × (endOf heads disk ≤ from + 65536) ⌝ }
     ensures { λ r. ⌜ FoundFrom sizes heads disk number from (now (logs .entry)) (now (work .entry)) r ⌝ }
 {
-    let log = window_of(sizes, heads, work.len(), disk);
+    let log = window_of(heads, disk);
     let start = log.start as usize;
     let stop = log.stop as usize;
     let extent = extent_of(sizes, disk, log.tail, log.end);
@@ -74,7 +74,7 @@ pub fn group_from(
     requires { ⌜ n ≤ length (positionsIn number (scan sizes (reader sizes heads disk (now logs) (now work)) end from)) ⌝ }
     ensures { λ r. ⌜ Gathered number n (scan sizes (reader sizes heads disk (now (logs .entry)) (now (work .entry))) end from) r ⌝ }
 {
-    let log = window_of(sizes, heads, work.len(), disk);
+    let log = window_of(heads, disk);
     let start = log.start as usize;
     let stop = log.stop as usize;
     let extent = extent_of(sizes, disk, log.tail, end);

@@ -57,13 +57,13 @@ pub fn log_compensation(
         (append sizes heads (now (work .entry)) disk (encode (change compensationKind page slot number (copyOf sizes (now (work .entry)) page) (now (difference .entry)))))
         (worldOf anchor pages backups (now (logs .entry)) (now (work .entry))) (worldOf anchor pages backups (now (logs .exit)) (now (work .exit))) r) ⌝ }
 {
-    let home = home_of(sizes, heads, work.len(), disk);
+    let home = home_of(sizes, heads, disk);
     let head = Head {
         kind: COMPENSATION,
         page,
         slot,
         number,
-        copy: page_copy(sizes, work, page),
+        copy: page_copy(sizes.disks, work, page),
     };
     let added = append_change(logs, work, home, head, difference, budget);
     advanced(heads, disk, added)
@@ -84,7 +84,7 @@ pub fn log_close(
         (append sizes heads (now (work .entry)) disk (encode (close abortKind number)))
         (worldOf anchor pages backups (now (logs .entry)) (now (work .entry))) (worldOf anchor pages backups (now (logs .exit)) (now (work .exit))) r) ⌝ }
 {
-    let home = home_of(sizes, heads, work.len(), disk);
+    let home = home_of(sizes, heads, disk);
     let added = append_close(logs, work, home, ABORT, number, budget);
     advanced(heads, disk, added)
 }

@@ -14,7 +14,8 @@ use Rattle.model.specs.Checkpoint.{toCopy, lowestToCopy, copyPage, checkpointSt
 use Rattle.model.specs.Call.{checkpointStep, checkpointEnd, Gives}
 use Rattle.model.proofs.Below.{first-unique, first-none}
 use Rattle.model.proofs.Lengths.{lengths-right}
-use Rattle.model.proofs.Store.Rows.{copying-serving, serving-sound, sizes-sound, checkpoint-sound}
+use Rattle.model.proofs.KeptBases.{total-kept}
+use Rattle.model.proofs.Store.Rows.{copying-serving, serving-sound, sizes-sound, bases-sound, checkpoint-sound}
 use Rattle.device.specs.Ran.{Ran}
 use Rattle.frame.specs.Checks.{CommonRefusal}
 use Rattle.frame.specs.Settle.{refusedWith, settled, Concludes}
@@ -81,12 +82,13 @@ module _ {c : Core} {w : World} {r : ℕ} (checks : CommonRefusal whenCopying c 
 
   pub steppable : c .checkpoint .copied < c .sizes .pages → Steppable c (w .pages) (w .backups) (w .work)
   steppable h =
-      let long = lengths-right (c .sizes) w (passed .lengths) in
+      let serving = serving-sound c (copying-serving c (passed .stage)) (passed .state) in
+      let long = rw (total-kept c (bases-sound c serving)) at (lengths-right (c .sizes) (c .bases .total) w (passed .lengths)) in
       record {
         bounded = checkpoint-sound c (passed .stage) (passed .state) .epoch;
         next =
             record {
-              sizes = sizes-sound c (serving-sound c (copying-serving c (passed .stage)) (passed .state));
+              sizes = sizes-sound c serving;
               page-below = h;
               page-words = long .pages;
               backup-words = long .backups;
@@ -96,7 +98,7 @@ module _ {c : Core} {w : World} {r : ℕ} (checks : CommonRefusal whenCopying c 
 
   pub endable : Endable c (w .anchor) (w .logs) (w .work)
   endable =
-      let long = lengths-right (c .sizes) w (passed .lengths) in
+      let long = lengths-right (c .sizes) (c .bases .total) w (passed .lengths) in
       record {
         bounded = checkpoint-sound c (passed .stage) (passed .state) .epoch;
         anchor-words = passed .anchor;

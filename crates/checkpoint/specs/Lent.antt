@@ -20,7 +20,7 @@ pub record Copyable (s : Sizes) (page : ℕ) (pages backups work : List ℕ) : T
   pub page-below : page < s .pages
   pub page-words : length pages ≡ total s
   pub backup-words : length backups ≡ 2 * total s
-  pub work-words : length work ≡ workWords s
+  pub work-words : length work ≡ workWords s (total s)
 
 -- `copyPage` of the sizes, the checkpoint's number and the page memory
 unfoldable pub pageCopied : Sizes → ℕ → ℕ → List ℕ → List Action

@@ -40,7 +40,7 @@ pub fn copy_page(
     ) {
         return false;
     }
-    let at = copy_place(sizes, work.len(), page);
+    let at = copy_place(sizes.disks, page);
     work[at] = number;
     true
 }

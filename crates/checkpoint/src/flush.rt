@@ -23,7 +23,7 @@ pub fn flush_all(core: Core, logs: &mut [u64], work: &[u64], budget: &mut u64) -
     let disks = sizes.disks;
     let mut d: u64 = 0;
     while d < disks {
-        let home = home_of(sizes, state, work.len(), d);
+        let home = home_of(sizes, state, d);
         if !flush_disk(logs, work, home, budget) {
             return false;
         }

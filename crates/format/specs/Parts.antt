@@ -43,4 +43,4 @@ pub record Devices (s : Sizes) (anchor backups logs : List ℕ) : Type 0 where
 pub record Memories (s : Sizes) (pages work : List ℕ) : Type 0 where
   pub sizes : sizesInBounds s ≡ true
   pub page-words : length pages ≡ total s
-  pub work-words : length work ≡ workWords s
+  pub work-words : length work ≡ workWords s (total s)

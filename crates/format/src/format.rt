@@ -7,6 +7,7 @@ use frame::stages::is_shut;
 use frame::states::open_core;
 use layout::anchor::ANCHOR_WORDS;
 use layout::anchor::RawSizes;
+use layout::bases::bases_of;
 use layout::bounds::in_bounds;
 use layout::bounds::lengths_right;
 use layout::bounds::narrow;
@@ -42,14 +43,24 @@ pub fn format(
         return refuse(core, 4);
     }
     let sizes = narrow(raw);
-    if !lengths_right(sizes, pages.len(), backups.len(), logs.len(), work.len()) {
+    let bases = bases_of(sizes);
+    let words = bases.total;
+    if !lengths_right(
+        sizes.disks,
+        sizes.ring,
+        words,
+        pages.len(),
+        backups.len(),
+        logs.len(),
+        work.len(),
+    ) {
         return refuse(core, 5);
     }
     let before = *budget;
-    let next = open_core(sizes, 1, [0u64; 8]);
-    if !store_devices(sizes, raw, anchor, backups, logs, budget) {
+    let next = open_core(sizes, bases, 1, [0u64; 8]);
+    if !store_devices(sizes, words, raw, anchor, backups, logs, budget) {
         return settle(false, before, *budget, 0, next);
     }
-    make_fresh(sizes, pages, work);
+    make_fresh(sizes, words, pages, work);
     settle(true, before, *budget, 0, next)
 }

@@ -23,7 +23,7 @@ pub fn store_tails(sizes: Sizes, logs: &mut [u64], budget: &mut u64) -> bool
     let disks = sizes.disks;
     let mut d: u64 = 0;
     while d < disks {
-        let at = disk_at(sizes, d) as usize;
+        let at = disk_at(sizes.ring, d) as usize;
         if !store_word(logs, at, 0, budget) {
             return false;
         }

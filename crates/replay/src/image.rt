@@ -84,7 +84,7 @@ pub fn tails_on(sizes: Sizes, logs: &[u64]) -> [u64; 8]
     let mut tails = [0u64; 8];
     let mut d: u64 = 0;
     while d < disks {
-        let at = disk_at(sizes, d) as usize;
+        let at = disk_at(sizes.ring, d) as usize;
         tails[d as usize] = logs[at];
         d += 1;
     }

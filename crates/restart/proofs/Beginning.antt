@@ -8,7 +8,6 @@ use lib.Dec.{eqb}
 use lib.ListN.{length, getD, replicate}
 use lib.Seq.{sets}
 use borrow.Author.Tests.{le-leb, lt-leb, eqb-true, eq-eqb, ne-eqb}
-use Rattle.model.specs.declared.Stage.the-variants.{Shut}
 use Rattle.model.specs.declared.Sizes.{Sizes}
 use Rattle.model.specs.declared.Core.{Core}
 use Rattle.model.specs.declared.Reply.{Reply}
@@ -25,13 +24,11 @@ use Rattle.model.specs.Call.{Gives, resultOf, restartBegin}
 use Rattle.model.proofs.Verdict.{verdict-append, refused-append}
 use Rattle.model.proofs.PerDisk.{getD-per-disk}
 use Rattle.model.proofs.Checked.{rows-same}
-use Rattle.model.proofs.Store.Checks.{shut-stage}
 use Rattle.model.proofs.Run.{perform-pages}
 use Rattle.model.proofs.Storeless.{storeless-finishes}
 use Rattle.model.proofs.Restart.Words.{withPages}
 use Rattle.frame.specs.Settle.{refusedWith}
 use Rattle.frame.proofs.Verdicts.{refusal-given}
-use Rattle.frame.proofs.Passing.{sound-at}
 use Rattle.replay.specs.declared.image.Finding.{Finding}
 use Rattle.replay.specs.Parts.{anchorRefusal, findingOf}
 use Rattle.replay.specs.Step.{finished}
@@ -58,15 +55,15 @@ module _ (c : Core) (w : World) where
   module _ (shut : whenShut (c .stage) ≡ true) {n : ℕ} (refusal : n ≡ anchorRefusal (w .anchor)) where
     -- rows 1 to 4, and then the others
     begin-verdict : verdict (restartBeginRows c w)
-        ≡ cond (eqb n 0) (verdict (row 5 (lengthsWrong (sizesOn (w .anchor)) w) ∷ beginRest w)) (rejected n 0 0)
+        ≡ cond (eqb n 0) (verdict (row 5 (lengthsWrong (sizesOn (w .anchor)) (total (sizesOn (w .anchor))) w) ∷ beginRest w)) (rejected n 0 0)
     unfolding restartBeginRows imageRows beginRest verdict stageForbids anchorWrong unformatted sizesWrong anchorRefusal
     begin-verdict =
-        rw (refusal, shut, sound-at c Shut (shut-stage (c .stage) shut))
+        rw (refusal, shut)
         (go (eqb (length (w .anchor)) anchorWords) (eqb (epochOn (w .anchor)) 0) (sizesInBounds (sizesOn (w .anchor))))
       where
         go : (a b d : Bool)
-            → verdict (row 2 (not a) ∷ row 3 b ∷ row 4 (not d) ∷ row 5 (lengthsWrong (sizesOn (w .anchor)) w) ∷ beginRest w)
-            ≡ cond (eqb (cond a (cond b 3 (cond d 0 4)) 2) 0) (verdict (row 5 (lengthsWrong (sizesOn (w .anchor)) w) ∷ beginRest w)) (rejected (cond a (cond b 3 (cond d 0 4)) 2) 0 0)
+            → verdict (row 2 (not a) ∷ row 3 b ∷ row 4 (not d) ∷ row 5 (lengthsWrong (sizesOn (w .anchor)) (total (sizesOn (w .anchor))) w) ∷ beginRest w)
+            ≡ cond (eqb (cond a (cond b 3 (cond d 0 4)) 2) 0) (verdict (row 5 (lengthsWrong (sizesOn (w .anchor)) (total (sizesOn (w .anchor))) w) ∷ beginRest w)) (rejected (cond a (cond b 3 (cond d 0 4)) 2) 0 0)
         go true true d = refl
         go true false true = refl
         go true false false = refl
@@ -75,11 +72,11 @@ module _ (c : Core) (w : World) where
     pub begin-anchor : (n ≡ 0 → ⊥) → Gives restartBegin c w (refusedWith c n 0 0) 0 w
     begin-anchor ne = refusal-given restartBegin c w n 0 0 (begin-verdict ∙ rw (ne-eqb n 0 ne))
 
-    pub begin-lengths : n ≡ 0 → lengthsRight (sizesOn (w .anchor)) w ≡ false → Gives restartBegin c w (refusedWith c 5 0 0) 0 w
+    pub begin-lengths : n ≡ 0 → lengthsRight (sizesOn (w .anchor)) (total (sizesOn (w .anchor))) w ≡ false → Gives restartBegin c w (refusedWith c 5 0 0) 0 w
     unfolding verdict lengthsWrong
     begin-lengths z e = refusal-given restartBegin c w 5 0 0 (begin-verdict ∙ rw (eq-eqb n 0 z, e))
 
-    pub begin-given : n ≡ 0 → lengthsRight (sizesOn (w .anchor)) w ≡ true → (r : Reply) (v : World) → BeginsOn c w r v
+    pub begin-given : n ≡ 0 → lengthsRight (sizesOn (w .anchor)) (total (sizesOn (w .anchor))) w ≡ true → (r : Reply) (v : World) → BeginsOn c w r v
         → Gives restartBegin c w r 0 v
     unfolding Gives resultOf BeginsOn verdict lengthsWrong
     begin-given z e r v did = rw (begin-verdict, eq-eqb n 0 z, e) did

@@ -5,8 +5,9 @@ use frame::settle::refuse_at;
 use frame::stages::is_shut;
 use frame::states::replaying_core;
 use layout::anchor::EPOCH_WORD;
+use layout::bases::bases_of;
 use layout::bounds::lengths_right;
-use layout::places::total;
+use model::Bases;
 use model::Core;
 use model::Reply;
 use model::Sizes;
@@ -24,14 +25,22 @@ ghost use Prim.Native.Nat.{ℕ};
 ghost use lib.ListN.{length};
 ghost use Rattle.model.specs.Sizes.{total, logWords, sizesInBounds};
 ghost use Rattle.model.specs.Anchor.{anchorWords, sizesOn};
+ghost use Rattle.model.specs.State.{basesOf};
 ghost use Rattle.model.specs.World.{worldOf};
 ghost use Rattle.model.specs.Moments.{old, new, oldWorld};
 ghost use Rattle.model.specs.Call.{Gives, restartBegin};
 ghost use Rattle.restart.specs.Begin.{BeginsOn};
 
 // Rows 6, 7 and 13, and what begin does when none applies.
-fn begin_on(core: Core, sizes: Sizes, anchor: &[u64], pages: &mut [u64], logs: &[u64]) -> Reply
-    requires { ⌜ (sizes ≡ sizesOn (now anchor)) × (sizesInBounds sizes ≡ true) × (length (now anchor) ≡ anchorWords) × (length (now pages) ≡ total sizes) × (length (now logs) ≡ logWords sizes) ⌝ }
+fn begin_on(
+    core: Core,
+    sizes: Sizes,
+    bases: Bases,
+    anchor: &[u64],
+    pages: &mut [u64],
+    logs: &[u64],
+) -> Reply
+    requires { ⌜ (sizes ≡ sizesOn (now anchor)) × (sizesInBounds sizes ≡ true) × (length (now anchor) ≡ anchorWords) × (length (now pages) ≡ total sizes) × (length (now logs) ≡ logWords sizes) × (bases ≡ basesOf sizes) ⌝ }
     ensures { λ r. ⌜ ((backups work : List ℕ) → BeginsOn core (worldOf (now (anchor .entry)) (now (pages .entry)) backups (now (logs .entry)) work) r (worldOf (now (anchor .entry)) (now (pages .exit)) backups (now (logs .entry)) work)) ⌝ }
 {
     let starts = current_starts(sizes.disks, anchor);
@@ -44,9 +53,9 @@ fn begin_on(core: Core, sizes: Sizes, anchor: &[u64], pages: &mut [u64], logs: &
     if epoch >= LIMIT {
         return refuse(core, 13);
     }
-    let words = total(sizes) as usize;
+    let words = bases.total as usize;
     fill_words(pages, 0, words, 0);
-    finish(replaying_core(sizes, epoch, starts, tails), 0)
+    finish(replaying_core(sizes, bases, epoch, starts, tails), 0)
 }
 
 // Rows 1 to 5 come first. A shut state needs no test of its own.
@@ -70,8 +79,17 @@ pub fn begin(
         return refuse(core, refusal);
     }
     let sizes = anchor_sizes(anchor);
-    if !lengths_right(sizes, pages.len(), backups.len(), logs.len(), work.len()) {
+    let bases = bases_of(sizes);
+    if !lengths_right(
+        sizes.disks,
+        sizes.ring,
+        bases.total,
+        pages.len(),
+        backups.len(),
+        logs.len(),
+        work.len(),
+    ) {
         return refuse(core, 5);
     }
-    begin_on(core, sizes, anchor, pages, logs)
+    begin_on(core, sizes, bases, anchor, pages, logs)
 }

@@ -32,7 +32,7 @@ fn open_replayed(
     work: &mut [u64],
     budget: &mut u64,
 ) -> Reply
-    requires { ⌜ Replays core × (length (now anchor) ≡ anchorWords) × (length (now pages) ≡ total (core .sizes)) × (length (now backups) ≡ 2 * total (core .sizes)) × (length (now work) ≡ workWords (core .sizes)) ⌝ }
+    requires { ⌜ Replays core × (length (now anchor) ≡ anchorWords) × (length (now pages) ≡ total (core .sizes)) × (length (now backups) ≡ 2 * total (core .sizes)) × (length (now work) ≡ workWords (core .sizes) (total (core .sizes))) ⌝ }
     ensures { λ r. ⌜ ((logs : List ℕ) → Concludes (old budget) (new budget)
         (restartEndTask core (worldOf (old anchor) (old pages) (old backups) logs (old work)))
         (worldOf (old anchor) (old pages) (old backups) logs (old work)) (worldOf (new anchor) (old pages) (new backups) logs (new work)) r) ⌝ }
@@ -42,11 +42,11 @@ fn open_replayed(
     let tails = logs.tails;
     let epoch = core.epoch + 1;
     let before = *budget;
-    let opened = open_core(sizes, epoch, tails);
+    let opened = open_core(sizes, core.bases, epoch, tails);
     if !store_checkpoint(sizes, epoch, tails, anchor, pages, backups, budget) {
         return settle(false, before, *budget, epoch, opened);
     }
-    fresh_work(work, sizes, epoch);
+    fresh_work(work, sizes.disks, core.bases.total as usize, epoch);
     settle(true, before, *budget, epoch, opened)
 }
 

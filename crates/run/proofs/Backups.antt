@@ -1,5 +1,5 @@
 -- A run of the backup, a page at a time.
-use mathlib.Core.Path.{_≡_, _∙_}
+use mathlib.Core.Path.{_≡_, refl, _∙_}
 use mathlib.Core.List.{List}
 use Prim.Native.Nat.{ℕ, _+_, _-_, _≤_, _<_, min}
 use native.Mathlib.Omega.{arith}
@@ -13,6 +13,7 @@ use Rattle.model.specs.Image.{xorAt}
 use Rattle.model.specs.World.{World}
 use Rattle.model.specs.Memory.{lengthsRight}
 use Rattle.model.specs.State.{withReplay}
+use Rattle.model.proofs.KeptBases.{bases-carried}
 use Rattle.model.proofs.Sound.Test.{ReplaySound, replay-sound, replaying-test}
 use Rattle.model.proofs.Restart.Words.{withPages}
 use Rattle.run.specs.Run.{Passes, RanOn, Onward}
@@ -26,7 +27,7 @@ pageAt c page = withReplay c (record { positions = c .replay .positions; page = 
 module _ (c : Core) (w : World) where
   page-sound : ReplaySound c → (page : ℕ) → page ≤ c .sizes .pages → ReplaySound (pageAt c page)
   unfolding withReplay
-  page-sound k page near = record { bounds = k .bounds; epoch = k .epoch; page = near; tails = k .tails; positions = k .positions }
+  page-sound k page near = record { bounds = k .bounds; bases = bases-carried c (pageAt c page) refl refl (k .bases); epoch = k .epoch; page = near; tails = k .tails; positions = k .positions }
 
   page-passes : Passes c w → (page : ℕ) → page ≤ c .sizes .pages → (pages : List ℕ) → length pages ≡ length (w .pages)
       → Passes (pageAt c page) (withPages w pages)

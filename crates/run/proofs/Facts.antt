@@ -33,12 +33,12 @@ pub record DiskRing (s : Sizes) (logs : List ℕ) (disk : ℕ) (ring : List ℕ)
 
 -- A log, read by ring index.
 module _ {c : Core} {disk : ℕ} {pages logs : List ℕ} (on : OnLog c disk pages logs) where
-  pub disk-ring : {place : ℕ} {ring : List ℕ} → place ≡ diskAt (c .sizes) disk → ring ≡ part (place + 1) (c .sizes .ring) logs
+  pub disk-ring : {place : ℕ} {ring : List ℕ} → ((s : Sizes) → s .ring ≡ c .sizes .ring → place ≡ diskAt s disk) → ring ≡ part (place + 1) (c .sizes .ring) logs
       → DiskRing (c .sizes) logs disk ring
   unfolding ringOf
   disk-ring at is =
       record {
-        same = ring-is (c .sizes) logs disk at refl is;
+        same = ring-is (c .sizes) logs disk (at (c .sizes) refl) refl is;
         inside = omega (arith, on .log-words, disk-within (c .sizes) disk (on .disk-in));
         some = omega (arith, sizes-bounded c (on .replays) .ring-min);
       }

@@ -16,6 +16,7 @@ use Rattle.model.specs.Causes.{stageForbids, anchorWrong, lengthsWrong, sourceM
 use Rattle.model.specs.Restart.{remaining, stepFault, restartStepRows, restartStepTask, stepThen, restartRunTask}
 use Rattle.model.specs.Call.{restartStep, restartRun, resultOf, Gives}
 use Rattle.model.proofs.Run.{perform-append, finished-run}
+use Rattle.model.proofs.Tested.{reads-pass}
 use Rattle.model.proofs.Storeless.{nothing-stored, storeless-finishes}
 use Rattle.frame.specs.Settle.{refusedWith, finishedWith}
 use Rattle.replay.specs.Step.{finished, stepRest, StepsOn}
@@ -25,8 +26,9 @@ use Rattle.replay.proofs.Storeless.{nothing-spent}
 -- the first rows have passed: the others decide
 pub rest-decides : {c : Core} {w : World} → Passes c w → (source : ℕ) → verdict (restartStepRows c w source) ≡ verdict (stepRest c w source)
 unfolding restartStepRows stepRest verdict stageForbids anchorWrong lengthsWrong
-rest-decides {w} pass source =
-    rw (pass .replays .stage, pass .replays .state, eq-eqb (length (w .anchor)) _ (pass .anchor), pass .lengths)
+rest-decides {c} {w} pass source =
+    let r = pass .replays in
+    rw (r .stage, reads-pass (restartStep source) c w (r .state) (r .stage), eq-eqb (length (w .anchor)) _ (pass .anchor), pass .lengths)
 
 -- what a step says of its rows and its task
 module _ (c : Core) (w : World) (source : ℕ) where

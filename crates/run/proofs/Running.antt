@@ -21,6 +21,7 @@ use Rattle.model.specs.World.{World}
 use Rattle.model.specs.Memory.{lengthsRight}
 use Rattle.model.specs.State.{withReplay, tailOf}
 use Rattle.model.specs.Restart.{positionOf, replays, readDisk, fateFrom, nextRecord, fateFault, recordFault, stepFault, movedTo}
+use Rattle.model.proofs.KeptBases.{bases-carried}
 use Rattle.model.proofs.Sound.Test.{ReplaySound, replay-sound, replaying-test}
 use Rattle.model.proofs.Restart.Words.{withPages}
 use Rattle.log.specs.Ring.{readRing, ringAt}
@@ -62,7 +63,7 @@ module _ (c : Core) (w : World) (disk : ℕ) (h : disk < c .sizes .disks) (long 
   moved-sound : ReplaySound c → (p : ℕ) → p ≤ tail → ReplaySound (movedTo c disk p)
   unfolding movedTo withReplay
   moved-sound k p near =
-      record { bounds = k .bounds; epoch = k .epoch; page = k .page; tails = k .tails; positions = λ d l. go d l (ℕ-discrete d disk) }
+      record { bounds = k .bounds; bases = bases-carried c (movedTo c disk p) refl refl (k .bases); epoch = k .epoch; page = k .page; tails = k .tails; positions = λ d l. go d l (ℕ-discrete d disk) }
     where
       go : (d : ℕ) → d < c .sizes .disks → Dec (d ≡ disk) → getD (set (c .replay .positions) disk p) d 0 ≤ tailOf (c .logs) d
       go d l (yes same) = rw (same, getD-set-same (c .replay .positions) disk p 0 long) near

@@ -32,7 +32,7 @@ RunsOn c w source most r v =
 pub record Passes (c : Core) (w : World) : Type 0 where
   pub replays : Replays c
   pub anchor : length (w .anchor) ≡ anchorWords
-  pub lengths : lengthsRight (c .sizes) w ≡ true
+  pub lengths : lengthsRight (c .sizes) (c .bases .total) w ≡ true
 
 -- What a run did: the steps made, the state and the words after them.
 pub record RanOn (source most : ℕ) (c : Core) (w : World) (made : ℕ) (k : Core) (v : World) : Type 0 where

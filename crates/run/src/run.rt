@@ -58,7 +58,7 @@ fn run_ring(core: Core, disk: u64, most: u64, pages: &mut [u64], logs: &[u64]) -
     let sizes = core.sizes;
     let slots = sizes.slots;
     let widths = sizes.widths;
-    let place = disk_at(sizes, disk);
+    let place = disk_at(sizes.ring, disk);
     let ring = ring_words(logs, place, sizes.ring);
     let size = ring.len() as u64;
     let tails = core.logs.tails;
@@ -135,7 +135,7 @@ fn run_log(core: Core, disk: u64, most: u64, pages: &mut [u64], logs: &[u64]) ->
     if tail <= position {
         return refuse(core, 15);
     }
-    let place = disk_at(sizes, disk);
+    let place = disk_at(sizes.ring, disk);
     let ring = ring_words(logs, place, sizes.ring);
     let fault = record_fault(&slots, &widths, ring, disk, tail, position);
     match fault {

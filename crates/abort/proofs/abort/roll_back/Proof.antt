@@ -1,23 +1,12 @@
 -- `abort::abort::roll_back` meets its contract: the updates taken back, then the closing record. Assumes nothing.
-use Prim.Native.Nat.{ℕ}
 use mathlib.Core.List.{[]}
 use borrow.Author.Tests.{not-true, not-false}
 use Rattle.model.specs.World.{worldOf}
-use Rattle.model.proofs.Growth.{SizedLogs}
 use Rattle.abort.proofs.Aborts.{scoped, scoped-disk, fault-apart, scope-undoable, noted-scope, noted-own}
 use Rattle.abort.proofs.Rolled.{undone-serves, rolled-cut, rolled-whole}
-use borrow.Author.Needs.{needs, length-unmapped}
+use borrow.Author.Needs.{needs}
 use Rattle.abort.proofs.abort.roll_back.Statement.{statement}
 use Rattle.abort.proofs.abort.roll_back.Tie as tie
-
--- a number for each disk, by the type; the last array is deeper than `search` looks
-sized : (c : tie.Start) → SizedLogs (c .args .core .logs)
-sized c =
-    record {
-      starts = search needs;
-      tails = search needs;
-      fills = length-unmapped ℕ (c .args .core .logs .fills) 8 (c .good .0 .1 .1 .1 .1 .1 .0 .1 .1 .1 .1 .0 .1 .0 .1);
-    }
 
 scope-of-requires : tie.Need-scope-of-requires
 scope-of-requires c κs =
@@ -29,9 +18,9 @@ undo-all-requires c κs =
     let args = c .before .before .before .before .before .before .before .before .before .before .args in
     let pre = c .before .before .before .before .before .before .before .before .before .before .pre in
     let scope-of = c .before .before .before .before .before .before .scope-of in
-    let noted = noted-scope _ _ (scope-of .ensures) _ _ (pre .1 .1) in (
+    let noted = noted-scope _ _ (scope-of .ensures .0) _ _ (pre .1 .1) in (
       rw (noted .starts)
-          (scope-undoable _ _ (pre .0 .1) (scope-of .ensures) (worldOf [] (args .pages .now) [] (args .logs .now) (args .work .now)) (pre .1 .0) (pre .0 .0) (pre .0 .2)),
+          (scope-undoable _ _ (pre .0 .1) (scope-of .ensures .0) (worldOf [] (args .pages .now) [] (args .logs .now) (args .work .now)) (pre .1 .0) (pre .0 .0) (pre .0 .2)),
       noted-own noted,
     )
 
@@ -40,8 +29,8 @@ returns c =
     let pre = c .before .before .before .before .before .before .before .before .before .before .before .before .before .before .before .before .before .before .before .pre in
     let scope-of = c .before .before .before .before .before .before .before .before .before .before .before .before .before .before .before .scope-of in
     let undo-all = c .before .before .before .before .before .before .before .before .undo-all in
-    let noted = noted-scope _ _ (scope-of .ensures) _ _ (pre .1 .1) in
-    λ anchor backups. rolled-cut _ _ (pre .0 .1) (scope-of .ensures) _ (fault-apart _ _ anchor _ backups _ _ (pre .1 .0)) (rw (noted .starts) at (undo-all .ensures anchor backups)) (not-true _ (c .if1 .taken))
+    let noted = noted-scope _ _ (scope-of .ensures .0) _ _ (pre .1 .1) in
+    λ anchor backups. rolled-cut _ _ (pre .0 .1) (scope-of .ensures .0) _ (fault-apart _ _ anchor _ backups _ _ (pre .1 .0)) (rw (noted .starts) at (undo-all .ensures anchor backups)) (not-true _ (c .if1 .taken))
 
 log-close-requires : tie.Need-log-close-requires
 log-close-requires c κs =
@@ -49,9 +38,9 @@ log-close-requires c κs =
     let scope-of = c .before .before .before .before .before .before .before .before .before .before .before .before .before .before .before .before .before .before .before .scope-of in
     let undo-all = c .before .before .before .before .before .before .before .before .before .before .before .before .undo-all in
     let w = worldOf [] (start .args .pages .now) [] (start .args .logs .now) (start .args .work .now) in
-    let ok = scope-undoable _ _ (start .pre .0 .1) (scope-of .ensures) w (start .pre .1 .0) (start .pre .0 .0) (start .pre .0 .2) in
-    let noted = noted-scope _ _ (scope-of .ensures) _ _ (start .pre .1 .1) in
-    undone-serves _ _ w _ _ _ ok (sized start) (rw (noted .starts) at (undo-all .ensures [] [])) (not-false _ (c .before .before .before .before .if1 .left))
+    let ok = scope-undoable _ _ (start .pre .0 .1) (scope-of .ensures .0) w (start .pre .1 .0) (start .pre .0 .0) (start .pre .0 .2) in
+    let noted = noted-scope _ _ (scope-of .ensures .0) _ _ (start .pre .1 .1) in
+    undone-serves _ _ w _ _ _ ok (record { starts = scope-of .ensures .1 .0; tails = scope-of .ensures .1 .1; fills = scope-of .ensures .1 .2 }) (rw (noted .starts) at (undo-all .ensures [] [])) (not-false _ (c .before .before .before .before .if1 .left))
 
 returns-2 : tie.Need-returns-2
 returns-2 c =
@@ -60,9 +49,9 @@ returns-2 c =
     let undo-all = c .before .before .before .before .before .before .before .before .before .before .before .before .before .before .before .before .before .undo-all in
     let test1 = c .before .before .before .before .before .before .before .before .before .if1 in
     let log-close = c .before .before .before .before .log-close in
-    let noted = noted-scope _ _ (scope-of .ensures) _ _ (pre .1 .1) in
+    let noted = noted-scope _ _ (scope-of .ensures .0) _ _ (pre .1 .1) in
     λ anchor backups.
-    rolled-whole _ _ (pre .0 .1) (scope-of .ensures) _ (fault-apart _ _ anchor _ backups _ _ (pre .1 .0)) (rw (noted .starts) at (undo-all .ensures anchor backups)) (not-false _ (test1 .left))
+    rolled-whole _ _ (pre .0 .1) (scope-of .ensures .0) _ (fault-apart _ _ anchor _ backups _ _ (pre .1 .0)) (rw (noted .starts) at (undo-all .ensures anchor backups)) (not-false _ (test1 .left))
     (log-close .ensures anchor _ backups)
 
 pub roll-back-spec : {M : Type 1} → statement M

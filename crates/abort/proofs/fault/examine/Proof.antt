@@ -1,5 +1,5 @@
 -- `abort::fault::examine` meets its contract: one survey of the log, then the test of the updates' words. Assumes nothing.
-use mathlib.Core.Path.{_≡_, sym, _∙_}
+use mathlib.Core.Path.{_≡_}
 use mathlib.Core.List.{[]}
 use native.Mathlib.Omega.{arith}
 use Prim.Native.Nat.{ℕ}
@@ -17,14 +17,14 @@ scope-of-requires c κs =
 survey-from-requires : tie.Need-survey-from-requires
 survey-from-requires c κs =
     let pre = c .before .before .before .pre in
-    (scope-serves _ _ (pre .0) (pre .1) (c .scope-of .ensures), scope-near _ _ (pre .1) (c .scope-of .ensures) (worldOf [] [] [] [] []) (pre .0 .state))
+    (scope-serves _ _ (pre .0) (pre .1) (c .scope-of .ensures .0), scope-near _ _ (pre .1) (c .scope-of .ensures .0) (worldOf [] [] [] [] []) (pre .0 .state))
 
 returns : tie.Need-returns
 returns c =
     let pre = c .before .before .before .before .before .before .before .before .pre in
     let scope-of = c .before .before .before .before .before .scope-of in
     let found = c .before .before .before .before .survey-from .ensures in (
-      λ anchor pages backups. fault-malformed _ _ (pre .1) (scope-of .ensures) _ (found .fault) _ _ (c .before .malformed .given .1),
+      λ anchor pages backups. fault-malformed _ _ (pre .1) (scope-of .ensures .0) _ (found .fault) _ _ (c .before .malformed .given .1),
       λ none. let z : _≡_ {A = ℕ} 0 1 = cc in absurd (omega arith),
     )
 
@@ -34,7 +34,7 @@ returns-2 c =
     let scope-of = c .before .before .before .before .before .before .before .scope-of in
     let found = c .before .before .before .before .before .before .survey-from .ensures in
     let none = c .before .before .before .enum-told .given .1 in (
-      λ anchor pages backups. fault-long _ _ (pre .1) (scope-of .ensures) _ (found .fault) none _ (found .words none) (c .if1 .taken),
+      λ anchor pages backups. fault-long _ _ (pre .1) (scope-of .ensures .0) _ (found .fault) none _ (found .words none) (c .if1 .taken),
       λ none. let z : _≡_ {A = ℕ} 0 1 = cc in absurd (omega arith),
     )
 
@@ -44,8 +44,8 @@ returns-3 c =
     let scope-of = c .before .before .before .before .before .before .before .scope-of in
     let found = c .before .before .before .before .before .before .survey-from .ensures in
     let none = c .before .before .before .enum-told .given .1 in (
-      λ anchor pages backups. fault-none _ _ (pre .1) (scope-of .ensures) _ (found .fault) none _ (found .words none) (c .if1 .left),
-      λ _. scope-noted _ _ (scope-of .ensures) _ _ (found .noted none),
+      λ anchor pages backups. fault-none _ _ (pre .1) (scope-of .ensures .0) _ (found .fault) none _ (found .words none) (c .if1 .left),
+      λ _. scope-noted _ _ (scope-of .ensures .0) _ _ (found .noted none),
     )
 
 pub examine-spec : {M : Type 1} → statement M

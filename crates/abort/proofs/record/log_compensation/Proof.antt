@@ -15,7 +15,7 @@ page-copy-requires : tie.Need-page-copy-requires
 page-copy-requires c κs =
     let pre = c .before .before .before .before .before .pre in
     let b = small (pre .0) in
-    (omega (arith, b .pages, pre .1 .page-in), pre .0 .work-words)
+    (b .disks, omega (arith, b .pages, pre .1 .page-in), b .copies)
 
 append-change-requires : tie.Need-append-change-requires
 append-change-requires c κs =
@@ -37,7 +37,7 @@ returns c =
     let home = at-home-of .home-of .ensures .0 in
     λ anchor pages backups.
     let w = worldOf anchor pages backups (x .logs .now) (x .work .now) in
-    rw (← at-page-copy .page-copy .ensures)
+    rw (← at-page-copy .page-copy .ensures (x .sizes) refl)
     (appended (rw (disk-there _ _ _ home) at (at-append-change .append-change .ensures .0 _ _ w (lent-there _ _ _ home w refl refl))) _
     (c .advanced .ensures))
 

@@ -1,7 +1,9 @@
 -- `checkpoint::copy::copy_page` meets its contract: the copy number is set once the page is stored. Assumes nothing.
+use mathlib.Core.Path.{refl}
 use native.Mathlib.Omega.{arith}
 use borrow.Author.Needs.{needs}
 use borrow.Author.Tests.{not-true, not-false}
+use Rattle.model.specs.Memory.{copyAt, ownerAt, workWords}
 use Rattle.model.proofs.Bounds.{bounded}
 use Rattle.layout.proofs.Pages.{page-fits, copy-fits}
 use Rattle.checkpoint.proofs.Copies.{copy-cut, copy-whole}
@@ -36,7 +38,15 @@ returns c =
 copy-place-requires : tie.Need-copy-place-requires
 copy-place-requires c κs =
     let pre = c .before .before .before .before .before .before .before .before .before .before .before .before .pre in
-    (omega (arith, pre .page-below, bounded _ (pre .sizes) .pages-max), pre .work-words)
+    let b = bounded _ (pre .sizes) in
+    (b .disks-max, omega (arith, pre .page-below, b .pages-max))
+
+slice-write-work : tie.Need-slice-write-work
+unfolding workWords ownerAt copyAt
+slice-write-work c =
+    let start = c .before .before .before .before .before .before .before .before .before .before .before .before .before in
+    let low = bounded _ (start .pre .sizes) .pages-max in
+    omega (arith, c .copy-place .ensures .0 (start .args .sizes) refl, start .pre .work-words, start .pre .page-below, low)
 
 returns-2 : tie.Need-returns-2
 returns-2 c =
@@ -45,7 +55,7 @@ returns-2 c =
     let at-backup-at = at-store-copy .before .before .before in
     λ anchor logs.
     copy-whole _ _ _ (at-backup-at .before .before .page-base .ensures .0) (at-backup-at .before .page-words .ensures .0) (at-backup-at .backup-at .ensures .0)
-    (at-store-copy .store-copy .ensures) anchor logs (not-false _ (at-if1 .if1 .left)) (c .copy-place .ensures .0)
+    (at-store-copy .store-copy .ensures) anchor logs (not-false _ (at-if1 .if1 .left)) (c .copy-place .ensures .0 _ refl)
 
 pub copy-page-spec : {M : Type 1} → statement M
 copy-page-spec =
@@ -60,7 +70,7 @@ copy-page-spec =
     returns
     copy-place-requires
     (λ c. search needs)
-    (λ c. search needs)
+    slice-write-work
     (λ c. search needs)
     (λ c. search needs)
     returns-2)

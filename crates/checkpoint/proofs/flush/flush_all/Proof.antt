@@ -34,7 +34,7 @@ home-of-requires : tie.Need-home-of-requires Inv-loop μ-loop
 home-of-requires c κs =
     let start = c .before .before .before .before .before .before in
     let b = bounded _ (sizes-sound _ (start .pre .state)) in
-    (c .loop-test .taken, b .disks-max, b .ring-max, start .pre .work-words)
+    (c .loop-test .taken, b .disks-max, b .ring-max)
 
 flush-disk-requires : tie.Need-flush-disk-requires Inv-loop μ-loop
 flush-disk-requires c κs =

@@ -40,7 +40,7 @@ disk-at-requires c κs =
 store-word-requires : tie.Need-store-word-requires Inv-loop μ-loop
 store-word-requires c κs =
     let s = c .before .before .before .before .before .before .args .sizes in
-    omega (arith, disk-within s (c .before .before .before .before .loop .d) (c .before .before .before .loop-test .taken), c .before .before .before .before .before .before .pre .1, c .before .before .before .before .loop .inv .1, c .before .before .disk-at .ensures .0)
+    omega (arith, disk-within s (c .before .before .before .before .loop .d) (c .before .before .before .loop-test .taken), c .before .before .before .before .before .before .pre .1, c .before .before .before .before .loop .inv .1, c .before .before .disk-at .ensures .0 s refl)
 
 returns : tie.Need-returns Inv-loop μ-loop
 unfolding tailStores tailWord listBelow tailsTo
@@ -48,7 +48,7 @@ returns c =
     let s = c .before .before .before .before .before .before .before .before .before .before .args .sizes in
     λ a m k work.
     ran-stop (tailOn s) (s .disks) (c .before .before .before .before .before .before .before .before .loop .d) (c .before .before .before .before .before .before .before .loop-test .taken) (c .before .before .before .before .before .before .before .before .loop .inv .2 a m k work) (not-true _ (c .if1 .taken))
-    (rw (c .before .before .before .before .before .before .disk-at .ensures .0) at (tail-ran a m k work (c .before .before .before .store-word .ensures)))
+    (rw (c .before .before .before .before .before .before .disk-at .ensures .0 s refl) at (tail-ran a m k work (c .before .before .before .store-word .ensures)))
 
 loop-again : tie.Need-loop-again Inv-loop μ-loop
 unfolding tailsTo
@@ -58,7 +58,7 @@ loop-again c =
       search needs,
       λ a m k work.
           ran-next (tailOn s) (c .before .before .before .before .before .before .before .before .loop .d) (c .before .before .before .before .before .before .before .before .loop .inv .2 a m k work) (not-false _ (c .if1 .left))
-          (rw (c .before .before .before .before .before .before .disk-at .ensures .0) at (tail-ran a m k work (c .before .before .before .store-word .ensures))),
+          (rw (c .before .before .before .before .before .before .disk-at .ensures .0 s refl) at (tail-ran a m k work (c .before .before .before .store-word .ensures))),
     )
 
 returns-2 : tie.Need-returns-2 Inv-loop μ-loop

@@ -30,12 +30,12 @@ shared-slice-read-tails : tie.Need-shared-slice-read-tails Inv-loop μ-loop
 shared-slice-read-tails c =
     let at-loop = c .before .before .before in
     let start = at-loop .before .before in
-    omega (arith, c .before .disk-at .ensures .0, disk-within (start .args .sizes) (at-loop .loop .d) (c .before .before .loop-test .taken), start .pre .2)
+    omega (arith, c .before .disk-at .ensures .0 (start .args .sizes) refl, disk-within (start .args .sizes) (at-loop .loop .d) (c .before .before .loop-test .taken), start .pre .2)
 
 loop-again : tie.Need-loop-again Inv-loop μ-loop
 unfolding tailIn tailWord
 loop-again c =
-    (omega arith, rw (c .before .before .before .loop .inv .1) (eight-more _ _ _ (omega arith) (rw (c .before .disk-at .ensures .0) refl)))
+    (omega arith, rw (c .before .before .before .loop .inv .1) (eight-more _ _ _ (omega arith) (rw (c .before .disk-at .ensures .0 (c .before .before .before .before .before .args .sizes) refl) refl)))
 
 returns : tie.Need-returns Inv-loop μ-loop
 returns c = c .before .loop .inv .1 ∙ eight-per-disk (c .before .before .before .args .sizes) _ _ (omega arith)

@@ -4,6 +4,7 @@ use native.Mathlib.Omega.{arith}
 use borrow.Author.Needs.{needs}
 use Rattle.model.specs.Anchor.{epochOn}
 use Rattle.model.proofs.Bounds.{bounded}
+use Rattle.layout.proofs.Laws.{total-made}
 use Rattle.restart.proofs.Beginning.{begin-refused, begin-spent, begin-taken}
 use Rattle.restart.proofs.begin.begin_on.Statement.{statement}
 use Rattle.restart.proofs.begin.begin_on.Tie as tie
@@ -44,15 +45,19 @@ returns-2 c =
     rw (c .refuse .ensures) (begin-spent (a .core) _ (a .sizes) (pre .0) (bounded _ (pre .1) .disks-max)
     (at-starts .current-starts .ensures _ refl) _ (at-check .check-logs .ensures) (at-if1 .if1 .left) (c .before .if2 .taken))
 
-total-requires : tie.Need-total-requires
-total-requires c κs = bounded _ (c .before .before .before .before .before .before .before .before .before .before .pre .1) .pages-max
+fill-words-requires : tie.Need-fill-words-requires
+fill-words-requires c κs =
+    let start = c .before .before .before .before .before .before .before .before .before .before .before in
+    omega (arith, total-made (start .args .sizes) (start .pre .5), start .pre .3)
+
+replaying-core-requires : tie.Need-replaying-core-requires
+replaying-core-requires c κs = c .before .before .before .before .before .before .before .before .before .before .before .before .before .before .pre .5
 
 returns-3 : tie.Need-returns-3
 unfolding epochOn
 returns-3 c =
     let at-fill-words = c .before .before .before .before in
-    let at-total = at-fill-words .before .before in
-    let at-if2 = at-total .before in
+    let at-if2 = at-fill-words .before .before in
     let at-if1 = at-if2 .before .before in
     let at-check = at-if1 .before .before in
     let at-tails = at-check .before in
@@ -63,7 +68,7 @@ returns-3 c =
     let pre = start .pre in
     rw (c .finish .ensures) (begin-taken (a .core) _ (a .sizes) (pre .0) (bounded _ (pre .1) .disks-max)
     (at-starts .current-starts .ensures _ refl) _ (at-check .check-logs .ensures) (at-if1 .if1 .left) (at-tails .tails-on .ensures)
-    (omega (arith, at-if2 .if2 .left)) (rw (at-total .total .ensures .0) at (at-fill-words .fill-words .ensures)) (c .before .replaying-core .ensures))
+    (omega (arith, at-if2 .if2 .left)) (rw (total-made (a .sizes) (pre .5)) at (at-fill-words .fill-words .ensures)) (c .before .replaying-core .ensures))
 
 pub begin-on-spec : {M : Type 1} → statement M
 begin-on-spec =
@@ -77,9 +82,8 @@ begin-on-spec =
     (λ c. search needs)
     (λ c κs. search needs)
     returns-2
-    total-requires
-    (λ c κs. search needs)
-    (λ c κs. search needs)
+    fill-words-requires
+    replaying-core-requires
     (λ c κs. search needs)
     (λ c. search needs)
     returns-3)

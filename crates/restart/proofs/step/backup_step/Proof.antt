@@ -17,7 +17,7 @@ xor-page-requires c κs =
 returns-2 : tie.Need-returns-2
 unfolding withReplay
 returns-2 c =
-    let at-xor-page = c .before .before .before .before .before .before .before .before in
+    let at-xor-page = c .before .before .before .before .before .before .before .before .before in
     let at-if1 = at-xor-page .before .before in
     λ anchor logs work. rw (c .finish .ensures) (backup-taken _ _ (at-if1 .if1 .left) (at-xor-page .xor-page .ensures))
 

@@ -40,7 +40,7 @@ ring-words-requires : tie.Need-ring-words-requires
 unfolding ringOf
 ring-words-requires c κs =
     let on = c .before .before .before .before .before .before .before .before .before .pre in
-    omega (arith, c .disk-at .ensures .0, on .log-words, disk-within (c .before .before .before .before .before .before .before .before .before .args .core .sizes) (c .before .before .before .before .before .before .before .before .before .args .disk) (on .disk-in))
+    omega (arith, c .disk-at .ensures .0 (c .before .before .before .before .before .before .before .before .before .args .core .sizes) refl, on .log-words, disk-within (c .before .before .before .before .before .before .before .before .before .args .core .sizes) (c .before .before .before .before .before .before .before .before .before .args .disk) (on .disk-in))
 
 slice-aggregate-record-fault : tie.Need-slice-aggregate-record-fault
 slice-aggregate-record-fault c =

@@ -44,7 +44,7 @@ ring-words-requires : tie.Need-ring-words-requires Inv-loop μ-loop
 unfolding ringOf
 ring-words-requires c κs =
     let on = c .before .before .before .before .before .before .pre in
-    omega (arith, c .disk-at .ensures .0, on .log-words, disk-within (c .before .before .before .before .before .before .args .core .sizes) (c .before .before .before .before .before .before .args .disk) (on .disk-in))
+    omega (arith, c .disk-at .ensures .0 (c .before .before .before .before .before .before .args .core .sizes) refl, on .log-words, disk-within (c .before .before .before .before .before .before .args .core .sizes) (c .before .before .before .before .before .before .args .disk) (on .disk-in))
 
 mul-tail : tie.Need-mul-tail Inv-loop μ-loop
 mul-tail c = omega (arith, eight (c .before .before .before .before .before .before .before .before .pre))
