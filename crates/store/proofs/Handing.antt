@@ -1,40 +1,47 @@
--- A call's reply, handed back as the store's answer and state.
-use mathlib.Core.Path.{_≡_, refl, sym, ap, _∙_}
+-- A call's answer and state, handed back by the store.
+use mathlib.Core.Path.{_≡_, ap, _∙_}
 use mathlib.Core.Bool.{true}
+use mathlib.Core.List.{List}
 use Prim.Native.Nat.{ℕ}
-use lib.ListN.{length}
 use Rattle.model.specs.declared.Answer.{Answer}
-use Rattle.model.specs.declared.Core.{Core}
-use Rattle.model.specs.declared.Reply.{Reply}
+use Rattle.model.specs.declared.Carried.{Carried}
+use Rattle.model.specs.declared.Handed.{Handed}
 use Rattle.model.specs.World.{World}
 use Rattle.model.specs.State.{sound}
 use Rattle.model.specs.Refusal.{Result}
-use Rattle.model.specs.Call.{Call, resultOf, Gives}
+use Rattle.model.specs.Call.{Call, Gives}
+use Rattle.model.specs.View.{coreOf, bodyOf, Serves}
 use Rattle.model.proofs.Sound.Test.{Sized}
 use Rattle.model.proofs.Sound.Calls.{sound-kept}
+use Rattle.model.proofs.View.Head.{view-sized}
+use Rattle.model.proofs.View.Served.{served-gives}
+use Rattle.head.proofs.Laying.{length-here}
+use Rattle.store.specs.Handed.{Arrays}
 
--- The lengths that `core_of` tells.
-abbrev pub Arrays : Core → Type 0
-Arrays r =
-    ((length (r .logs .starts) ≡ 8) × (length (r .logs .tails) ≡ 8) × (length (r .logs .fills) ≡ 8))
-    × (((length (r .table .numbers) ≡ 16) × (length (r .table .disks) ≡ 16) × (length (r .table .firsts) ≡ 16) × (length (r .table .reserved) ≡ 16))
-    × ((length (r .checkpoint .ends) ≡ 8) × (length (r .replay .positions) ≡ 8)))
-
-sized-arrays : (r : Core) → Arrays r → Sized r
-sized-arrays r a =
+sized-view : (h : Carried) (work : List ℕ) → Arrays h → Sized (coreOf h work)
+unfolding coreOf
+sized-view h work a =
+    let long = length-here (coreOf h work) (view-sized h work) in
     record {
-      logs = record { starts = a .0 .0; tails = a .0 .1; fills = a .0 .2 };
-      table = record { numbers = a .1 .0 .0; disks = a .1 .0 .1; firsts = a .1 .0 .2; reserved = a .1 .0 .3 };
-      ends = a .1 .1 .0;
-      positions = a .1 .1 .1;
+      logs = record { starts = a .0; tails = a .1; fills = long 3 };
+      table = record { numbers = long 7; disks = long 8; firsts = long 9; reserved = long 10; sums = long 4 };
+      ends = a .2;
+      positions = long 5;
     }
 
--- What the call gives is what is handed back, and it passes the first test if the state did that came in.
-pub handed : (k : Call) (c : Core) (w v : World) (left : ℕ) (reply : Reply) {core next : Core} {answer : Answer}
-    → (core ≡ c) × Arrays core → Gives k core w reply left v → (answer ≡ reply .answer) × (next ≡ reply .core)
-    → (Gives k c w (record { answer = answer; core = next }) left v) × (sound c ≡ true → sound next ≡ true)
+-- A call that keeps `Serves` hands back a state that passes the whole test, if the state did that came in.
+pub sound-served : (k : Call) (h : Carried) (w : World) (handed : Handed) (left : ℕ) (exit : World) → Arrays h
+    → Serves k h w handed left exit → sound (coreOf h (w .work)) ≡ true → sound (coreOf (handed .carried) (exit .work)) ≡ true
 unfolding Gives
-handed k c w v left reply {core} {next} in-state gives back =
-    let same = in-state .0 in
-    let result = ap (λ (x : Result). x .core) gives in
-    (rw (back .0, back .1, ← same) gives, λ ok. rw (back .1 ∙ result, same) (sound-kept k c w (rw same at (sized-arrays core (in-state .1))) ok))
+sound-served k h w handed left exit a serves ok =
+    ap (λ (r : Result). sound (r .core)) (served-gives k h w handed left exit serves)
+    ∙ sound-kept k (coreOf h (w .work)) (bodyOf w) (sized-view h (w .work) a) ok
+
+-- What a call hands back, handed on.
+pub handed-on : (k : Call) (h : Carried) (w exit : World) (left : ℕ) (handed : Handed) {carried next : Carried} {answer : Answer}
+    → (carried ≡ h) × Arrays h → Serves k carried w handed left exit → (answer ≡ handed .answer) × (next ≡ handed .carried)
+    → (Serves k h w (record { answer = answer; carried = next }) left exit)
+    × (sound (coreOf h (w .work)) ≡ true → sound (coreOf next (exit .work)) ≡ true)
+handed-on k h w exit left handed in-state serves back =
+    let mine = rw (in-state .0) at serves in
+    (rw (back .0, back .1) mine, rw (back .1) (sound-served k h w handed left exit (in-state .1) mine))

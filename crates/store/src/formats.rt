@@ -1,16 +1,18 @@
 // Format.
 use crate::Called;
 use crate::State;
-use crate::core_of;
-use crate::hand_back;
+use crate::whole::kept;
+use crate::whole::loaded;
+use head::own::body_start;
 use layout::anchor::RawSizes;
 ghost use mathlib.Core.Path.{_≡_};
 ghost use mathlib.Core.Bool.{true};
 ghost use Rattle.model.specs.World.{worldOf};
 ghost use Rattle.model.specs.Moments.{old, new, oldWorld};
 ghost use Rattle.model.specs.State.{sound};
-ghost use Rattle.model.specs.Call.{format, Gives};
-ghost use Rattle.store.specs.Handed.{replyOf};
+ghost use Rattle.model.specs.Call.{format};
+ghost use Rattle.model.specs.View.{coreOf, Serves};
+ghost use Rattle.store.specs.Handed.{handedOf};
 
 // The sizes come by value: P, D and W, the slots in each page, the words in each slot of that page.
 pub fn format(
@@ -27,11 +29,12 @@ pub fn format(
     work: &mut [u64],
     budget: &mut u64,
 ) -> Called
-    ensures { λ r. ⌜ Gives (format (record { pages = «pages_count»; disks = disks; ring = ring; slots = slots; widths = widths }) (old budget))
-        (state .core) (oldWorld anchor pages backups logs work) (replyOf r) (new budget) (worldOf (new anchor) (new pages) (new backups) (new logs) (new work)) ⌝ }
-    ensures { λ r. ⌜ (sound (state .core) ≡ true → sound (r .state .core) ≡ true) ⌝ }
+    ensures { λ r. ⌜ Serves (format (record { pages = «pages_count»; disks = disks; ring = ring; slots = slots; widths = widths }) (old budget))
+        (state .carried) (oldWorld anchor pages backups logs work) (handedOf r) (new budget) (worldOf (new anchor) (new pages) (new backups) (new logs) (new work)) ⌝ }
+    ensures { λ r. ⌜ (sound (coreOf (state .carried) (old work)) ≡ true → sound (coreOf (r .state .carried) (new work)) ≡ true) ⌝ }
 {
-    let core = core_of(state);
+    let core = loaded(state, work);
+    let from = body_start(work.len());
     let raw = RawSizes {
         pages: pages_count,
         disks,
@@ -39,6 +42,15 @@ pub fn format(
         slots,
         widths,
     };
-    let reply = format::format::format(core, raw, anchor, pages, backups, logs, work, budget);
-    hand_back(reply)
+    let reply = format::format::format(
+        core,
+        raw,
+        anchor,
+        pages,
+        backups,
+        logs,
+        &mut work[from..],
+        budget,
+    );
+    kept(reply, work)
 }

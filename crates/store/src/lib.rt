@@ -3,21 +3,25 @@ pub mod checkpoints;
 pub mod formats;
 pub mod restarts;
 pub mod transactions;
+mod whole;
 
-use frame::states::new_core;
+use frame::handed::new_carried;
 use model::Answer;
-use model::Core;
-use model::Reply;
+use model::Carried;
+use model::Handed;
 ghost use mathlib.Core.Path.{_≡_};
 ghost use mathlib.Core.Bool.{true};
-ghost use lib.ListN.{length};
+ghost use mathlib.Core.List.{List};
+ghost use Prim.Native.Nat.{ℕ};
 ghost use Rattle.model.specs.World.{World};
-ghost use Rattle.model.specs.State.{newCore, sound};
-ghost use Rattle.model.specs.Call.{newState, Gives};
+ghost use Rattle.model.specs.State.{sound};
+ghost use Rattle.model.specs.Call.{newState};
+ghost use Rattle.model.specs.View.{coreOf, Serves};
+ghost use Rattle.store.specs.Handed.{Arrays};
 
-// What is handed from one call to the next; the lent work memory goes with it.
+// What is handed from one call to the next, 256 bytes; the lent work memory goes with it, and has the rest of the state in its head.
 pub struct State {
-    core: Core,
+    carried: Carried,
 }
 
 // What a call hands back: its answer, and the state for the next call.
@@ -26,32 +30,30 @@ pub struct Called {
     pub state: State,
 }
 
-// A shut store: what one starts with, and what lost power leaves.
+// A shut store: what one starts with, and what lost power leaves. Whatever is lent to it, the state is a new one.
 pub fn new_state() -> State
-    ensures { λ r. ⌜ ((c : Core) (w : World) → Gives newState c w (record { answer = Answer.Finished 0 0; core = r .core }) 0 w) ⌝ }
-    ensures { λ r. ⌜ sound (r .core) ≡ true ⌝ }
+    ensures { λ r. ⌜ ((h : Carried) (w : World) → Serves newState h w (record { answer = Answer.Finished 0 0; carried = r .carried }) 0 w) ⌝ }
+    ensures { λ r. ⌜ ((work : List ℕ) → sound (coreOf (r .carried) work) ≡ true) ⌝ }
 {
-    let core = new_core();
-    State { core }
+    let carried = new_carried();
+    State { carried }
 }
 
-// The state's fields. That its arrays are as long as their types say is told here: the calls' proofs use it.
-fn core_of(state: State) -> Core
-    ensures { λ r. ⌜ r ≡ state .core ⌝ }
-    ensures { λ r. ⌜ (length (r .logs .starts) ≡ 8) × (length (r .logs .tails) ≡ 8) × (length (r .logs .fills) ≡ 8) ⌝ }
-    ensures { λ r. ⌜ (length (r .table .numbers) ≡ 16) × (length (r .table .disks) ≡ 16) × (length (r .table .firsts) ≡ 16) × (length (r .table .reserved) ≡ 16) ⌝ }
-    ensures { λ r. ⌜ (length (r .checkpoint .ends) ≡ 8) × (length (r .replay .positions) ≡ 8) ⌝ }
+// What the state carries. That its arrays are as long as their types say is told here: the calls' proofs use it.
+fn carried_of(state: State) -> Carried
+    ensures { λ r. ⌜ r ≡ state .carried ⌝ }
+    ensures { λ _. ⌜ Arrays (state .carried) ⌝ }
 {
-    let core = state.core;
-    core
+    let carried = state.carried;
+    carried
 }
 
-// A reply as the caller gets it.
-fn hand_back(reply: Reply) -> Called
-    ensures { λ r. ⌜ (r .answer ≡ reply .answer) × (r .state .core ≡ reply .core) ⌝ }
+// What a call hands back, as the caller gets it.
+fn hand_back(handed: Handed) -> Called
+    ensures { λ r. ⌜ (r .answer ≡ handed .answer) × (r .state .carried ≡ handed .carried) ⌝ }
 {
-    let answer = reply.answer;
-    let core = reply.core;
-    let state = State { core };
+    let answer = handed.answer;
+    let carried = handed.carried;
+    let state = State { carried };
     Called { answer, state }
 }

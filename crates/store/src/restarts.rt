@@ -1,16 +1,18 @@
 // The calls of a restart, and what remains of a source.
 use crate::Called;
 use crate::State;
-use crate::core_of;
-use crate::hand_back;
+use crate::whole::kept;
+use crate::whole::loaded;
+use head::own::body_start;
 ghost use mathlib.Core.Path.{_≡_};
 ghost use mathlib.Core.Bool.{true};
 ghost use Rattle.model.specs.World.{worldOf};
 ghost use Rattle.model.specs.Moments.{old, new, oldWorld};
 ghost use Rattle.model.specs.State.{sound};
 ghost use Rattle.model.specs.Restart.{remaining};
-ghost use Rattle.model.specs.Call.{restartBegin, restartStep, restartRun, restartEnd, Gives};
-ghost use Rattle.store.specs.Handed.{replyOf};
+ghost use Rattle.model.specs.Call.{restartBegin, restartStep, restartRun, restartEnd};
+ghost use Rattle.model.specs.View.{coreOf, Serves};
+ghost use Rattle.store.specs.Handed.{handedOf};
 
 // Checks the devices, and zeroes the pages.
 pub fn restart_begin(
@@ -19,15 +21,16 @@ pub fn restart_begin(
     pages: &mut [u64],
     backups: &[u64],
     logs: &[u64],
-    work: &[u64],
+    work: &mut [u64],
 ) -> Called
-    ensures { λ r. ⌜ Gives restartBegin (state .core) (oldWorld anchor pages backups logs work)
-        (replyOf r) 0 (worldOf (old anchor) (new pages) (old backups) (old logs) (old work)) ⌝ }
-    ensures { λ r. ⌜ (sound (state .core) ≡ true → sound (r .state .core) ≡ true) ⌝ }
+    ensures { λ r. ⌜ Serves restartBegin (state .carried) (oldWorld anchor pages backups logs work)
+        (handedOf r) 0 (worldOf (old anchor) (new pages) (old backups) (old logs) (new work)) ⌝ }
+    ensures { λ r. ⌜ (sound (coreOf (state .carried) (old work)) ≡ true → sound (coreOf (r .state .carried) (new work)) ≡ true) ⌝ }
 {
-    let core = core_of(state);
-    let reply = restart::begin::begin(core, anchor, pages, backups, logs, work);
-    hand_back(reply)
+    let core = loaded(state, work);
+    let from = body_start(work.len());
+    let reply = restart::begin::begin(core, anchor, pages, backups, logs, &work[from..]);
+    kept(reply, work)
 }
 
 // Replays the next item of a source: a log by its disk, the backup by the number of disks.
@@ -38,15 +41,16 @@ pub fn restart_step(
     pages: &mut [u64],
     backups: &[u64],
     logs: &[u64],
-    work: &[u64],
+    work: &mut [u64],
 ) -> Called
-    ensures { λ r. ⌜ Gives (restartStep source) (state .core) (oldWorld anchor pages backups logs work)
-        (replyOf r) 0 (worldOf (old anchor) (new pages) (old backups) (old logs) (old work)) ⌝ }
-    ensures { λ r. ⌜ (sound (state .core) ≡ true → sound (r .state .core) ≡ true) ⌝ }
+    ensures { λ r. ⌜ Serves (restartStep source) (state .carried) (oldWorld anchor pages backups logs work)
+        (handedOf r) 0 (worldOf (old anchor) (new pages) (old backups) (old logs) (new work)) ⌝ }
+    ensures { λ r. ⌜ (sound (coreOf (state .carried) (old work)) ≡ true → sound (coreOf (r .state .carried) (new work)) ≡ true) ⌝ }
 {
-    let core = core_of(state);
-    let reply = restart::step::step(core, source, anchor, pages, backups, logs, work);
-    hand_back(reply)
+    let core = loaded(state, work);
+    let from = body_start(work.len());
+    let reply = restart::step::step(core, source, anchor, pages, backups, logs, &work[from..]);
+    kept(reply, work)
 }
 
 // Replays up to `most` items of a source, as that many steps would; answers how many.
@@ -58,15 +62,25 @@ pub fn restart_run(
     pages: &mut [u64],
     backups: &[u64],
     logs: &[u64],
-    work: &[u64],
+    work: &mut [u64],
 ) -> Called
-    ensures { λ r. ⌜ Gives (restartRun source most) (state .core) (oldWorld anchor pages backups logs work)
-        (replyOf r) 0 (worldOf (old anchor) (new pages) (old backups) (old logs) (old work)) ⌝ }
-    ensures { λ r. ⌜ (sound (state .core) ≡ true → sound (r .state .core) ≡ true) ⌝ }
+    ensures { λ r. ⌜ Serves (restartRun source most) (state .carried) (oldWorld anchor pages backups logs work)
+        (handedOf r) 0 (worldOf (old anchor) (new pages) (old backups) (old logs) (new work)) ⌝ }
+    ensures { λ r. ⌜ (sound (coreOf (state .carried) (old work)) ≡ true → sound (coreOf (r .state .carried) (new work)) ≡ true) ⌝ }
 {
-    let core = core_of(state);
-    let reply = run::run::run(core, source, most, anchor, pages, backups, logs, work);
-    hand_back(reply)
+    let core = loaded(state, work);
+    let from = body_start(work.len());
+    let reply = run::run::run(
+        core,
+        source,
+        most,
+        anchor,
+        pages,
+        backups,
+        logs,
+        &work[from..],
+    );
+    kept(reply, work)
 }
 
 // Makes the pages the current backup; answers the new checkpoint number.
@@ -79,18 +93,28 @@ pub fn restart_end(
     work: &mut [u64],
     budget: &mut u64,
 ) -> Called
-    ensures { λ r. ⌜ Gives (restartEnd (old budget)) (state .core) (oldWorld anchor pages backups logs work)
-        (replyOf r) (new budget) (worldOf (new anchor) (old pages) (new backups) (old logs) (new work)) ⌝ }
-    ensures { λ r. ⌜ (sound (state .core) ≡ true → sound (r .state .core) ≡ true) ⌝ }
+    ensures { λ r. ⌜ Serves (restartEnd (old budget)) (state .carried) (oldWorld anchor pages backups logs work)
+        (handedOf r) (new budget) (worldOf (new anchor) (old pages) (new backups) (old logs) (new work)) ⌝ }
+    ensures { λ r. ⌜ (sound (coreOf (state .carried) (old work)) ≡ true → sound (coreOf (r .state .carried) (new work)) ≡ true) ⌝ }
 {
-    let core = core_of(state);
-    let reply = restart::finish::end(core, anchor, pages, backups, logs, work, budget);
-    hand_back(reply)
+    let core = loaded(state, work);
+    let from = body_start(work.len());
+    let reply = restart::finish::end(
+        core,
+        anchor,
+        pages,
+        backups,
+        logs,
+        &mut work[from..],
+        budget,
+    );
+    kept(reply, work)
 }
 
 // What remains of a source: words of a log, pages of the backup.
-pub fn restart_remaining(state: State, source: u64) -> u64
-    ensures { λ r. ⌜ r ≡ remaining (state .core) source ⌝ }
+pub fn restart_remaining(state: State, source: u64, work: &[u64]) -> u64
+    ensures { λ r. ⌜ r ≡ remaining (coreOf (state .carried) (old work)) source ⌝ }
 {
-    restart::remain::remaining(state.core, source)
+    let core = loaded(state, work);
+    restart::remain::remaining(core, source)
 }

@@ -1,8 +1,11 @@
 // The calls of a transaction.
 use crate::Called;
 use crate::State;
-use crate::core_of;
+use crate::carried_of;
 use crate::hand_back;
+use crate::whole::kept;
+use crate::whole::loaded;
+use head::own::body_start;
 use model::Answer;
 ghost use mathlib.Core.Path.{_≡_};
 ghost use mathlib.Core.Bool.{true};
@@ -10,8 +13,9 @@ ghost use Rattle.model.specs.World.{worldOf};
 ghost use Rattle.model.specs.Moments.{old, new, oldWorld};
 ghost use Rattle.model.specs.State.{sound};
 ghost use Rattle.model.specs.Transaction.{readWords};
-ghost use Rattle.model.specs.Call.{begin, update, read, commit, abort, look, Gives};
-ghost use Rattle.store.specs.Handed.{replyOf};
+ghost use Rattle.model.specs.Call.{begin, update, read, commit, abort, look};
+ghost use Rattle.model.specs.View.{coreOf, bodyOf, Serves};
+ghost use Rattle.store.specs.Handed.{handedOf};
 
 // Answers the transaction's number.
 pub fn begin(
@@ -20,15 +24,15 @@ pub fn begin(
     pages: &[u64],
     backups: &[u64],
     logs: &[u64],
-    work: &[u64],
+    work: &mut [u64],
 ) -> Called
-    ensures { λ r. ⌜ Gives begin (state .core) (oldWorld anchor pages backups logs work)
-        (replyOf r) 0 (oldWorld anchor pages backups logs work) ⌝ }
-    ensures { λ r. ⌜ (sound (state .core) ≡ true → sound (r .state .core) ≡ true) ⌝ }
+    ensures { λ r. ⌜ Serves begin (state .carried) (oldWorld anchor pages backups logs work)
+        (handedOf r) 0 (worldOf (old anchor) (old pages) (old backups) (old logs) (new work)) ⌝ }
+    ensures { λ r. ⌜ (sound (coreOf (state .carried) (old work)) ≡ true → sound (coreOf (r .state .carried) (new work)) ≡ true) ⌝ }
 {
-    let core = core_of(state);
-    let reply = txn::begin::begin(core, anchor, pages, backups, logs, work);
-    hand_back(reply)
+    let carried = carried_of(state);
+    let handed = txn::begin::begin(carried, anchor, pages, backups, logs, work);
+    hand_back(handed)
 }
 
 // Sets a slot, and holds it until the transaction closes.
@@ -45,13 +49,13 @@ pub fn update(
     work: &mut [u64],
     budget: &mut u64,
 ) -> Called
-    ensures { λ r. ⌜ Gives (update number page slot (old value) (old budget)) (state .core) (oldWorld anchor pages backups logs work)
-        (replyOf r) (new budget) (worldOf (old anchor) (new pages) (old backups) (new logs) (new work)) ⌝ }
-    ensures { λ r. ⌜ (sound (state .core) ≡ true → sound (r .state .core) ≡ true) ⌝ }
+    ensures { λ r. ⌜ Serves (update number page slot (old value) (old budget)) (state .carried) (oldWorld anchor pages backups logs work)
+        (handedOf r) (new budget) (worldOf (old anchor) (new pages) (old backups) (new logs) (new work)) ⌝ }
+    ensures { λ r. ⌜ (sound (coreOf (state .carried) (old work)) ≡ true → sound (coreOf (r .state .carried) (new work)) ≡ true) ⌝ }
 {
-    let core = core_of(state);
-    let reply = access::update::update(
-        core,
+    let carried = carried_of(state);
+    let handed = access::update::update(
+        carried,
         number,
         page,
         slot,
@@ -63,7 +67,7 @@ pub fn update(
         work,
         budget,
     );
-    hand_back(reply)
+    hand_back(handed)
 }
 
 // The slot's words as a part of the page memory, empty if the read is refused. Reader 0 has no transaction.
@@ -78,10 +82,10 @@ pub fn read<'a>(
     logs: &[u64],
     work: &[u64],
 ) -> &'a [u64]
-    ensures { λ r. ⌜ now r ≡ readWords (state .core) (oldWorld anchor pages backups logs work) reader page slot ⌝ }
+    ensures { λ r. ⌜ now r ≡ readWords (coreOf (state .carried) (old work)) (bodyOf (oldWorld anchor pages backups logs work)) reader page slot ⌝ }
 {
     access::read::read(
-        state.core,
+        state.carried,
         reader,
         page,
         slot,
@@ -105,11 +109,11 @@ pub fn read_answer(
     logs: &[u64],
     work: &[u64],
 ) -> Answer
-    ensures { λ r. ⌜ Gives (look (read reader page slot)) (state .core) (oldWorld anchor pages backups logs work)
-        (record { answer = r; core = state .core }) 0 (oldWorld anchor pages backups logs work) ⌝ }
+    ensures { λ r. ⌜ Serves (look (read reader page slot)) (state .carried) (oldWorld anchor pages backups logs work)
+        (record { answer = r; carried = state .carried }) 0 (oldWorld anchor pages backups logs work) ⌝ }
 {
     access::read::read_answer(
-        state.core,
+        state.carried,
         reader,
         page,
         slot,
@@ -132,13 +136,13 @@ pub fn commit(
     work: &mut [u64],
     budget: &mut u64,
 ) -> Called
-    ensures { λ r. ⌜ Gives (commit number (old budget)) (state .core) (oldWorld anchor pages backups logs work)
-        (replyOf r) (new budget) (worldOf (old anchor) (old pages) (old backups) (new logs) (new work)) ⌝ }
-    ensures { λ r. ⌜ (sound (state .core) ≡ true → sound (r .state .core) ≡ true) ⌝ }
+    ensures { λ r. ⌜ Serves (commit number (old budget)) (state .carried) (oldWorld anchor pages backups logs work)
+        (handedOf r) (new budget) (worldOf (old anchor) (old pages) (old backups) (new logs) (new work)) ⌝ }
+    ensures { λ r. ⌜ (sound (coreOf (state .carried) (old work)) ≡ true → sound (coreOf (r .state .carried) (new work)) ≡ true) ⌝ }
 {
-    let core = core_of(state);
-    let reply = txn::commit::commit(core, number, anchor, pages, backups, logs, work, budget);
-    hand_back(reply)
+    let carried = carried_of(state);
+    let handed = txn::commit::commit(carried, number, anchor, pages, backups, logs, work, budget);
+    hand_back(handed)
 }
 
 // Takes a transaction's updates back, newest first, and closes it.
@@ -152,11 +156,21 @@ pub fn abort(
     work: &mut [u64],
     budget: &mut u64,
 ) -> Called
-    ensures { λ r. ⌜ Gives (abort number (old budget)) (state .core) (oldWorld anchor pages backups logs work)
-        (replyOf r) (new budget) (worldOf (old anchor) (new pages) (old backups) (new logs) (new work)) ⌝ }
-    ensures { λ r. ⌜ (sound (state .core) ≡ true → sound (r .state .core) ≡ true) ⌝ }
+    ensures { λ r. ⌜ Serves (abort number (old budget)) (state .carried) (oldWorld anchor pages backups logs work)
+        (handedOf r) (new budget) (worldOf (old anchor) (new pages) (old backups) (new logs) (new work)) ⌝ }
+    ensures { λ r. ⌜ (sound (coreOf (state .carried) (old work)) ≡ true → sound (coreOf (r .state .carried) (new work)) ≡ true) ⌝ }
 {
-    let core = core_of(state);
-    let reply = abort::abort::abort(core, number, anchor, pages, backups, logs, work, budget);
-    hand_back(reply)
+    let core = loaded(state, work);
+    let from = body_start(work.len());
+    let reply = abort::abort::abort(
+        core,
+        number,
+        anchor,
+        pages,
+        backups,
+        logs,
+        &mut work[from..],
+        budget,
+    );
+    kept(reply, work)
 }
