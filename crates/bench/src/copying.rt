@@ -26,6 +26,21 @@ fn copied(
     s
 }
 
+// What follows its begin: the copies, and its end.
+fn completed(
+    state: State,
+    count: u64,
+    anchor: &mut [u64],
+    pages: &[u64],
+    backups: &mut [u64],
+    logs: &mut [u64],
+    work: &mut [u64],
+    budget: &mut u64,
+) -> Called {
+    let s = copied(state, count, anchor, pages, backups, logs, work, budget);
+    checkpoint_end(s, anchor, pages, backups, logs, work, budget)
+}
+
 // What its end hands back.
 pub fn checkpointed(
     state: State,
@@ -38,7 +53,7 @@ pub fn checkpointed(
     budget: &mut u64,
 ) -> Called {
     let begun = checkpoint_begin(state, anchor, pages, backups, logs, work);
-    let s = copied(
+    completed(
         begun.state,
         count,
         anchor,
@@ -47,6 +62,5 @@ pub fn checkpointed(
         logs,
         work,
         budget,
-    );
-    checkpoint_end(s, anchor, pages, backups, logs, work, budget)
+    )
 }

@@ -86,7 +86,7 @@ fn planned(
         memory: t,
         copies: 2 * t,
         rings: at_most(product(d, r + 1), 524296),
-        scratch: t + 64 * d + 64,
+        scratch: t + 64 * d + 345,
     }
 }
 

@@ -110,7 +110,7 @@ fn main() {
     let mut pages = [0u64; 8192];
     let mut backups = [0u64; 16384];
     let mut logs = [0u64; 524296];
-    let mut work = [0u64; 8768];
+    let mut work = [0u64; 9049];
     lent(
         plan,
         &mut value,

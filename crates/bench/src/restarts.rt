@@ -22,7 +22,7 @@ fn source_replayed(
     pages: &mut [u64],
     backups: &[u64],
     logs: &[u64],
-    work: &[u64],
+    work: &mut [u64],
 ) -> Progress {
     let most = wrapping_add_u64(plan.ring, plan.pages);
     let done = restart_run(state, source, most, anchor, pages, backups, logs, work);
@@ -42,7 +42,7 @@ fn all_replayed(
     pages: &mut [u64],
     backups: &[u64],
     logs: &[u64],
-    work: &[u64],
+    work: &mut [u64],
 ) -> Progress {
     let mut s = state;
     let mut records: u64 = 0;
@@ -68,7 +68,7 @@ fn replayed(
     pages: &mut [u64],
     backups: &[u64],
     logs: &[u64],
-    work: &[u64],
+    work: &mut [u64],
 ) -> Progress {
     let begun = restart_begin(store::new_state(), anchor, pages, backups, logs, work);
     all_replayed(plan, begun.state, anchor, pages, backups, logs, work)
@@ -81,7 +81,7 @@ fn repeated(
     pages: &mut [u64],
     backups: &[u64],
     logs: &[u64],
-    work: &[u64],
+    work: &mut [u64],
 ) {
     let mut i: u64 = 1;
     while i < plan.restarts {

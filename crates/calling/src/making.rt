@@ -62,7 +62,7 @@ fn make_free(
     pages: &mut [u64],
     backups: &[u64],
     logs: &[u64],
-    work: &[u64],
+    work: &mut [u64],
     book: &mut [u64],
 ) -> Called {
     let kind = call.kind;

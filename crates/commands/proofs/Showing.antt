@@ -5,29 +5,31 @@ use mathlib.Core.List.{List, [], _∷_}
 use native.Mathlib.Omega.{arith}
 use lib.ListN.{length, getD}
 use lib.Bits.{bitXor}
-use Rattle.model.specs.declared.Core.{Core}
+use Rattle.model.specs.declared.Carried.{Carried}
 use Rattle.model.specs.declared.Answer.{Answer}
 use Rattle.model.specs.declared.Answer.the-variants.{Finished, Refused, Interrupted}
 use Rattle.model.specs.World.{World}
 use Rattle.model.specs.Call.{Call, resultOf, Gives}
+use Rattle.model.specs.View.{coreOf, bodyOf, Serves}
+use Rattle.model.proofs.View.Served.{served-gives}
 use Rattle.commands.specs.declared.outcome.Outcome.{Outcome}
 use Rattle.commands.specs.Shown.{valueIn, shownOf}
-use Rattle.commands.specs.Meaning.{showing, showingOwn}
+use Rattle.commands.specs.Meaning.{lineSeen, showing, showingOwn}
 
-module _ (k : Call) (c : Core) (w v : World) (left : ℕ) (answer : Answer) (core : Core) {next : Core} {outcome : Outcome} (gives : Gives k c w (record { answer = answer; core = core }) left v) (same : next ≡ core) where
-  pub shows : (value : ℕ) → outcome ≡ shownOf answer value → record { outcome = outcome; core = next; world = v } ≡ showing value (resultOf k c w)
+module _ (k : Call) (h : Carried) (w v : World) (left : ℕ) (answer : Answer) (carried : Carried) {next : Carried} {outcome : Outcome} (serves : Serves k h w (record { answer = answer; carried = carried }) left v) (same : next ≡ carried) where
+  pub shows : (value : ℕ) → outcome ≡ shownOf answer value → lineSeen outcome next v ≡ showing value (resultOf k (coreOf h (w .work)) (bodyOf w))
   unfolding Gives
-  shows value e = rw (e, same) (ap (showing value) gives)
+  shows value e = rw (e, same) (ap (showing value) (served-gives _ _ _ _ _ _ serves))
 
   -- the value is a difference
   pub shows-difference : {before word : ℕ} (value : ℕ) → before ≡ word → outcome ≡ shownOf answer (bitXor before value)
-      → record { outcome = outcome; core = next; world = v } ≡ showing (bitXor word value) (resultOf k c w)
+      → lineSeen outcome next v ≡ showing (bitXor word value) (resultOf k (coreOf h (w .work)) (bodyOf w))
   shows-difference {before} {word} value same e = shows (bitXor word value) (rw same at e)
 
   -- the value is the one answered
-  pub shows-own : outcome ≡ shownOf answer (valueIn answer) → record { outcome = outcome; core = next; world = v } ≡ showingOwn (resultOf k c w)
+  pub shows-own : outcome ≡ shownOf answer (valueIn answer) → lineSeen outcome next v ≡ showingOwn (resultOf k (coreOf h (w .work)) (bodyOf w))
   unfolding Gives
-  shows-own e = rw (e, same) (ap showingOwn gives)
+  shows-own e = rw (e, same) (ap showingOwn (served-gives _ _ _ _ _ _ serves))
 
 -- an empty part of the pages has no first word
 pub no-word : {l m : List ℕ} → l ≡ m → length l ≡ 0 → 0 ≡ getD m 0 0

@@ -4,9 +4,11 @@ use Prim.Native.Nat.{ℕ}
 use mathlib.Core.List.{[], _∷_}
 use lib.Bits.{bitXor}
 use Rattle.model.specs.declared.Core.{Core}
+use Rattle.model.specs.declared.Carried.{Carried}
 use Rattle.model.specs.World.{World}
 use Rattle.model.specs.Refusal.{Result}
 use Rattle.model.specs.Call.{begin, update, read, commit, abort, checkpointBegin, checkpointStep, checkpointEnd, look, resultOf}
+use Rattle.model.specs.View.{coreOf, bodyOf}
 use Rattle.lines.specs.declared.command.Command.{Command}
 use Rattle.lines.specs.declared.command.Command.the-variants.{Begin, Set, Commit, Abort, Get, Mark, Copy, Close, Restart, Other}
 use Rattle.commands.specs.declared.outcome.Outcome.{Outcome}
@@ -43,6 +45,11 @@ lineOf Close c w = showing 0 (resultOf (checkpointEnd 18446744073709551615) c w)
 lineOf Restart c w = showingOwn (restartedAll c w)
 lineOf Other c w = record { outcome = record { answer = 17; stores = 0; value = 0 }; core = c; world = w }
 
--- A command that the code ran, on a state and the words lent to it, comes to what the definition says.
-abbrev pub Runs : Command → Core → World → Done → World → Type 0
-Runs command c w done v = record { outcome = done .outcome; core = done .state .core; world = v } ≡ lineOf command c w
+-- The line of the code, by what it hands back by value and the words that it left.
+abbrev pub lineSeen : Outcome → Carried → World → Line
+lineSeen outcome h w = record { outcome = outcome; core = coreOf h (w .work); world = bodyOf w }
+
+-- A command that the code ran, on what is carried by value and the words lent to it, comes to what the definition says of the state and
+-- the words that they stand for.
+abbrev pub Runs : Command → Carried → World → Done → World → Type 0
+Runs command h w done v = lineSeen (done .outcome) (done .state .carried) v ≡ lineOf command (coreOf h (w .work)) (bodyOf w)

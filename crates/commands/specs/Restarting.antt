@@ -9,6 +9,7 @@ use Rattle.model.specs.World.{World}
 use Rattle.model.specs.Refusal.{Result}
 use Rattle.model.specs.Restart.{remaining}
 use Rattle.model.specs.Call.{restartBegin, restartRun, restartEnd, resultOf}
+use Rattle.model.specs.View.{coreOf, bodyOf}
 use Rattle.store.specs.declared.Called.{Called}
 
 abbrev pub isFinished : Answer → Bool
@@ -34,6 +35,6 @@ restartedAll c w =
     let r : Result = replayedAll c w in
     cond (isFinished (r .answer)) (resultOf (restartEnd 18446744073709551615) (r .core) (r .world)) r
 
--- A call of the code that stores nothing, with the words that it left.
+-- A call of the code that stores nothing, with the words that it left, as the definitions see both.
 abbrev pub given : Called → World → Result
-given called w = record { answer = called .answer; budget = 0; core = called .state .core; world = w }
+given called w = record { answer = called .answer; budget = 0; core = coreOf (called .state .carried) (w .work); world = bodyOf w }

@@ -13,10 +13,10 @@ pub fn run_mark(
     pages: &[u64],
     backups: &[u64],
     logs: &[u64],
-    work: &[u64],
+    work: &mut [u64],
 ) -> Done
-    ensures { λ r. ⌜ Runs Mark (state .core) (oldWorld anchor pages backups logs work)
-        r (oldWorld anchor pages backups logs work) ⌝ }
+    ensures { λ r. ⌜ Runs Mark (state .carried) (oldWorld anchor pages backups logs work)
+        r (worldOf (old anchor) (old pages) (old backups) (old logs) (new work)) ⌝ }
 {
     let called = store::checkpoints::checkpoint_begin(state, anchor, pages, backups, logs, work);
     done_of(called, 0)
@@ -30,7 +30,7 @@ pub fn run_copy(
     logs: &[u64],
     work: &mut [u64],
 ) -> Done
-    ensures { λ r. ⌜ Runs Copy (state .core) (oldWorld anchor pages backups logs work)
+    ensures { λ r. ⌜ Runs Copy (state .carried) (oldWorld anchor pages backups logs work)
         r (worldOf (old anchor) (old pages) (new backups) (old logs) (new work)) ⌝ }
 {
     let mut budget = u64::MAX;
@@ -52,10 +52,10 @@ pub fn run_close(
     pages: &[u64],
     backups: &[u64],
     logs: &mut [u64],
-    work: &[u64],
+    work: &mut [u64],
 ) -> Done
-    ensures { λ r. ⌜ Runs Close (state .core) (oldWorld anchor pages backups logs work)
-        r (worldOf (new anchor) (old pages) (old backups) (new logs) (old work)) ⌝ }
+    ensures { λ r. ⌜ Runs Close (state .carried) (oldWorld anchor pages backups logs work)
+        r (worldOf (new anchor) (old pages) (old backups) (new logs) (new work)) ⌝ }
 {
     let mut budget = u64::MAX;
     let called = store::checkpoints::checkpoint_end(

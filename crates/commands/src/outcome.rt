@@ -65,7 +65,7 @@ pub fn value_of(answer: Answer) -> u64
 
 // A call's line, with a value.
 pub fn done_of(called: Called, value: u64) -> Done
-    ensures { λ r. ⌜ (r .outcome ≡ shownOf (called .answer) value) × (r .state .core ≡ called .state .core) ⌝ }
+    ensures { λ r. ⌜ (r .outcome ≡ shownOf (called .answer) value) × (r .state .carried ≡ called .state .carried) ⌝ }
 {
     let answer = called.answer;
     let state = called.state;

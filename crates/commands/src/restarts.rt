@@ -8,6 +8,7 @@ use store::State;
 ghost use mathlib.Core.Path.{_≡_};
 ghost use Rattle.model.specs.World.{worldOf};
 ghost use Rattle.model.specs.Moments.{old, new, oldWorld};
+ghost use Rattle.model.specs.View.{coreOf, bodyOf};
 ghost use Rattle.lines.specs.declared.command.Command.the-variants.{Restart};
 ghost use Rattle.commands.specs.Restarting.{toEnd, replayedAll, given};
 ghost use Rattle.commands.specs.Meaning.{Runs};
@@ -20,9 +21,9 @@ fn replay(
     pages: &mut [u64],
     backups: &[u64],
     logs: &[u64],
-    work: &[u64],
+    work: &mut [u64],
 ) -> Called
-    ensures { λ r. ⌜ given r (worldOf (old anchor) (new pages) (old backups) (old logs) (old work))
+    ensures { λ r. ⌜ given r (worldOf (old anchor) (new pages) (old backups) (old logs) (new work))
         ≡ toEnd source (given begun (oldWorld anchor pages backups logs work)) ⌝ }
 {
     let answer = begun.answer;
@@ -30,7 +31,7 @@ fn replay(
         return begun;
     }
     let state = begun.state;
-    let left = store::restarts::restart_remaining(state, source);
+    let left = store::restarts::restart_remaining(state, source, work);
     if left == 0 {
         return begun;
     }
@@ -44,10 +45,10 @@ fn replay_all(
     pages: &mut [u64],
     backups: &[u64],
     logs: &[u64],
-    work: &[u64],
+    work: &mut [u64],
 ) -> Called
-    ensures { λ r. ⌜ given r (worldOf (old anchor) (new pages) (old backups) (old logs) (old work))
-        ≡ replayedAll (state .core) (oldWorld anchor pages backups logs work) ⌝ }
+    ensures { λ r. ⌜ given r (worldOf (old anchor) (new pages) (old backups) (old logs) (new work))
+        ≡ replayedAll (coreOf (state .carried) (old work)) (bodyOf (oldWorld anchor pages backups logs work)) ⌝ }
 {
     let begun = store::restarts::restart_begin(state, anchor, pages, backups, logs, work);
     let first = replay(begun, 0, anchor, pages, backups, logs, work);
@@ -64,7 +65,7 @@ pub fn run_restart(
     logs: &[u64],
     work: &mut [u64],
 ) -> Done
-    ensures { λ r. ⌜ Runs Restart (state .core) (oldWorld anchor pages backups logs work)
+    ensures { λ r. ⌜ Runs Restart (state .carried) (oldWorld anchor pages backups logs work)
         r (worldOf (new anchor) (new pages) (new backups) (old logs) (new work)) ⌝ }
 {
     let replayed = replay_all(state, anchor, pages, backups, logs, work);

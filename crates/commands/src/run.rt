@@ -21,7 +21,7 @@ ghost use Rattle.commands.specs.Meaning.{Runs};
 
 // A line of any other form makes no call.
 fn run_other(state: State) -> Done
-    ensures { λ r. ⌜ ((w : World) → Runs Other (state .core) w r w) ⌝ }
+    ensures { λ r. ⌜ ((w : World) → Runs Other (state .carried) w r w) ⌝ }
 {
     let outcome = Outcome {
         answer: OTHER,
@@ -40,7 +40,7 @@ pub fn run(
     logs: &mut [u64],
     work: &mut [u64],
 ) -> Done
-    ensures { λ r. ⌜ Runs command (state .core) (oldWorld anchor pages backups logs work)
+    ensures { λ r. ⌜ Runs command (state .carried) (oldWorld anchor pages backups logs work)
         r (worldOf (new anchor) (new pages) (new backups) (new logs) (new work)) ⌝ }
 {
     match command {

@@ -7,6 +7,7 @@ use store::State;
 ghost use mathlib.Core.Path.{_≡_};
 ghost use Rattle.model.specs.World.{worldOf};
 ghost use Rattle.model.specs.Moments.{old, new, oldWorld};
+ghost use Rattle.model.specs.View.{coreOf, bodyOf};
 ghost use Rattle.lines.specs.declared.command.Command.the-variants.{Begin, Set, Commit, Abort, Get};
 ghost use Rattle.commands.specs.Shown.{slotWord};
 ghost use Rattle.commands.specs.Meaning.{Runs};
@@ -17,10 +18,10 @@ pub fn run_begin(
     pages: &[u64],
     backups: &[u64],
     logs: &[u64],
-    work: &[u64],
+    work: &mut [u64],
 ) -> Done
-    ensures { λ r. ⌜ Runs Begin (state .core) (oldWorld anchor pages backups logs work)
-        r (oldWorld anchor pages backups logs work) ⌝ }
+    ensures { λ r. ⌜ Runs Begin (state .carried) (oldWorld anchor pages backups logs work)
+        r (worldOf (old anchor) (old pages) (old backups) (old logs) (new work)) ⌝ }
 {
     let called = store::transactions::begin(state, anchor, pages, backups, logs, work);
     let answer = called.answer;
@@ -45,7 +46,7 @@ fn slot_word(
     logs: &[u64],
     work: &[u64],
 ) -> u64
-    ensures { λ r. ⌜ r ≡ slotWord (state .core) (oldWorld anchor pages backups logs work) (seen .number) (seen .page) (seen .slot) ⌝ }
+    ensures { λ r. ⌜ r ≡ slotWord (coreOf (state .carried) (old work)) (bodyOf (oldWorld anchor pages backups logs work)) (seen .number) (seen .page) (seen .slot) ⌝ }
 {
     let words = store::transactions::read(
         state,
@@ -75,7 +76,7 @@ pub fn run_set(
     logs: &mut [u64],
     work: &mut [u64],
 ) -> Done
-    ensures { λ r. ⌜ Runs (Set (seen .number) (seen .page) (seen .slot) value) (state .core) (oldWorld anchor pages backups logs work)
+    ensures { λ r. ⌜ Runs (Set (seen .number) (seen .page) (seen .slot) value) (state .carried) (oldWorld anchor pages backups logs work)
         r (worldOf (old anchor) (new pages) (old backups) (new logs) (new work)) ⌝ }
 {
     let before = slot_word(state, seen, anchor, pages, backups, logs, work);
@@ -107,7 +108,7 @@ pub fn run_commit(
     logs: &mut [u64],
     work: &mut [u64],
 ) -> Done
-    ensures { λ r. ⌜ Runs (Commit number allowance) (state .core) (oldWorld anchor pages backups logs work)
+    ensures { λ r. ⌜ Runs (Commit number allowance) (state .carried) (oldWorld anchor pages backups logs work)
         r (worldOf (old anchor) (old pages) (old backups) (new logs) (new work)) ⌝ }
 {
     let mut budget = allowance;
@@ -133,7 +134,7 @@ pub fn run_abort(
     logs: &mut [u64],
     work: &mut [u64],
 ) -> Done
-    ensures { λ r. ⌜ Runs (Abort number) (state .core) (oldWorld anchor pages backups logs work)
+    ensures { λ r. ⌜ Runs (Abort number) (state .carried) (oldWorld anchor pages backups logs work)
         r (worldOf (old anchor) (new pages) (old backups) (new logs) (new work)) ⌝ }
 {
     let mut budget = u64::MAX;
@@ -160,7 +161,7 @@ pub fn run_get(
     logs: &[u64],
     work: &[u64],
 ) -> Done
-    ensures { λ r. ⌜ Runs (Get page slot) (state .core) (oldWorld anchor pages backups logs work)
+    ensures { λ r. ⌜ Runs (Get page slot) (state .carried) (oldWorld anchor pages backups logs work)
         r (oldWorld anchor pages backups logs work) ⌝ }
 {
     let seen = Seen {

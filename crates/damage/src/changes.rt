@@ -16,7 +16,7 @@ pub fn damaged(good: Devices, which: u64, seed: u64) -> Devices {
     let mut work = good.work;
     damage_devices(which, seed, &mut anchor, &mut backups, &mut logs);
     random::fill(&mut pages, 2, 5);
-    random::fill(&mut work, 130, 6);
+    random::fill(&mut work, 411, 6);
     Devices {
         anchor,
         pages,

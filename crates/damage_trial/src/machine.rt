@@ -3,6 +3,7 @@ use calling::lending::lend;
 use damage::devices::Devices;
 use model::Answer;
 use store::State;
+use store::restarts::restart_remaining;
 use trial_table::calls::Call;
 use trial_table::shape::Shape;
 
@@ -31,6 +32,13 @@ fn shape() -> Shape {
         width: 1,
         words: 2,
     }
+}
+
+// What remains of a source.
+pub fn remaining(m: Machine, source: u64) -> u64 {
+    let d = m.devices;
+    let work = d.work;
+    restart_remaining(m.state, source, &work)
 }
 
 // A call on a machine, with the largest allowance; none is a read, which would want a book.

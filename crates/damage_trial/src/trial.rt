@@ -4,6 +4,7 @@ use crate::acts::change_word;
 use crate::acts::commit_word;
 use crate::acts::copy_page;
 use crate::machine::performed;
+use crate::machine::remaining;
 use crate::machine::shut;
 use crate::probe::Probe;
 use crate::probe::judged;
@@ -14,7 +15,6 @@ use damage::devices::same_but_work;
 use damage::reading::answers;
 use damage::reading::wanted_on;
 use damage::replay::restarted;
-use store::restarts::restart_remaining;
 use trial_table::answers::number_of;
 use trial_table::answers::stores_of;
 use trial_table::calls::Call;
@@ -88,7 +88,7 @@ fn by_runs(p: Probe) -> Probe {
 
 fn try_run(p: Probe, source: u64, most: u64) -> Probe {
     let machine = p.machine;
-    let set = if restart_remaining(machine.state, source) > 0 {
+    let set = if remaining(machine, source) > 0 {
         1
     } else {
         32768
@@ -127,10 +127,10 @@ fn steps(p: Probe) -> Probe {
 // A step of the log as long as it has a record, then of the backup.
 fn step_if_any(p: Probe) -> Probe {
     let machine = p.machine;
-    if restart_remaining(machine.state, 0) > 0 {
+    if remaining(machine, 0) > 0 {
         return try_step(p, 0, 1);
     }
-    if restart_remaining(machine.state, 1) > 0 {
+    if remaining(machine, 1) > 0 {
         return try_step(p, 1, 1);
     }
     p

@@ -69,10 +69,10 @@ fn main() {
     let mut pages = [0u64; 8];
     let mut backups = [0u64; 16];
     let mut logs = [0u64; 258];
-    let mut work = [0u64; 200];
+    let mut work = [0u64; 481];
     before_the_loss(&mut anchor, &mut pages, &mut backups, &mut logs, &mut work);
     // The state is gone; page memory and work memory may hold anything. The devices are as the last store left them.
     let mut pages = [7u64; 8];
-    let mut work = [7u64; 200];
+    let mut work = [7u64; 481];
     after_the_loss(&mut anchor, &mut pages, &mut backups, &logs, &mut work);
 }

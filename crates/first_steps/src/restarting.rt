@@ -20,14 +20,14 @@ fn replayed(
     pages: &mut Pages,
     backups: &Backups,
     logs: &Logs,
-    work: &Work,
+    work: &mut Work,
 ) -> Called {
     let answer = begun.answer;
     let Answer::Finished { .. } = answer else {
         return begun;
     };
     let state = begun.state;
-    let left = restart_remaining(state, source);
+    let left = restart_remaining(state, source, work);
     if left == 0 {
         return begun;
     }

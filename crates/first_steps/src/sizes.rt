@@ -8,5 +8,5 @@ pub type Pages = [u64; 8];
 pub type Backups = [u64; 16];
 // D × (W + 1)
 pub type Logs = [u64; 258];
-// T + 64 × D + 64
-pub type Work = [u64; 200];
+// T + 64 × D + 345
+pub type Work = [u64; 481];

@@ -6,6 +6,7 @@ use mathlib.Core.Bool.{Bool, true, false, not}
 use native.Mathlib.Omega.{arith}
 use lib.ListN.{length, take}
 use Rattle.model.specs.World.{World}
+use Rattle.model.specs.View.{coreOf, bodyOf}
 use Rattle.lines.specs.declared.command.Command.{Command}
 use Rattle.lines.specs.declared.partial.Partial.{Partial}
 use Rattle.lines.specs.declared.tally.Tally.{Tally}
@@ -32,7 +33,7 @@ module _ (c : Console) (w : World) (out handed : List ℕ) (p : Program) (h : Ho
   -- a line was run
   pub line-run : (v : World) (after : List ℕ) {command : Command} {done : Done} {tally : Tally} {line fill : ℕ} {fresh : Partial}
       → command ≡ commandAfter (c .partial) []
-      → Runs command (c .state .core) w done v
+      → Runs command (c .state .carried) w done v
       → line ≡ oneMore (c .line)
       → tally ≡ counted (c .tally) (done .outcome .answer)
       → take fill after ≡ take (c .fill) out ++ textOf line (done .outcome)
@@ -41,7 +42,7 @@ module _ (c : Console) (w : World) (out handed : List ℕ) (p : Program) (h : Ho
   unfolding lineTaken
   line-run v after {command} {done} {tally} {line} {fill} {fresh} asked runs numbered counts added starts =
       let same : command ≡ commandOf (p .read) = asked ∙ (h .read [] ∙ ap commandOf (append-nil (p .read))) in
-      let l : record { outcome = done .outcome; core = done .state .core; world = v } ≡ lineOf (commandOf (p .read)) (p .core) (p .world) =
+      let l : record { outcome = done .outcome; core = coreOf (done .state .carried) (v .work); world = bodyOf v } ≡ lineOf (commandOf (p .read)) (p .core) (p .world) =
       rw (same, h .core, h .world) at runs in
       let shown : done .outcome ≡ lineOf (commandOf (p .read)) (p .core) (p .world) .outcome = ap (λ (x : Line). x .outcome) l in
       record {
@@ -83,10 +84,10 @@ has-begun p piece some = go (p .read) piece some
 
 -- before the first line nothing is read, and the heading waits
 pub console-opened : (state : State) (w v : World) (out after : List ℕ) {fill : ℕ} {fresh : Partial}
-    → (state .core ≡ formatting w .core) × (v ≡ formatting w .world)
+    → (coreOf (state .carried) (v .work) ≡ formatting (bodyOf w) .core) × (bodyOf v ≡ formatting (bodyOf w) .world)
     → take fill after ≡ take 0 out ++ heading
     → ((l : List ℕ) → commandAfter fresh l ≡ commandOf l)
-    → Stands (record { state = state; tally = record { taken = 0; refused = 0; cut = 0 }; line = 0; partial = fresh; begun = false; fill = fill }) v after [] (started w)
+    → Stands (record { state = state; tally = record { taken = 0; refused = 0; cut = 0 }; line = 0; partial = fresh; begun = false; fill = fill }) v after [] (started (bodyOf w))
 unfolding started
 console-opened state w v out after format added fresh =
     record {

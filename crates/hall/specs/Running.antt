@@ -10,6 +10,7 @@ use Rattle.model.specs.World.{World, worldOf}
 use Rattle.model.specs.State.{newCore}
 use Rattle.model.specs.Refusal.{Result}
 use Rattle.model.specs.Call.{format, resultOf}
+use Rattle.model.specs.View.{bodyOf}
 use Rattle.lines.specs.declared.tally.Tally.{Tally}
 use Rattle.lines.specs.Line.{isEmpty, commandOf}
 use Rattle.lines.specs.Output.{lineText, otherText, tallyText}
@@ -94,9 +95,9 @@ withTally p =
       text = p .text ++ tallyText (p .tally .taken) (p .tally .refused) (p .tally .cut);
     }
 
--- the lent words at the start
+-- the lent words at the start, as the definitions see them
 unfoldable pub zeros : World
-zeros = worldOf (replicate 148 0) (replicate 8 0) (replicate 16 0) (replicate 258 0) (replicate 200 0)
+zeros = bodyOf (worldOf (replicate 148 0) (replicate 8 0) (replicate 16 0) (replicate 258 0) (replicate 481 0))
 
 -- All that the program puts out, by all that it reads.
 unfoldable pub outputOf : List ℕ → List ℕ

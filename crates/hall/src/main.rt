@@ -20,6 +20,7 @@ ghost use mathlib.Core.List.{List, []};
 ghost use lib.ListN.{length};
 ghost use Rattle.model.specs.World.{World, worldOf};
 ghost use Rattle.model.specs.Moments.{old, new, oldWorld};
+ghost use Rattle.model.specs.View.{coreOf, bodyOf};
 ghost use Rattle.hall.specs.Running.{Program, formatting, started, fed, withTally};
 ghost use Rattle.hall.specs.Held.{Stands};
 
@@ -31,9 +32,9 @@ fn formatted(
     logs: &mut [u64],
     work: &mut [u64],
 ) -> State
-    ensures { λ r. ⌜ r .core ≡ formatting (worldOf (now (anchor .entry)) (now (pages .entry)) (now (backups .entry)) (now (logs .entry)) (now (work .entry))) .core ⌝ }
-    ensures { λ r. ⌜ worldOf (new anchor) (new pages) (new backups) (new logs) (new work)
-        ≡ formatting (oldWorld anchor pages backups logs work) .world ⌝ }
+    ensures { λ r. ⌜ coreOf (r .carried) (new work) ≡ formatting (bodyOf (oldWorld anchor pages backups logs work)) .core ⌝ }
+    ensures { λ r. ⌜ bodyOf (worldOf (new anchor) (new pages) (new backups) (new logs) (new work))
+        ≡ formatting (bodyOf (oldWorld anchor pages backups logs work)) .world ⌝ }
 {
     let mut slots = [0u64; 64];
     let mut widths = [0u64; 64];
@@ -71,7 +72,7 @@ fn opened(
     requires { ⌜ 84 ≤ length (now out) ⌝ }
     ensures { λ r. ⌜ r .fill ≤ length (now (out .entry)) ⌝ }
     ensures { λ r. ⌜ Stands r (worldOf (new anchor) (new pages) (new backups) (new logs) (new work)) (new out)
-        [] (started (oldWorld anchor pages backups logs work)) ⌝ }
+        [] (started (bodyOf (oldWorld anchor pages backups logs work))) ⌝ }
 {
     let state = formatted(anchor, pages, backups, logs, work);
     let fill = add(out, 0, b"line answer stores value\n");
@@ -211,7 +212,7 @@ fn main() {
     let mut pages = [0u64; 8];
     let mut backups = [0u64; 16];
     let mut logs = [0u64; 258];
-    let mut work = [0u64; 200];
+    let mut work = [0u64; 481];
     let mut out = io::large_buffer();
     let console = opened(
         &mut anchor,

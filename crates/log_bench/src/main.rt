@@ -53,7 +53,7 @@ fn main() {
     let mut pages = [0u64; 8192];
     let mut backups = [0u64; 16384];
     let mut logs = [0u64; 65537];
-    let mut work = [0u64; 8320];
+    let mut work = [0u64; 8601];
     before_the_loss(
         plan,
         &mut anchor,

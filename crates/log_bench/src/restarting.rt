@@ -24,7 +24,7 @@ fn source_replayed(
     pages: &mut Pages,
     backups: &Backups,
     logs: &Logs,
-    work: &Work,
+    work: &mut Work,
 ) -> Progress {
     let done = restart_run(begun, source, 65536, anchor, pages, backups, logs, work);
     let state = done.state;
@@ -41,7 +41,7 @@ fn replayed(
     pages: &mut Pages,
     backups: &Backups,
     logs: &Logs,
-    work: &Work,
+    work: &mut Work,
 ) -> Progress {
     let begun = restart_begin(store::new_state(), anchor, pages, backups, logs, work);
     let copied = source_replayed(begun.state, 1, anchor, pages, backups, logs, work);
@@ -55,7 +55,7 @@ fn repeated(
     pages: &mut Pages,
     backups: &Backups,
     logs: &Logs,
-    work: &Work,
+    work: &mut Work,
 ) -> Progress {
     let mut last = Progress {
         state: store::new_state(),

@@ -9,4 +9,4 @@ pub type Backups = [u64; 16384];
 
 pub type Logs = [u64; 65537];
 
-pub type Work = [u64; 8320];
+pub type Work = [u64; 8601];

@@ -14,11 +14,16 @@ use trial_table::calls::Call;
 use trial_table::calls::Kind;
 use trial_table::random::below;
 use trial_table::random::fill;
+use trial_table::shape::HEAD_WORDS;
+use trial_table::shape::Shape;
 use trial_table::shape::total_of;
 use trial_table::shape::work_words;
 use trial_table::wanted::cause;
+use trial_table::words::front;
+use trial_table::words::less;
 use trial_table::words::more;
 use trial_table::words::put;
+use trial_table::words::tail_mut;
 use trial_table::words::wipe;
 
 pub struct Trial {
@@ -79,8 +84,19 @@ fn lose_power(
     let shape = progress.shape;
     let plan = progress.plan;
     let filled = fill(pages, total_of(shape), plan.seed);
-    let seed = fill(work, work_words(shape), filled);
+    let seed = fill_work(shape, filled, work);
     progress::after_loss(progress, seed, book)
+}
+
+// Fills the work memory; the list of calls goes on from the last seed of the words behind the head.
+fn fill_work(shape: Shape, seed: u64, work: &mut [u64]) -> u64 {
+    let last = fill(
+        tail_mut(work, HEAD_WORDS),
+        less(work_words(shape), HEAD_WORDS),
+        seed,
+    );
+    fill(work, HEAD_WORDS, last);
+    last
 }
 
 // Tells what was tried on a size, and goes on to the next: no store, an empty book.
@@ -99,7 +115,7 @@ fn next_size(t: Trial, anchor: &mut [u64], book: &mut [u64]) -> Trial {
 }
 
 // The first source from a random one on, in turn, of which something remains; one too large where there is none, or in another stage.
-fn some_source(state: State, progress: Progress) -> u64 {
+fn some_source(state: State, progress: Progress, work: &[u64]) -> u64 {
     let shape = progress.shape;
     let plan = progress.plan;
     let plain = progress.plain;
@@ -107,15 +123,15 @@ fn some_source(state: State, progress: Progress) -> u64 {
     if plain.stage != 1 {
         return sources;
     }
-    next_source(state, sources, below(plan.seed, sources))
+    next_source(state, sources, below(plan.seed, sources), work)
 }
 
-fn next_source(state: State, sources: u64, from: u64) -> u64 {
+fn next_source(state: State, sources: u64, from: u64, work: &[u64]) -> u64 {
     let mut left = sources;
     let mut source = from;
     while left > 0 {
         left -= 1;
-        if store::restarts::restart_remaining(state, source) > 0 {
+        if store::restarts::restart_remaining(state, source, work) > 0 {
             return source;
         }
         source = if more(source) < sources {
@@ -128,11 +144,11 @@ fn next_source(state: State, sources: u64, from: u64) -> u64 {
 }
 
 // What remains to be replayed, by the call that tells: of the source that a step names, or of any.
-fn remaining(state: State, call: Call, source: u64, disks: u64) -> u64 {
+fn remaining(state: State, call: Call, source: u64, disks: u64, work: &[u64]) -> u64 {
     let kind = call.kind;
     match kind {
         Kind::RestartStep | Kind::RestartRun => {
-            store::restarts::restart_remaining(state, call.number)
+            store::restarts::restart_remaining(state, call.number, work)
         }
         Kind::RestartEnd => cause(source <= disks, 1),
         _ => 0,
@@ -146,15 +162,16 @@ struct Asked {
     remains: u64,
 }
 
-fn ask(state: State, progress: Progress, book: &[u64]) -> Asked {
+fn ask(state: State, progress: Progress, work: &[u64], book: &[u64]) -> Asked {
     let shape = progress.shape;
     let plan = progress.plan;
-    let source = some_source(state, progress);
+    let own = front(work, work_words(shape));
+    let source = some_source(state, progress, own);
     let call = next_call(progress, source, book);
     Asked {
         call,
         budget: plan.budget,
-        remains: remaining(state, call, source, shape.disks),
+        remains: remaining(state, call, source, shape.disks, own),
     }
 }
 
@@ -169,7 +186,7 @@ fn call_turn(
     book: &mut [u64],
 ) -> Trial {
     let progress = t.progress;
-    let asked = ask(t.state, progress, book);
+    let asked = ask(t.state, progress, work, book);
     let made = watch(
         t.state,
         progress.shape,

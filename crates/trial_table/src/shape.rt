@@ -70,11 +70,14 @@ pub fn log_words(shape: Shape) -> u64 {
     times(disks, sum(ring, 1))
 }
 
-// The words of the work memory: owners, buffers, copy numbers.
+// The words of the work memory in which the store keeps a part of its state.
+pub const HEAD_WORDS: u64 = 281;
+
+// The words of the work memory: that head, owners, buffers, copy numbers.
 pub fn work_words(shape: Shape) -> u64 {
     let total = total_of(shape);
     let disks = shape.disks;
-    sum(total, times(64, sum(disks, 1)))
+    sum(HEAD_WORDS, sum(total, times(64, sum(disks, 1))))
 }
 
 // Both arrays of a format, a word for each page that there is.

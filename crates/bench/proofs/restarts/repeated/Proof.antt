@@ -7,10 +7,10 @@ use Rattle.bench.proofs.restarts.repeated.Statement.{statement}
 use Rattle.bench.proofs.restarts.repeated.Tie as tie
 
 abbrev Inv-loop : tie.InvT-loop
-Inv-loop plan anchor pages₀ backups logs work i₀ pages i = length pages ≡ length pages₀
+Inv-loop plan anchor pages₀ backups logs work₀ i₀ pages work i = (length pages ≡ length pages₀) × (length work ≡ length work₀)
 
 abbrev μ-loop : tie.MeasureT-loop
-μ-loop plan anchor pages₀ backups logs work i₀ pages i = plan .restarts - i
+μ-loop plan anchor pages₀ backups logs work₀ i₀ pages work i = plan .restarts - i
 
 pub repeated-spec : {M : Type 1} → statement M
 repeated-spec =
@@ -20,6 +20,7 @@ repeated-spec =
     μ-loop
     (λ c. search needs)
     (λ c κs. search needs)
+    (λ c. search needs)
     (λ c. search needs)
     (λ c. search needs)
     (λ c. search needs)

@@ -7,8 +7,8 @@ use Rattle.commands.proofs.checkpoints.run_close.Tie as tie
 
 returns : tie.Need-returns
 unfolding lineOf
-returns c = shows _ _ _ _ _ _ _ (c .before .before .before .before .before .checkpoint-end .ensures .0) (c .done-of .ensures .1) 0 (c .done-of .ensures .0)
+returns c = shows _ _ _ _ _ _ _ (c .before .before .before .before .before .before .before .checkpoint-end .ensures .0) (c .done-of .ensures .1) 0 (c .done-of .ensures .0)
 
 pub run-close-spec : {M : Type 1} → statement M
 run-close-spec =
-    tie.close (tie.spec (λ c κs. search needs) (λ c κs. search needs) (λ c. search needs) (λ c. search needs) returns)
+    tie.close (tie.spec (λ c κs. search needs) (λ c κs. search needs) (λ c. search needs) (λ c. search needs) (λ c. search needs) returns)

@@ -7,7 +7,7 @@ use Rattle.commands.proofs.checkpoints.run_mark.Tie as tie
 
 returns : tie.Need-returns
 unfolding lineOf
-returns c = shows _ _ _ _ _ _ _ (c .before .checkpoint-begin .ensures .0) (c .done-of .ensures .1) 0 (c .done-of .ensures .0)
+returns c = shows _ _ _ _ _ _ _ (c .before .before .before .checkpoint-begin .ensures .0) (c .done-of .ensures .1) 0 (c .done-of .ensures .0)
 
 pub run-mark-spec : {M : Type 1} → statement M
-run-mark-spec = tie.close (tie.spec (λ c κs. search needs) (λ c κs. search needs) returns)
+run-mark-spec = tie.close (tie.spec (λ c κs. search needs) (λ c κs. search needs) (λ c. search needs) returns)

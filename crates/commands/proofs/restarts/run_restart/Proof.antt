@@ -20,22 +20,22 @@ same-length : tie.Need-same-length
 same-length c = refl
 
 same-length-2 : tie.Need-same-length-2
-same-length-2 c = c .before .before .before .before .pages .given
+same-length-2 c = c .before .before .before .before .before .before .pages .given
 
 same-length-3 : tie.Need-same-length-3
 same-length-3 c = refl
 
 same-length-4 : tie.Need-same-length-4
-same-length-4 c = refl
+same-length-4 c = c .before .before .before .before .work .given
 
 returns : tie.Need-returns
 unfolding lineOf
 returns c =
     let test = c .before in
-    restart-refused _ _ _ (test .before .before .before .before .replay-all .ensures)
+    restart-refused _ _ _ (test .before .before .before .before .before .before .replay-all .ensures)
     (sym (test .before .is-finished .ensures) ∙ not-true _ (test .if1 .taken))
     (c .done-of .ensures .0)
-    (c .done-of .ensures .1)
+    (rw (c .done-of .ensures .1))
 
 restart-end-requires : tie.Need-restart-end-requires
 restart-end-requires c κs = tt
@@ -50,20 +50,20 @@ same-length-5 : tie.Need-same-length-5
 same-length-5 c = c .before .before .before .before .before .before .before .anchor .given
 
 same-length-6 : tie.Need-same-length-6
-same-length-6 c = c .before .before .before .before .before .before .before .before .before .before .before .before .before .before .before .before .before .before .pages .given
+same-length-6 c = c .before .before .before .before .before .before .before .before .before .before .before .before .before .before .before .before .before .before .before .before .pages .given
 
 same-length-7 : tie.Need-same-length-7
 same-length-7 c = c .before .before .before .before .before .backups .given
 
 same-length-8 : tie.Need-same-length-8
-same-length-8 c = c .before .before .before .work .given
+same-length-8 c = c .before .before .before .work2 .given ∙ c .before .before .before .before .before .before .before .before .before .before .before .before .before .before .before .before .before .before .work .given
 
 returns-2 : tie.Need-returns-2
 unfolding lineOf
 returns-2 c =
     let end = c .before .before .before .before .before .before .before .before in
     let test = end .before .before .before .before .before .before .before in
-    restart-ended _ _ _ (test .before .before .before .before .replay-all .ensures) (sym (test .before .is-finished .ensures) ∙ not-false _ (test .if1 .left))
+    restart-ended _ _ _ (test .before .before .before .before .before .before .replay-all .ensures) (sym (test .before .is-finished .ensures) ∙ not-false _ (test .if1 .left))
     (shows-own _ _ _ _ _ _ _ (end .restart-end .ensures .0) (c .done-of2 .ensures .1) (rw (c .before .value-of .ensures) at (c .done-of2 .ensures .0)))
 
 pub run-restart-spec : {M : Type 1} → statement M

@@ -4,7 +4,7 @@ use Rattle.commands.proofs.run.run.Statement.{statement}
 use Rattle.commands.proofs.run.run.Tie as tie
 
 ran-begin : tie.Need-returns
-ran-begin c = rw (c .before .before .before .before .before .before .enum-told .given .1) (c .run-begin .ensures)
+ran-begin c = rw (c .before .before .before .before .before .before .before .before .enum-told .given .1) (c .before .before .run-begin .ensures)
 
 ran-set : tie.Need-returns-2
 ran-set c = rw (c .before .before .before .before .before .before .before .before .before .before .before .before .before .command .given .1) (c .before .before .before .before .before .before .run-set .ensures)
@@ -19,13 +19,13 @@ ran-get : tie.Need-returns-5
 ran-get c = rw (c .before .before .before .before .before .before .before .command4 .given .1) (c .run-get .ensures)
 
 ran-mark : tie.Need-returns-6
-ran-mark c = rw (c .before .before .before .before .before .before .enum-told2 .given .1) (c .run-mark .ensures)
+ran-mark c = rw (c .before .before .before .before .before .before .before .before .enum-told2 .given .1) (c .before .before .run-mark .ensures)
 
 ran-copy : tie.Need-returns-7
 ran-copy c = rw (c .before .before .before .before .before .before .before .before .before .before .enum-told3 .given .1) (c .before .before .before .before .run-copy .ensures)
 
 ran-close : tie.Need-returns-8
-ran-close c = rw (c .before .before .before .before .before .before .before .before .before .before .enum-told4 .given .1) (c .before .before .before .before .run-close .ensures)
+ran-close c = rw (c .before .before .before .before .before .before .before .before .before .before .before .before .enum-told4 .given .1) (c .before .before .before .before .before .before .run-close .ensures)
 
 ran-restart : tie.Need-returns-9
 ran-restart c = rw (c .before .before .before .before .before .before .before .before .before .before .before .before .before .before .enum-told5 .given .1) (c .before .before .before .before .before .before .before .before .run-restart .ensures)
@@ -61,25 +61,25 @@ run-spec =
     (λ c. refl)
     (λ c. refl)
     (λ c. refl)
-    (λ c. refl)
+    (λ c. c .before .work .given)
     ran-begin
     (λ c. refl)
     (λ c. c .before .before .before .before .before .pages .given)
     (λ c. refl)
     (λ c. c .before .before .before .logs .given)
-    (λ c. c .before .work .given)
+    (λ c. c .before .work2 .given)
     ran-set
     (λ c. refl)
     (λ c. refl)
     (λ c. refl)
     (λ c. c .before .before .before .logs2 .given)
-    (λ c. c .before .work2 .given)
+    (λ c. c .before .work3 .given)
     ran-commit
     (λ c. refl)
     (λ c. c .before .before .before .before .before .pages2 .given)
     (λ c. refl)
     (λ c. c .before .before .before .logs3 .given)
-    (λ c. c .before .work3 .given)
+    (λ c. c .before .work4 .given)
     ran-abort
     (λ c. refl)
     (λ c. refl)
@@ -91,24 +91,24 @@ run-spec =
     (λ c. refl)
     (λ c. refl)
     (λ c. refl)
-    (λ c. refl)
+    (λ c. c .before .work5 .given)
     ran-mark
     (λ c. refl)
     (λ c. refl)
     (λ c. c .before .before .before .backups .given)
     (λ c. refl)
-    (λ c. c .before .work4 .given)
+    (λ c. c .before .work6 .given)
     ran-copy
-    (λ c. c .before .before .before .anchor .given)
+    (λ c. c .before .before .before .before .before .anchor .given)
     (λ c. refl)
     (λ c. refl)
-    (λ c. c .before .logs4 .given)
-    (λ c. refl)
+    (λ c. c .before .before .before .logs4 .given)
+    (λ c. c .before .work7 .given)
     ran-close
     (λ c. c .before .before .before .before .before .before .before .anchor2 .given)
     (λ c. c .before .before .before .before .before .pages3 .given)
     (λ c. c .before .before .before .backups2 .given)
     (λ c. refl)
-    (λ c. c .before .work5 .given)
+    (λ c. c .before .work8 .given)
     ran-restart
     ran-other)

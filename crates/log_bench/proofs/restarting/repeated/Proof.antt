@@ -4,10 +4,10 @@ use Rattle.log_bench.proofs.restarting.repeated.Statement.{statement}
 use Rattle.log_bench.proofs.restarting.repeated.Tie as tie
 
 abbrev Inv-loop : tie.InvT-loop
-Inv-loop restarts anchor pages₀ backups logs work last₀ left₀ pages last left = Unit {0}
+Inv-loop restarts anchor pages₀ backups logs work₀ last₀ left₀ pages work last left = Unit {0}
 
 abbrev μ-loop : tie.MeasureT-loop
-μ-loop restarts anchor pages₀ backups logs work last₀ left₀ pages last left = left
+μ-loop restarts anchor pages₀ backups logs work₀ last₀ left₀ pages work last left = left
 
 pub repeated-spec : {M : Type 1} → statement M
 repeated-spec =
