@@ -1,19 +1,19 @@
 -- The room rule of one disk's numbers, and the disk with the fewest buffered words.
 use mathlib.Core.Path.{_≡_, refl, sym, ap, _∙_}
-use mathlib.Core.Bool.{Bool, false, _&&_, and-true, and-false}
+use mathlib.Core.Bool.{Bool, true, false, cond, _&&_, _||_, and-true, and-false}
 use mathlib.Core.List.{List}
 use Prim.Native.Nat.{ℕ, _+_, _-_, _≤_, _<_, min}
 use native.Mathlib.Omega.{arith}
 use native.Mathlib.Numerals.{add-one}
 use native.Mathlib.Decide.{decLe}
-use lib.Dec.{leb, eqb}
+use lib.Dec.{leb, ltb, eqb}
 use lib.ListN.{getD}
 use borrow.Author.Tests.{le-leb, lt-leb, ne-eqb}
 use Rattle.model.specs.declared.Core.{Core}
 use Rattle.model.specs.declared.Logs.{Logs}
 use Rattle.model.specs.Sizes.{ringOf}
 use Rattle.model.specs.State.{limit, startOf, keptOf, tailOf, fillOf, endOf, reservedOn}
-use Rattle.model.specs.Room.{hasRoom, loadOf, better, idlestBelow, idlest}
+use Rattle.model.specs.Room.{hasRoom, loadOf, noDisk, better, idlestBelow, idlest}
 use Rattle.table.specs.Parts.{cap, sumsOf, coreOf, roomFor}
 
 -- what ends above the limit has no room
@@ -72,6 +72,14 @@ room-computed disks ring logs sums need d h = h
 pub idlest-parts : (c : Core) (need : ℕ) → idlest (coreOf (c .sizes .disks) (c .sizes .ring) (c .logs) (sumsOf (c .table .sums))) need ≡ idlest c need
 unfolding idlest hasRoom ringOf reservedOn
 idlest-parts c need = refl
+
+-- The better of two disks, where the load is asked before the room.
+module _ (room : Bool) (load : ℕ → ℕ) (disk best : ℕ) {idler : Bool} (asked : idler ≡ (eqb best noDisk || ltb (load disk) (load best))) where
+  pub busier-left : idler ≡ false → best ≡ better room load disk best
+  busier-left left = rw (← asked, left, and-false room) refl
+
+  pub idler-taken : idler ≡ true → {there : Bool} → there ≡ room → cond there disk best ≡ better room load disk best
+  idler-taken taken same = rw (← asked, taken, and-true room, same) refl
 
 -- one disk more
 pub idlest-step : (eligible : ℕ → Bool) (logs : Logs) (n best r : ℕ) (room : Bool) → best ≡ idlestBelow eligible (loadOf logs) n

@@ -1,10 +1,12 @@
 // The room rule: whether a need fits on a disk, and the idlest disk with room.
 use words::saturating_sub;
 ghost use mathlib.Core.Path.{_≡_};
+ghost use mathlib.Core.Bool.{_||_};
 ghost use Prim.Native.Nat.{_+_, _≤_, _<_};
+ghost use lib.Dec.{ltb, eqb};
 ghost use lib.ListN.{length, getD};
 ghost use Rattle.model.specs.State.{limit};
-ghost use Rattle.model.specs.Room.{better, idlest};
+ghost use Rattle.model.specs.Room.{noDisk, better, idlest};
 ghost use Rattle.table.specs.Parts.{logsOf, sumsOf, coreOf, roomFor};
 
 // The bound of positions: 2^62.
@@ -36,19 +38,36 @@ pub fn has_room(start: u64, tail: u64, fill: u64, reserved: u64, ring: u64, need
     used + reserved + need <= ring
 }
 
-fn better_disk(eligible: bool, fills: &[u64], disk: usize, best: usize) -> usize
+// A disk less busy than the best so far, or the first.
+fn is_idler(fills: &[u64], disk: usize, best: usize) -> bool
     requires { ⌜ (disk < 8) × (best ≤ 8) × (length (now fills) ≡ 8) ⌝ }
-    ensures { λ r. ⌜ (r ≤ 8) × (r ≡ better eligible (λ d. getD (now (fills .entry)) d 0) disk best) ⌝ }
+    ensures { λ r. ⌜ r ≡ (eqb best noDisk || ltb (getD (now (fills .entry)) disk 0) (getD (now (fills .entry)) best 0)) ⌝ }
 {
-    if eligible {
-        if best == 8 {
-            return disk;
-        }
-        if fills[disk] < fills[best] {
-            disk
-        } else {
-            best
-        }
+    if best == 8 {
+        return true;
+    }
+    fills[disk] < fills[best]
+}
+
+// The better of a disk and the best so far. Its room is asked last: most disks are busier than the best.
+fn better_disk(
+    fills: &[u64],
+    disk: usize,
+    best: usize,
+    start: u64,
+    tail: u64,
+    sum: u64,
+    ring: u64,
+    need: u64,
+) -> usize
+    requires { ⌜ (disk < 8) × (best ≤ 8) × (length (now fills) ≡ 8) × (need ≤ limit) ⌝ }
+    ensures { λ r. ⌜ (r ≤ 8) × (r ≡ better (roomFor start (tail + getD (now (fills .entry)) disk 0) sum ring need) (λ d. getD (now (fills .entry)) d 0) disk best) ⌝ }
+{
+    if !is_idler(fills, disk, best) {
+        return best;
+    }
+    if has_room(start, tail, fills[disk], sum, ring, need) {
+        disk
     } else {
         best
     }
@@ -71,8 +90,7 @@ pub fn idlest<'a>(
     let mut best: usize = 8;
     let mut d: usize = 0;
     while d < count {
-        let room = has_room(starts[d], tails[d], fills[d], sums[d], ring, need);
-        best = better_disk(room, fills, d, best);
+        best = better_disk(fills, d, best, starts[d], tails[d], sums[d], ring, need);
         d += 1;
     }
     best

@@ -23,8 +23,8 @@ loop-holds c = (search needs, search needs, refl)
 
 loop-again : tie.Need-loop-again Inv-loop μ-loop
 loop-again c =
-    let at-loop = c .before .before .before .before .before .before .before in
-    (search needs, search needs, idlest-step _ _ _ _ _ _ (at-loop .loop .inv .2) (room-computed _ _ _ _ _ _ (c .before .has-room .ensures)) (c .better-disk .ensures .1))
+    let at-loop = c .before .before .before .before .before in
+    (search needs, search needs, idlest-step _ _ _ _ _ _ (at-loop .loop .inv .2) (room-computed _ _ _ _ _ _ refl) (c .better-disk .ensures .1))
 
 returns : tie.Need-returns Inv-loop μ-loop
 unfolding idlest
@@ -45,9 +45,6 @@ idlest-spec =
     (λ c. search needs)
     (λ c. search needs)
     (λ c. search needs)
-    (λ c. search needs)
-    (λ c. search needs)
-    (λ c κs. search needs)
     (λ c κs. search needs)
     (λ c. search needs)
     (λ c. search needs)
