@@ -12,7 +12,7 @@ use Rattle.model.specs.Word.{part}
 use Rattle.model.specs.World.{World, Device, Action, cost, store, anchor, backups, logs, act, perform, covered, run, made, finishes, each}
 use Rattle.model.proofs.Run.{stores-stored, covered-each, perform-anchor, perform-backups, perform-logs}
 use Rattle.model.proofs.Parts.{length-part}
-use Rattle.device.specs.Ran.{Ran, Stored, setsRing, StoredRing, withAnchor, withBackups, withSlices}
+use Rattle.device.specs.Ran.{Ran, Stored, withAnchor, withBackups, withSlices}
 
 take-least : (budget n : ℕ) (words : List ℕ) → take budget (take n words) ≡ take (min budget n) words
 take-least budget n words = go (leb budget n) refl
@@ -56,18 +56,6 @@ stored-fill budget n value least left same all =
       device = rw (same, least, take-same budget n value);
       left = rw (length-replicate n value) (omega arith);
       finished = rw (length-replicate n value) all;
-    }
-
-pub stored-ring : (first ring budget tail from n : ℕ) (source : List ℕ) {rest m : ℕ} {before after : List ℕ} {whole : Bool}
-    → from + n ≤ length source → m ≡ min budget n → rest ≡ budget - m
-    → after ≡ setsRing first ring before tail (part from m source) → whole ≡ leb n budget
-    → StoredRing first ring budget rest tail (part from n source) before after whole
-unfolding part
-stored-ring first ring budget tail from n source fits least left same all =
-    record {
-      device = rw (same, least, take-least budget n (drop from source));
-      left = rw (length-part from n source fits) (omega arith);
-      finished = rw (length-part from n source fits) all;
     }
 
 -- one word

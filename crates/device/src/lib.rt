@@ -69,15 +69,8 @@ pub fn store_fill(device: &mut [u64], at: usize, n: usize, value: u64, budget: &
     true
 }
 
-// The place in a ring after `at`.
-fn next_in_ring(at: usize, ring: usize) -> usize
-    requires { ⌜ at < ring ⌝ }
-    ensures { λ r. ⌜ r ≡ (at + 1) % ring ⌝ }
-{
-    if at + 1 == ring { 0 } else { at + 1 }
-}
-
-// Stores the n words of source that start at `from` in the ring whose word 0 is at index `first`, from position `tail` on; true if all are stored.
+// Stores the n words of source that start at `from` in the ring whose word 0 is at index `first`, from position `tail` on: in one run, or
+// in two around the ring's end; true if all are stored.
 pub fn store_ring(
     device: &mut [u64],
     first: usize,
@@ -88,19 +81,18 @@ pub fn store_ring(
     n: usize,
     budget: &mut u64,
 ) -> bool
-    requires { ⌜ 0 < ring ⌝ }
+    requires { ⌜ (0 < ring) × (n ≤ ring) ⌝ }
     requires { ⌜ first + ring ≤ length (now device) ⌝ }
     requires { ⌜ from + n ≤ length (now source) ⌝ }
     ensures { λ r. ⌜ StoredRing first ring (now (budget .entry)) (now (budget .exit)) tail (part from n (now (source .entry))) (now (device .entry)) (now (device .exit)) r ⌝ }
 {
-    let mut at = tail % ring;
-    let mut i = 0;
-    while i < n {
-        if !store_word(device, first + at, source[from + i], budget) {
-            return false;
-        }
-        at = next_in_ring(at, ring);
-        i += 1;
+    let at = tail % ring;
+    let run = ring - at;
+    if n <= run {
+        return store_copy(device, first + at, source, from, n, budget);
     }
-    true
+    if !store_copy(device, first + at, source, from, run, budget) {
+        return false;
+    }
+    store_copy(device, first, source, from + run, n - run, budget)
 }

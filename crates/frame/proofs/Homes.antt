@@ -38,8 +38,8 @@ home-lent s l w disk =
       same-work = refl;
     }
 
--- of any sizes whose rings have words, and T
-pub home-fits : (s : Sizes) (t : ℕ) (l : Logs) (logs work : List ℕ) (disk : ℕ) → 0 < s .ring → length logs ≡ logWords s → length work ≡ workWords s t
+-- of any sizes whose rings have room for a buffer, and T
+pub home-fits : (s : Sizes) (t : ℕ) (l : Logs) (logs work : List ℕ) (disk : ℕ) → 64 ≤ s .ring → length logs ≡ logWords s → length work ≡ workWords s t
     → disk < s .disks → fillOf l disk ≤ 64 → endOf l disk ≤ limit → Within (homeOf s l disk) logs work
 unfolding homeOf logWords ringOf workWords ownerAt copyAt bufferAt endOf
 home-fits s t l logs work disk ring log-words work-words below fill end =

@@ -19,7 +19,7 @@ use Rattle.log.specs.Reading.{LiesAt}
 
 -- The numbers lay every index within its slice, and the end of the log within the bound of positions.
 pub record Within (h : Home) (logs work : List ℕ) : Type 0 where
-  pub some-ring : 0 < h .ring
+  pub some-ring : 64 ≤ h .ring
   pub ring-within : h .place + 1 + h .ring ≤ length logs
   pub buffer-within : h .buffer + 64 ≤ length work
   pub fill-small : h .fill ≤ 64

@@ -5,9 +5,9 @@ use mathlib.Core.List.{List, [], _∷_, _++_, append-nil}
 use native.Mathlib.Numerals.{add-one}
 use native.Mathlib.Nat.{add-zero, add-suc, suc-add, zero-add}
 use native.Mathlib.Omega.{arith}
-use lib.ListN.{length, getD, set, drop, replicate, length-drop, length-replicate, drop-of-length-le}
+use lib.ListN.{length, getD, set, take, drop, replicate, length-drop, length-replicate, drop-of-length-le}
 use lib.Bits.{bitXor}
-use lib.Seq.{sets, sets-eq, take-suc, take-length, getD-drop}
+use lib.Seq.{sets, sets-eq, take-suc, take-add, take-length, getD-drop, drop-drop}
 use Rattle.model.specs.Word.{_⊕_, xors, part}
 use Rattle.model.specs.Image.{xorAt}
 use Rattle.model.proofs.Xor.{length-xors-same}
@@ -39,6 +39,11 @@ unfolding part
 part-more at n l h =
     let inside : n < length (drop at l) = rw length-drop (omega arith) in
     rw (add-one, take-suc (drop at l) n 0 inside, getD-drop)
+
+-- two parts, one behind the other
+pub part-add : (at m n : ℕ) (l : List ℕ) → part at (m + n) l ≡ part at m l ++ part (at + m) n l
+unfolding part
+part-add at m n l = take-add m n (drop at l) ∙ ap (λ (r : List ℕ). take m (drop at l) ++ take n r) (drop-drop m at l)
 
 pub replicate-more : (n v : ℕ) → replicate (n + 1) v ≡ replicate n v ++ (v ∷ [])
 replicate-more n v = rw add-one (go n)

@@ -1,86 +1,64 @@
--- `device::store_ring` meets its contract: after i turns the first i words are stored, and the budget is less by i. Assumes nothing.
-use mathlib.Core.Path.{_≡_, refl, sym, _∙_}
+-- `device::store_ring` meets its contract: in one run, or in two around the ring's end. Assumes nothing.
+use mathlib.Core.Path.{refl}
 use Prim.Native.Nat.{_+_, _-_, _%_, _≤_, _<_}
 use native.Mathlib.Omega.{arith}
-use native.Mathlib.Nat.{mod-lt, add-zero}
-use lib.ListN.{length}
+use native.Mathlib.Nat.{mod-lt}
 use borrow.Author.Needs.{needs}
-use borrow.Author.Tests.{not-true, not-false, le-leb, lt-leb}
-use Rattle.model.specs.Word.{part}
-use Rattle.device.specs.Ran.{setsRing}
-use Rattle.device.proofs.Ring.{next-place, ring-none, ring-more}
-use Rattle.device.proofs.Runs.{stored-ring, word-made, word-cut}
+use borrow.Author.Tests.{not-true, not-false}
+use Rattle.device.proofs.Ring.{one-run, first-run-cut, two-runs}
 use Rattle.device.proofs.store_ring.Statement.{statement}
 use Rattle.device.proofs.store_ring.Tie as tie
 
-abbrev Inv-loop : tie.InvT-loop
-Inv-loop device₀ first ring tail source from n budget₀ at₀ i₀ device budget at i =
-    (i ≤ n) × (at < ring) × (at ≡ (tail + i) % ring) × (budget₀ ≡ i + budget)
-    × (length device ≡ length device₀) × (device ≡ setsRing first ring device₀ tail (part from i source))
+sub-run : tie.Need-sub-run
+sub-run c = omega (arith, mod-lt (c .before .before .args .tail) (c .before .before .pre .0 .0))
 
-abbrev μ-loop : tie.MeasureT-loop
-μ-loop device₀ first ring tail source from n budget₀ at₀ i₀ device budget at i = n - i
+add-store-copy : tie.Need-add-store-copy
+add-store-copy c = omega (arith, mod-lt (c .before .before .before .before .args .tail) (c .before .before .before .before .pre .0 .0))
 
-loop-holds : tie.Need-loop-holds Inv-loop μ-loop
-loop-holds c =
-    let s = c .before .before .args in (
-      omega arith,
-      mod-lt (s .tail) (c .before .before .pre .0),
-      rw (add-zero (s .tail)) refl,
-      omega arith,
-      refl,
-      ring-none (s .first) (s .ring) (s .device .now) (s .tail) (s .from) (s .source .now),
-    )
+store-copy-requires : tie.Need-store-copy-requires
+store-copy-requires c κs = (omega (arith, mod-lt (c .before .before .before .before .before .args .tail) (c .before .before .before .before .before .pre .0 .0)), search needs)
 
--- a word that is not stored: the budget was used up by those before it
-returns : tie.Need-returns Inv-loop μ-loop
+returns : tie.Need-returns
 returns c =
-    let s = c .before .before .before .before .before .before .before .before .before .before .before .args in
-    let h = c .before .before .before .before .before .before .before .before .loop in
-    let cut = word-cut (c .before .before .before .store-word .ensures) (not-true _ (c .if1 .taken)) in
-    stored-ring (s .first) (s .ring) (s .budget .now) (s .tail) (s .from) (s .n) (s .source .now) {m = h .i} (search needs) (omega (arith, cut .0)) (omega (arith, cut .0, cut .1)) (cut .2 ∙ h .inv .5)
-    (sym (lt-leb (s .n) (s .budget .now) (omega (arith, cut .0))))
+    let start = c .before .before .before .before .before .before .before .before in
+    one-run (start .args .first) (start .args .ring) (start .args .tail) (start .args .from) (start .args .n) (start .args .source .now) (search needs)
+    (omega (arith, mod-lt (start .args .tail) (start .pre .0 .0))) (c .before .before .store-copy .ensures)
 
-loop-again : tie.Need-loop-again Inv-loop μ-loop
-loop-again c =
-    let start = c .before .before .before .before .before .before .before .before .before .before .before .before in
-    let s = start .args in
-    let h = c .before .before .before .before .before .before .before .before .before .loop in
-    let made = word-made (c .before .before .before .before .store-word .ensures) (not-false _ (c .before .if1 .left)) in
-    let next = next-place (s .tail) (h .i) (s .ring) (h .at) (c .next-in-ring .result) (h .inv .2) (c .next-in-ring .ensures) in (
-      omega arith,
-      rw next (mod-lt (s .tail + (h .i + 1)) (start .pre .0)),
-      next,
-      omega (arith, made .0),
-      search needs,
-      rw (made .1, h .inv .5, h .inv .2) (ring-more (s .first) (s .ring) (s .device .now) (s .tail) (s .from) (h .i) (s .source .now) (omega arith)),
-    )
+add-store-copy-2 : tie.Need-add-store-copy-2
+add-store-copy-2 c = omega (arith, mod-lt (c .before .before .before .before .args .tail) (c .before .before .before .before .pre .0 .0))
 
-returns-2 : tie.Need-returns-2 Inv-loop μ-loop
+store-copy-requires-2 : tie.Need-store-copy-requires-2
+store-copy-requires-2 c κs = (omega (arith, mod-lt (c .before .before .before .before .before .args .tail) (c .before .before .before .before .before .pre .0 .0)), omega arith)
+
+returns-2 : tie.Need-returns-2
 returns-2 c =
-    let s = c .before .before .before .before .args in
-    let h = c .before .loop in
-    stored-ring (s .first) (s .ring) (s .budget .now) (s .tail) (s .from) (s .n) (s .source .now) {m = h .i} (search needs) (omega arith) (omega arith) (h .inv .5)
-    (sym (le-leb (s .n) (s .budget .now) (omega arith)))
+    let start = c .before .before .before .before .before .before .before .before .before in
+    first-run-cut (start .args .first) (start .args .ring) (start .args .tail) (start .args .from) (start .args .n) (start .args .source .now) (search needs)
+    (start .pre .0 .0) refl (omega (arith, c .before .before .before .before .before .before .if1 .left)) (c .before .before .before .store-copy2 .ensures) (not-true _ (c .if2 .taken))
+
+returns-3 : tie.Need-returns-3
+returns-3 c =
+    let start = c .before .before .before .before .before .before .before .before .before .before .before .before .before .before in
+    two-runs (start .args .first) (start .args .ring) (start .args .tail) (start .args .from) (start .args .n) (start .args .source .now) (search needs)
+    (start .pre .0 .0) refl (omega (arith, c .before .before .before .before .before .before .before .before .before .before .before .if1 .left)) (c .before .before .before .before .before .before .before .before .store-copy2 .ensures) (not-false _ (c .before .before .before .before .before .if2 .left)) (start .pre .0 .1)
+    (c .before .before .store-copy3 .ensures)
 
 pub store-ring-spec : {M : Type 1} → statement M
 store-ring-spec =
     tie.close
     (tie.spec
-    Inv-loop
-    μ-loop
     (λ c. search needs)
-    loop-holds
-    (λ c. search needs)
-    (λ c. search needs)
-    (λ c. search needs)
-    (λ c. search needs)
-    (λ c κs. search needs)
+    sub-run
+    add-store-copy
+    store-copy-requires
     (λ c. search needs)
     returns
+    add-store-copy-2
+    store-copy-requires-2
+    (λ c. search needs)
+    returns-2
+    (λ c. search needs)
+    (λ c. search needs)
     (λ c κs. search needs)
     (λ c. search needs)
-    (λ c. search needs)
-    loop-again
-    (λ c. search needs)
-    returns-2)
+    returns-3)
