@@ -41,9 +41,9 @@ fn no_entry(refusal: u64) -> Entry
 }
 
 // Row 9, and what row 1 asks of a transaction that is open. D and the tails are the state's.
-pub fn find_entry(work: &[u64], disks: u64, tails: [u64; 8], number: u64) -> Entry
-    requires { ⌜ (disks ≤ 8) × (headWords ≤ length (now work)) ⌝ }
-    ensures { λ r. ⌜ ((h : Carried) → ownWork h (old work) ≡ true → h .disks ≡ disks → h .tails ≡ tails
+pub fn find_entry(work: &[u64], disks: u64, tails: &[u64], number: u64) -> Entry
+    requires { ⌜ (disks ≤ 8) × (headWords ≤ length (now work)) × (length (now tails) ≡ 8) ⌝ }
+    ensures { λ r. ⌜ ((h : Carried) → ownWork h (old work) ≡ true → h .disks ≡ disks → h .tails ≡ old tails
         → Entered (coreOf h (old work)) number r) ⌝ }
 {
     if number == 0 {

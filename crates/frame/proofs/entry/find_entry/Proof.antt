@@ -17,12 +17,12 @@ returns-3 c h own disks tails =
 
 returns-4 : tie.Need-returns-4
 returns-4 c h own disks tails =
-    entry-unfit h _ own _ (c .before .before .before .before .before .before .before .before .before .before .if1 .left) (c .before .before .before .before .before .before .before .before .before .place-of .ensures h own) (c .before .before .before .before .before .before .before .before .if2 .left) disks tails (c .before .before .before .before .before .before .if3 .left) (c .before .before .before .before .before .before .before .before .before .before .before .before .pre .0)
+    entry-unfit h _ own _ (c .before .before .before .before .before .before .before .before .before .before .before .if1 .left) (c .before .before .before .before .before .before .before .before .before .before .place-of .ensures h own) (c .before .before .before .before .before .before .before .before .before .if2 .left) disks tails (c .before .before .before .before .before .before .before .if3 .left) (c .before .before .before .before .before .before .before .before .before .before .before .before .before .before .pre .0)
     (c .before .before .place-fits .ensures) (not-true _ (c .before .if4 .taken)) _ (c .no-entry4 .ensures)
 
 returns-5 : tie.Need-returns-5
 returns-5 c h own disks tails =
-    entry-found h _ own _ (c .before .before .before .before .before .before .before .before .before .if1 .left) (c .before .before .before .before .before .before .before .before .place-of .ensures h own) (c .before .before .before .before .before .before .before .if2 .left) disks tails (c .before .before .before .before .before .if3 .left) (c .before .before .before .before .before .before .before .before .before .before .before .pre .0)
+    entry-found h _ own _ (c .before .before .before .before .before .before .before .before .before .before .if1 .left) (c .before .before .before .before .before .before .before .before .before .place-of .ensures h own) (c .before .before .before .before .before .before .before .before .if2 .left) disks tails (c .before .before .before .before .before .before .if3 .left) (c .before .before .before .before .before .before .before .before .before .before .before .before .before .pre .0)
     (c .before .place-fits .ensures) (not-false _ (c .if4 .left))
 
 pub find-entry-spec : {M : Type 1} → statement M
