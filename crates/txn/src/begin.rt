@@ -36,7 +36,7 @@ fn idlest_disk(disks: u64, ring: u64, starts: [u64; 8], tails: [u64; 8], work: &
 }
 
 pub fn begin(
-    mut carried: Carried,
+    carried: Carried,
     anchor: &[u64],
     pages: &[u64],
     backups: &[u64],
@@ -81,6 +81,6 @@ pub fn begin(
     }
     let sum = work[SUMS_AT + disk] + CLOSE_WORDS;
     enter(work, place, number, disk, 0, CLOSE_WORDS, sum);
-    carried.next = number + 1;
-    finished(carried, 0, number)
+    let next = number + 1;
+    finished(Carried { next, ..carried }, 0, number)
 }

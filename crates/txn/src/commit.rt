@@ -78,7 +78,7 @@ fn close_place(work: &mut [u64], place: usize, disk: usize, sum: u64)
 }
 
 pub fn commit(
-    mut carried: Carried,
+    carried: Carried,
     number: u64,
     anchor: &[u64],
     pages: &[u64],
@@ -106,8 +106,7 @@ pub fn commit(
     if refusal != 0 {
         return refused(carried, refusal);
     }
-    let tails = carried.tails;
-    let entry = find_entry(work, carried.disks, tails, number);
+    let entry = find_entry(work, carried.disks, &carried.tails, number);
     let row = commit_refusal(entry.refusal, anchor.len());
     if row != 0 {
         return refused(carried, row);
@@ -119,6 +118,8 @@ pub fn commit(
     }
     let disk = entry.disk as usize;
     close_place(work, entry.place, disk, entry.sum - entry.reserved);
-    carried.tails[disk] = entry.tail + entry.fill + CLOSE_WORDS;
-    finished(carried, saturating_sub(before, *budget), 0)
+    let mut tails = carried.tails;
+    tails[disk] = entry.tail + entry.fill + CLOSE_WORDS;
+    let stores = saturating_sub(before, *budget);
+    finished(Carried { tails, ..carried }, stores, 0)
 }

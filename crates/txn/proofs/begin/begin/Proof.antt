@@ -86,16 +86,16 @@ enter-requires c κs =
 
 returns-6 : tie.Need-returns-6
 returns-6 c =
-    let x = c .before .before .before .before .before .before .before .before .before .before .before .before .before .before .before .before .before .before .before .before .before .before .before .args in
+    let x = c .before .before .before .before .before .before .before .before .before .before .before .before .before .before .before .before .before .before .before .before .before .before .before .before .before .before .args in
     let w = worldOf (x .anchor .now) (x .pages .now) (x .backups .now) (x .logs .now) (x .work .now) in
-    let ready = lent-ready (x .carried) w (c .before .before .before .before .before .before .before .before .before .before .before .before .before .before .before .before .before .lent-refusal .ensures) (c .before .before .before .before .before .before .before .before .before .before .before .before .before .before .before .before .if1 .left) in
+    let ready = lent-ready (x .carried) w (c .before .before .before .before .before .before .before .before .before .before .before .before .before .before .before .before .before .before .before .before .lent-refusal .ensures) (c .before .before .before .before .before .before .before .before .before .before .before .before .before .before .before .before .before .before .before .if1 .left) in
     let own = own-ready (x .carried) w ready in
-    let place = c .before .before .before .before .before .before .before .before .before .before .before .before .before .place-of .ensures (x .carried) own in
-    let disk = c .before .before .before .before .before .before .before .idlest-disk .ensures .0 (x .carried) own refl refl refl refl in
+    let place = c .before .before .before .before .before .before .before .before .before .before .before .before .before .before .before .before .place-of .ensures (x .carried) own in
+    let disk = c .before .before .before .before .before .before .before .before .before .before .idlest-disk .ensures .0 (x .carried) own refl refl refl refl in
     begin-serves (x .carried) w ready
-    (begin-accepted (x .carried) w (c .before .before .before .before .before .before .before .before .before .before .before .before .before .before .before .before .before .lent-refusal .ensures) (c .before .before .before .before .before .before .before .before .before .before .before .before .before .before .before .before .if1 .left) (c .before .before .before .before .before .before .before .before .before .before .before .before .before .before .before .if2 .left)
-    (omega (arith, place, c .before .before .before .before .before .before .before .before .before .before .before .before .if3 .left)) (c .before .before .before .before .before .before .before .before .before .before .before .if4 .left) (omega (arith, disk, c .before .before .before .before .before .before .if5 .left)))
-    (begun-words (x .carried) (x .work .now) own place disk (c .before .before .before .before .before .before .before .before .before .before .before .before .if3 .left) (c .before .before .before .before .before .before .if5 .left) refl (c .before .before .before .enter .ensures)) (c .finished .ensures)
+    (begin-accepted (x .carried) w (c .before .before .before .before .before .before .before .before .before .before .before .before .before .before .before .before .before .before .before .before .lent-refusal .ensures) (c .before .before .before .before .before .before .before .before .before .before .before .before .before .before .before .before .before .before .before .if1 .left) (c .before .before .before .before .before .before .before .before .before .before .before .before .before .before .before .before .before .before .if2 .left)
+    (omega (arith, place, c .before .before .before .before .before .before .before .before .before .before .before .before .before .before .before .if3 .left)) (c .before .before .before .before .before .before .before .before .before .before .before .before .before .before .if4 .left) (omega (arith, disk, c .before .before .before .before .before .before .before .before .before .if5 .left)))
+    (begun-words (x .carried) (x .work .now) own place disk (c .before .before .before .before .before .before .before .before .before .before .before .before .before .before .before .if3 .left) (c .before .before .before .before .before .before .before .before .before .if5 .left) refl (c .before .before .before .before .before .before .enter .ensures)) (c .finished .ensures)
 
 pub begin-spec : {M : Type 1} → statement M
 begin-spec =

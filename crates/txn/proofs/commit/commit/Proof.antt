@@ -22,107 +22,107 @@ returns c = shown-refused (commit _ _) _ _ (commit-refused _ _ _ (c .before .bef
 
 find-entry-requires : tie.Need-find-entry-requires
 find-entry-requires c κs =
-    let x = c .before .before .before .before .before .before .before .before .before .args in
+    let x = c .before .before .before .before .before .before .before .before .before .before .before .args in
     let w = worldOf (x .anchor .now) (x .pages .now) (x .backups .now) (x .logs .now) (x .work .now) in
-    let ready = lent-ready (x .t1) w (c .before .before .before .lent-refusal .ensures) (c .before .before .if1 .left) in
-    (ready .counts .disks-max, omega (arith, ready .work))
+    let ready = lent-ready (x .t1) w (c .before .before .before .before .before .lent-refusal .ensures) (c .before .before .before .before .if1 .left) in
+    (ready .counts .disks-max, omega (arith, ready .work), search needs)
 
 returns-2 : tie.Need-returns-2
 returns-2 c =
-    let x = c .before .before .before .before .before .before .before .before .before .before .before .before .before .args in
+    let x = c .before .before .before .before .before .before .before .before .before .before .before .before .before .before .before .args in
     let w = worldOf (x .anchor .now) (x .pages .now) (x .backups .now) (x .logs .now) (x .work .now) in
-    let own = own-ready (x .t1) w (lent-ready (x .t1) w (c .before .before .before .before .before .before .before .lent-refusal .ensures) (c .before .before .before .before .before .before .if1 .left)) in
+    let own = own-ready (x .t1) w (lent-ready (x .t1) w (c .before .before .before .before .before .before .before .before .before .lent-refusal .ensures) (c .before .before .before .before .before .before .before .before .if1 .left)) in
     shown-refused (commit (x .number) (x .budget .now)) (x .t1) w
-    (commit-row (x .t1) w (x .number) (c .before .before .before .before .before .before .before .lent-refusal .ensures) (c .before .before .before .before .before .before .if1 .left) (c .before .before .before .find-entry .ensures (x .t1) own refl refl .refusal)
+    (commit-row (x .t1) w (x .number) (c .before .before .before .before .before .before .before .before .before .lent-refusal .ensures) (c .before .before .before .before .before .before .before .before .if1 .left) (c .before .before .before .find-entry .ensures (x .t1) own refl refl .refusal)
     (c .before .before .commit-refusal .ensures) (c .before .if2 .taken)) (c .refused2 .ensures)
 
 home-at-requires : tie.Need-home-at-requires
 home-at-requires c κs =
-    let x = c .before .before .before .before .before .before .before .before .before .before .before .before .before .args in
+    let x = c .before .before .before .before .before .before .before .before .before .before .before .before .before .before .before .args in
     let w = worldOf (x .anchor .now) (x .pages .now) (x .backups .now) (x .logs .now) (x .work .now) in
-    let s = commit-standing (x .t1) w (x .number) (c .before .before .before .before .before .before .before .lent-refusal .ensures) (c .before .before .before .before .before .before .if1 .left) (λ own. c .before .before .before .find-entry .ensures (x .t1) own refl refl) (c .before .before .commit-refusal .ensures) (c .before .if2 .left) in
+    let s = commit-standing (x .t1) w (x .number) (c .before .before .before .before .before .before .before .before .before .lent-refusal .ensures) (c .before .before .before .before .before .before .before .before .if1 .left) (λ own. c .before .before .before .find-entry .ensures (x .t1) own refl refl) (c .before .before .commit-refusal .ensures) (c .before .if2 .left) in
     (s .low, s .ready .counts .ring-max)
 
 sub-store-close : tie.Need-sub-store-close
 sub-store-close c =
-    let x = c .before .before .before .before .before .before .before .before .before .before .before .before .before .before .before .args in
+    let x = c .before .before .before .before .before .before .before .before .before .before .before .before .before .before .before .before .before .args in
     let w = worldOf (x .anchor .now) (x .pages .now) (x .backups .now) (x .logs .now) (x .work .now) in
-    let s = commit-standing (x .t1) w (x .number) (c .before .before .before .before .before .before .before .before .before .lent-refusal .ensures) (c .before .before .before .before .before .before .before .before .if1 .left) (λ own. c .before .before .before .before .before .find-entry .ensures (x .t1) own refl refl) (c .before .before .before .before .commit-refusal .ensures) (c .before .before .before .if2 .left) in
+    let s = commit-standing (x .t1) w (x .number) (c .before .before .before .before .before .before .before .before .before .before .before .lent-refusal .ensures) (c .before .before .before .before .before .before .before .before .before .before .if1 .left) (λ own. c .before .before .before .before .before .find-entry .ensures (x .t1) own refl refl) (c .before .before .before .before .commit-refusal .ensures) (c .before .before .before .if2 .left) in
     omega (arith, s .ready .work)
 
 part-store-close-start : tie.Need-part-store-close-start
 part-store-close-start c =
-    let x = c .before .before .before .before .before .before .before .before .before .before .before .before .before .before .before .args in
+    let x = c .before .before .before .before .before .before .before .before .before .before .before .before .before .before .before .before .before .args in
     let w = worldOf (x .anchor .now) (x .pages .now) (x .backups .now) (x .logs .now) (x .work .now) in
-    let s = commit-standing (x .t1) w (x .number) (c .before .before .before .before .before .before .before .before .before .lent-refusal .ensures) (c .before .before .before .before .before .before .before .before .if1 .left) (λ own. c .before .before .before .before .before .find-entry .ensures (x .t1) own refl refl) (c .before .before .before .before .commit-refusal .ensures) (c .before .before .before .if2 .left) in
+    let s = commit-standing (x .t1) w (x .number) (c .before .before .before .before .before .before .before .before .before .before .before .lent-refusal .ensures) (c .before .before .before .before .before .before .before .before .before .before .if1 .left) (λ own. c .before .before .before .before .before .find-entry .ensures (x .t1) own refl refl) (c .before .before .before .before .commit-refusal .ensures) (c .before .before .before .if2 .left) in
     omega (arith, s .ready .work)
 
 store-close-requires : tie.Need-store-close-requires
 store-close-requires c κs =
-    let x = c .before .before .before .before .before .before .before .before .before .before .before .before .before .before .before .before .before .args in
+    let x = c .before .before .before .before .before .before .before .before .before .before .before .before .before .before .before .before .before .before .before .args in
     let w = worldOf (x .anchor .now) (x .pages .now) (x .backups .now) (x .logs .now) (x .work .now) in
-    let s = commit-standing (x .t1) w (x .number) (c .before .before .before .before .before .before .before .before .before .before .before .lent-refusal .ensures) (c .before .before .before .before .before .before .before .before .before .before .if1 .left) (λ own. c .before .before .before .before .before .before .before .find-entry .ensures (x .t1) own refl refl) (c .before .before .before .before .before .before .commit-refusal .ensures) (c .before .before .before .before .before .if2 .left) in
+    let s = commit-standing (x .t1) w (x .number) (c .before .before .before .before .before .before .before .before .before .before .before .before .before .lent-refusal .ensures) (c .before .before .before .before .before .before .before .before .before .before .before .before .if1 .left) (λ own. c .before .before .before .before .before .before .before .find-entry .ensures (x .t1) own refl refl) (c .before .before .before .before .before .before .commit-refusal .ensures) (c .before .before .before .before .before .if2 .left) in
     close-fits (x .t1) w (x .number) (x .budget .now) s (home-standing (x .t1) w (x .number) (x .budget .now) s (c .before .before .before .home-at .ensures)) (lent-behind (x .work .now))
 
 returns-3 : tie.Need-returns-3
 returns-3 c =
-    let x = c .before .before .before .before .before .before .before .before .before .before .before .before .before .before .before .before .before .before .before .before .before .before .before .before .before .args in
+    let x = c .before .before .before .before .before .before .before .before .before .before .before .before .before .before .before .before .before .before .before .before .before .before .before .before .before .before .before .args in
     let w = worldOf (x .anchor .now) (x .pages .now) (x .backups .now) (x .logs .now) (x .work .now) in
-    let s = commit-standing (x .t1) w (x .number) (c .before .before .before .before .before .before .before .before .before .before .before .before .before .before .before .before .before .before .before .lent-refusal .ensures) (c .before .before .before .before .before .before .before .before .before .before .before .before .before .before .before .before .before .before .if1 .left) (λ own. c .before .before .before .before .before .before .before .before .before .before .before .before .before .before .before .find-entry .ensures (x .t1) own refl refl) (c .before .before .before .before .before .before .before .before .before .before .before .before .before .before .commit-refusal .ensures) (c .before .before .before .before .before .before .before .before .before .before .before .before .before .if2 .left) in
+    let s = commit-standing (x .t1) w (x .number) (c .before .before .before .before .before .before .before .before .before .before .before .before .before .before .before .before .before .before .before .before .before .lent-refusal .ensures) (c .before .before .before .before .before .before .before .before .before .before .before .before .before .before .before .before .before .before .before .before .if1 .left) (λ own. c .before .before .before .before .before .before .before .before .before .before .before .before .before .before .before .find-entry .ensures (x .t1) own refl refl) (c .before .before .before .before .before .before .before .before .before .before .before .before .before .before .commit-refusal .ensures) (c .before .before .before .before .before .before .before .before .before .before .before .before .before .if2 .left) in
     let home = home-standing (x .t1) w (x .number) (x .budget .now) s (c .before .before .before .before .before .before .before .before .before .before .before .home-at .ensures) in
-    commit-cut (x .t1) w (x .number) (x .budget .now) s (eight (c .before .before .before .before .before .before .before .before .before .before .before .before .before .before .before .before .before .before .before .before .before .before .before .before .before)) home (lent-behind (x .work .now)) (c .before .before .before .before .before .before .before .store-close .ensures) (not-true _ (c .before .before .if3 .taken)) (behind-back (x .work .now) _)
+    commit-cut (x .t1) w (x .number) (x .budget .now) s (eight (c .before .before .before .before .before .before .before .before .before .before .before .before .before .before .before .before .before .before .before .before .before .before .before .before .before .before .before)) home (lent-behind (x .work .now)) (c .before .before .before .before .before .before .before .store-close .ensures) (not-true _ (c .before .before .if3 .taken)) (behind-back (x .work .now) _)
     (rw (← c .before .saturating-sub .ensures) (c .cut .ensures))
 
 sub-close-place : tie.Need-sub-close-place
 sub-close-place c =
-    let x = c .before .before .before .before .before .before .before .before .before .before .before .before .before .before .before .before .before .before .before .before .before .before .before .before .before .args in
+    let x = c .before .before .before .before .before .before .before .before .before .before .before .before .before .before .before .before .before .before .before .before .before .before .before .before .before .before .before .args in
     let w = worldOf (x .anchor .now) (x .pages .now) (x .backups .now) (x .logs .now) (x .work .now) in
-    let s = commit-standing (x .t1) w (x .number) (c .before .before .before .before .before .before .before .before .before .before .before .before .before .before .before .before .before .before .before .lent-refusal .ensures) (c .before .before .before .before .before .before .before .before .before .before .before .before .before .before .before .before .before .before .if1 .left) (λ own. c .before .before .before .before .before .before .before .before .before .before .before .before .before .before .before .find-entry .ensures (x .t1) own refl refl) (c .before .before .before .before .before .before .before .before .before .before .before .before .before .before .commit-refusal .ensures) (c .before .before .before .before .before .before .before .before .before .before .before .before .before .if2 .left) in
+    let s = commit-standing (x .t1) w (x .number) (c .before .before .before .before .before .before .before .before .before .before .before .before .before .before .before .before .before .before .before .before .before .lent-refusal .ensures) (c .before .before .before .before .before .before .before .before .before .before .before .before .before .before .before .before .before .before .before .before .if1 .left) (λ own. c .before .before .before .before .before .before .before .before .before .before .before .before .before .before .before .find-entry .ensures (x .t1) own refl refl) (c .before .before .before .before .before .before .before .before .before .before .before .before .before .before .commit-refusal .ensures) (c .before .before .before .before .before .before .before .before .before .before .before .before .before .if2 .left) in
     s .placed .own-part
 
 close-place-requires : tie.Need-close-place-requires
 close-place-requires c κs =
-    let x = c .before .before .before .before .before .before .before .before .before .before .before .before .before .before .before .before .before .before .before .before .before .before .before .before .before .args in
+    let x = c .before .before .before .before .before .before .before .before .before .before .before .before .before .before .before .before .before .before .before .before .before .before .before .before .before .before .before .args in
     let w = worldOf (x .anchor .now) (x .pages .now) (x .backups .now) (x .logs .now) (x .work .now) in
-    let s = commit-standing (x .t1) w (x .number) (c .before .before .before .before .before .before .before .before .before .before .before .before .before .before .before .before .before .before .before .lent-refusal .ensures) (c .before .before .before .before .before .before .before .before .before .before .before .before .before .before .before .before .before .before .if1 .left) (λ own. c .before .before .before .before .before .before .before .before .before .before .before .before .before .before .before .find-entry .ensures (x .t1) own refl refl) (c .before .before .before .before .before .before .before .before .before .before .before .before .before .before .commit-refusal .ensures) (c .before .before .before .before .before .before .before .before .before .before .before .before .before .if2 .left) in
+    let s = commit-standing (x .t1) w (x .number) (c .before .before .before .before .before .before .before .before .before .before .before .before .before .before .before .before .before .before .before .before .before .lent-refusal .ensures) (c .before .before .before .before .before .before .before .before .before .before .before .before .before .before .before .before .before .before .before .before .if1 .left) (λ own. c .before .before .before .before .before .before .before .before .before .before .before .before .before .before .before .find-entry .ensures (x .t1) own refl refl) (c .before .before .before .before .before .before .before .before .before .before .before .before .before .before .commit-refusal .ensures) (c .before .before .before .before .before .before .before .before .before .before .before .before .before .if2 .left) in
     (s .found .low, s .low, omega (arith, s .ready .work))
 
-add-carried : tie.Need-add-carried
-add-carried c =
-    let x = c .before .before .before .before .before .before .before .before .before .before .before .before .before .before .before .before .before .before .before .before .before .before .before .before .before .before .before .before .before .args in
+add-tails : tie.Need-add-tails
+add-tails c =
+    let x = c .before .before .before .before .before .before .before .before .before .before .before .before .before .before .before .before .before .before .before .before .before .before .before .before .before .before .before .before .before .before .before .before .args in
     let w = worldOf (x .anchor .now) (x .pages .now) (x .backups .now) (x .logs .now) (x .work .now) in
-    let s = commit-standing (x .t1) w (x .number) (c .before .before .before .before .before .before .before .before .before .before .before .before .before .before .before .before .before .before .before .before .before .before .before .lent-refusal .ensures) (c .before .before .before .before .before .before .before .before .before .before .before .before .before .before .before .before .before .before .before .before .before .before .if1 .left) (λ own. c .before .before .before .before .before .before .before .before .before .before .before .before .before .before .before .before .before .before .before .find-entry .ensures (x .t1) own refl refl) (c .before .before .before .before .before .before .before .before .before .before .before .before .before .before .before .before .before .before .commit-refusal .ensures) (c .before .before .before .before .before .before .before .before .before .before .before .before .before .before .before .before .before .if2 .left) in
+    let s = commit-standing (x .t1) w (x .number) (c .before .before .before .before .before .before .before .before .before .before .before .before .before .before .before .before .before .before .before .before .before .before .before .before .before .before .lent-refusal .ensures) (c .before .before .before .before .before .before .before .before .before .before .before .before .before .before .before .before .before .before .before .before .before .before .before .before .before .if1 .left) (λ own. c .before .before .before .before .before .before .before .before .before .before .before .before .before .before .before .before .before .before .before .before .find-entry .ensures (x .t1) own refl refl) (c .before .before .before .before .before .before .before .before .before .before .before .before .before .before .before .before .before .before .before .commit-refusal .ensures) (c .before .before .before .before .before .before .before .before .before .before .before .before .before .before .before .before .before .before .if2 .left) in
     omega (arith, s .placed .end-small)
 
-add-carried-2 : tie.Need-add-carried-2
-add-carried-2 c =
-    let x = c .before .before .before .before .before .before .before .before .before .before .before .before .before .before .before .before .before .before .before .before .before .before .before .before .before .before .before .before .before .args in
+add-tails-2 : tie.Need-add-tails-2
+add-tails-2 c =
+    let x = c .before .before .before .before .before .before .before .before .before .before .before .before .before .before .before .before .before .before .before .before .before .before .before .before .before .before .before .before .before .before .before .before .args in
     let w = worldOf (x .anchor .now) (x .pages .now) (x .backups .now) (x .logs .now) (x .work .now) in
-    let s = commit-standing (x .t1) w (x .number) (c .before .before .before .before .before .before .before .before .before .before .before .before .before .before .before .before .before .before .before .before .before .before .before .lent-refusal .ensures) (c .before .before .before .before .before .before .before .before .before .before .before .before .before .before .before .before .before .before .before .before .before .before .if1 .left) (λ own. c .before .before .before .before .before .before .before .before .before .before .before .before .before .before .before .before .before .before .before .find-entry .ensures (x .t1) own refl refl) (c .before .before .before .before .before .before .before .before .before .before .before .before .before .before .before .before .before .before .commit-refusal .ensures) (c .before .before .before .before .before .before .before .before .before .before .before .before .before .before .before .before .before .if2 .left) in
+    let s = commit-standing (x .t1) w (x .number) (c .before .before .before .before .before .before .before .before .before .before .before .before .before .before .before .before .before .before .before .before .before .before .before .before .before .before .lent-refusal .ensures) (c .before .before .before .before .before .before .before .before .before .before .before .before .before .before .before .before .before .before .before .before .before .before .before .before .before .if1 .left) (λ own. c .before .before .before .before .before .before .before .before .before .before .before .before .before .before .before .before .before .before .before .before .find-entry .ensures (x .t1) own refl refl) (c .before .before .before .before .before .before .before .before .before .before .before .before .before .before .before .before .before .before .before .commit-refusal .ensures) (c .before .before .before .before .before .before .before .before .before .before .before .before .before .before .before .before .before .before .if2 .left) in
     omega (arith, s .placed .end-small, s .placed .own-min, s .placed .own-part)
 
-mul-carried : tie.Need-mul-carried
-mul-carried c =
-    let x = c .before .before .before .before .before .before .before .before .before .before .before .before .before .before .before .before .before .before .before .before .before .before .before .before .before .before .before .before .before .args in
+mul-tails : tie.Need-mul-tails
+mul-tails c =
+    let x = c .before .before .before .before .before .before .before .before .before .before .before .before .before .before .before .before .before .before .before .before .before .before .before .before .before .before .before .before .before .before .before .before .args in
     let w = worldOf (x .anchor .now) (x .pages .now) (x .backups .now) (x .logs .now) (x .work .now) in
-    let s = commit-standing (x .t1) w (x .number) (c .before .before .before .before .before .before .before .before .before .before .before .before .before .before .before .before .before .before .before .before .before .before .before .lent-refusal .ensures) (c .before .before .before .before .before .before .before .before .before .before .before .before .before .before .before .before .before .before .before .before .before .before .if1 .left) (λ own. c .before .before .before .before .before .before .before .before .before .before .before .before .before .before .before .before .before .before .before .find-entry .ensures (x .t1) own refl refl) (c .before .before .before .before .before .before .before .before .before .before .before .before .before .before .before .before .before .before .commit-refusal .ensures) (c .before .before .before .before .before .before .before .before .before .before .before .before .before .before .before .before .before .if2 .left) in
+    let s = commit-standing (x .t1) w (x .number) (c .before .before .before .before .before .before .before .before .before .before .before .before .before .before .before .before .before .before .before .before .before .before .before .before .before .before .lent-refusal .ensures) (c .before .before .before .before .before .before .before .before .before .before .before .before .before .before .before .before .before .before .before .before .before .before .before .before .before .if1 .left) (λ own. c .before .before .before .before .before .before .before .before .before .before .before .before .before .before .before .before .before .before .before .before .find-entry .ensures (x .t1) own refl refl) (c .before .before .before .before .before .before .before .before .before .before .before .before .before .before .before .before .before .before .before .commit-refusal .ensures) (c .before .before .before .before .before .before .before .before .before .before .before .before .before .before .before .before .before .before .if2 .left) in
     omega (arith, s .low)
 
-element-write-carried : tie.Need-element-write-carried
-element-write-carried c =
-    let x = c .before .before .before .before .before .before .before .before .before .before .before .before .before .before .before .before .before .before .before .before .before .before .before .before .before .before .before .before .before .args in
+array-write-tails : tie.Need-array-write-tails
+array-write-tails c =
+    let x = c .before .before .before .before .before .before .before .before .before .before .before .before .before .before .before .before .before .before .before .before .before .before .before .before .before .before .before .before .before .before .before .before .args in
     let w = worldOf (x .anchor .now) (x .pages .now) (x .backups .now) (x .logs .now) (x .work .now) in
-    let s = commit-standing (x .t1) w (x .number) (c .before .before .before .before .before .before .before .before .before .before .before .before .before .before .before .before .before .before .before .before .before .before .before .lent-refusal .ensures) (c .before .before .before .before .before .before .before .before .before .before .before .before .before .before .before .before .before .before .before .before .before .before .if1 .left) (λ own. c .before .before .before .before .before .before .before .before .before .before .before .before .before .before .before .before .before .before .before .find-entry .ensures (x .t1) own refl refl) (c .before .before .before .before .before .before .before .before .before .before .before .before .before .before .before .before .before .before .commit-refusal .ensures) (c .before .before .before .before .before .before .before .before .before .before .before .before .before .before .before .before .before .if2 .left) in
+    let s = commit-standing (x .t1) w (x .number) (c .before .before .before .before .before .before .before .before .before .before .before .before .before .before .before .before .before .before .before .before .before .before .before .before .before .before .lent-refusal .ensures) (c .before .before .before .before .before .before .before .before .before .before .before .before .before .before .before .before .before .before .before .before .before .before .before .before .before .if1 .left) (λ own. c .before .before .before .before .before .before .before .before .before .before .before .before .before .before .before .before .before .before .before .before .find-entry .ensures (x .t1) own refl refl) (c .before .before .before .before .before .before .before .before .before .before .before .before .before .before .before .before .before .before .before .commit-refusal .ensures) (c .before .before .before .before .before .before .before .before .before .before .before .before .before .before .before .before .before .before .if2 .left) in
     s .low
 
 returns-4 : tie.Need-returns-4
 returns-4 c =
-    let x = c .before .before .before .before .before .before .before .before .before .before .before .before .before .before .before .before .before .before .before .before .before .before .before .before .before .before .before .before .before .before .before .args in
+    let x = c .before .before .before .before .before .before .before .before .before .before .before .before .before .before .before .before .before .before .before .before .before .before .before .before .before .before .before .before .before .before .before .before .before .before .before .before .args in
     let w = worldOf (x .anchor .now) (x .pages .now) (x .backups .now) (x .logs .now) (x .work .now) in
-    let s = commit-standing (x .t1) w (x .number) (c .before .before .before .before .before .before .before .before .before .before .before .before .before .before .before .before .before .before .before .before .before .before .before .before .before .lent-refusal .ensures) (c .before .before .before .before .before .before .before .before .before .before .before .before .before .before .before .before .before .before .before .before .before .before .before .before .if1 .left) (λ own. c .before .before .before .before .before .before .before .before .before .before .before .before .before .before .before .before .before .before .before .before .before .find-entry .ensures (x .t1) own refl refl) (c .before .before .before .before .before .before .before .before .before .before .before .before .before .before .before .before .before .before .before .before .commit-refusal .ensures) (c .before .before .before .before .before .before .before .before .before .before .before .before .before .before .before .before .before .before .before .if2 .left) in
-    let home = home-standing (x .t1) w (x .number) (x .budget .now) s (c .before .before .before .before .before .before .before .before .before .before .before .before .before .before .before .before .before .home-at .ensures) in
-    commit-whole (x .t1) w (x .number) (x .budget .now) s (eight (c .before .before .before .before .before .before .before .before .before .before .before .before .before .before .before .before .before .before .before .before .before .before .before .before .before .before .before .before .before .before .before)) home (lent-behind (x .work .now)) (c .before .before .before .before .before .before .before .before .before .before .before .before .before .store-close .ensures) (not-false _ (c .before .before .before .before .before .before .before .before .if3 .left)) (behind-back (x .work .now) _)
-    (c .before .before .before .before .before .close-place .ensures) (rw (← c .before .saturating-sub2 .ensures) (c .finished .ensures))
+    let s = commit-standing (x .t1) w (x .number) (c .before .before .before .before .before .before .before .before .before .before .before .before .before .before .before .before .before .before .before .before .before .before .before .before .before .before .before .before .before .before .lent-refusal .ensures) (c .before .before .before .before .before .before .before .before .before .before .before .before .before .before .before .before .before .before .before .before .before .before .before .before .before .before .before .before .before .if1 .left) (λ own. c .before .before .before .before .before .before .before .before .before .before .before .before .before .before .before .before .before .before .before .before .before .before .before .before .find-entry .ensures (x .t1) own refl refl) (c .before .before .before .before .before .before .before .before .before .before .before .before .before .before .before .before .before .before .before .before .before .before .before .commit-refusal .ensures) (c .before .before .before .before .before .before .before .before .before .before .before .before .before .before .before .before .before .before .before .before .before .before .if2 .left) in
+    let home = home-standing (x .t1) w (x .number) (x .budget .now) s (c .before .before .before .before .before .before .before .before .before .before .before .before .before .before .before .before .before .before .before .before .home-at .ensures) in
+    commit-whole (x .t1) w (x .number) (x .budget .now) s (eight (c .before .before .before .before .before .before .before .before .before .before .before .before .before .before .before .before .before .before .before .before .before .before .before .before .before .before .before .before .before .before .before .before .before .before .before .before)) home (lent-behind (x .work .now)) (c .before .before .before .before .before .before .before .before .before .before .before .before .before .before .before .before .store-close .ensures) (not-false _ (c .before .before .before .before .before .before .before .before .before .before .before .if3 .left)) (behind-back (x .work .now) _)
+    (c .before .before .before .before .before .before .before .before .close-place .ensures) (rw (← c .before .before .before .saturating-sub2 .ensures) (c .finished .ensures))
 
 pub commit-spec : {M : Type 1} → statement M
 commit-spec =
@@ -148,10 +148,10 @@ commit-spec =
     returns-3
     sub-close-place
     close-place-requires
-    add-carried
-    add-carried-2
-    mul-carried
-    element-write-carried
+    add-tails
+    add-tails-2
+    mul-tails
+    array-write-tails
     (λ c κs. search needs)
     (λ c κs. search needs)
     (λ c. search needs)
