@@ -5,7 +5,7 @@ use mathlib.Core.Bool.{true, false}
 use Prim.Native.Nat.{ℕ, _+_, _-_, _≤_, _<_}
 use native.Mathlib.Omega.{arith}
 use lib.ListN.{length, set, take, drop, length-append, length-drop, drop-of-length-le}
-use lib.Seq.{length-take-le}
+use lib.Seq.{length-take-le, set-getD}
 use borrow.Author.Tests.{eq-eqb, ne-eqb}
 use borrow.Rule.Slice.PartAt.{part-to-end}
 use Rattle.model.specs.declared.Sizes.{Sizes}
@@ -163,6 +163,16 @@ module _ (h : Carried) (w : World) (own : ownWork h (w .work) ≡ true) {number 
       update-finished head-left reply =
           shown-whole (update number page slot value budget) h w rows (rw (actions-are, finished) at (did .ran)) serving-after
           (head-left ∙ head-after ∙ ap (λ (x : Core). headOf x ++ body) (sym core-after)) (sym carried-after ∙ ap carriedOf (sym core-after)) reply
+
+      -- where nothing is flushed, the tail stays, and with it all that is carried
+      pub update-unmoved : r .tail ≡ p .tail → {work : List ℕ}
+          → work ≡ putWords (filling (p .disk) (r .fill)) (putWords (entering (p .place) number (p .disk) (p .first) (p .reserved) (p .sum)) (take headWords (w .work) ++ body))
+          → {reply : Handed} → reply ≡ finishedTo h (budget - rest) 0
+          → Serves (update number page slot value budget) h w reply rest (worldOf (w .anchor) pages (w .backups) logs work)
+      unfolding tailOf coreOf
+      update-unmoved stays head-left reply =
+          let same : set (h .tails) (p .disk) (r .tail) ≡ h .tails = rw (stays, plans .tail) (set-getD (h .tails) (p .disk) 0) in
+          update-finished head-left (rw same reply)
 
 -- The body as it is lent, and the whole when it is back.
 pub body-lent : (work : List ℕ) → take (length work - headWords) (drop headWords work) ≡ drop headWords work

@@ -12,7 +12,7 @@ use layout::memory::copy_place;
 use layout::memory::owner_place;
 use model::Stage;
 use table::place::CLOSE_WORDS;
-use table::room::has_room;
+use table::room::fits_ring;
 ghost use mathlib.Core.Path.{_≡_};
 ghost use mathlib.Core.Bool.{true, false, cond, not, _&&_};
 ghost use mathlib.Core.List.{List};
@@ -97,6 +97,7 @@ fn late_refusal(
     number: u64,
 ) -> u64
     requires { ⌜ (disks ≤ 8) × (found .at < 8192) × (found .width ≤ 32) × (headWords + (bufferAt disks + 64 + found .at) < length (now work)) ⌝ }
+    requires { ⌜ entry .tail + entry .fill + entry .sum ≤ limit ⌝ }
     ensures { λ r. ⌜ ((h : Carried) → ownWork h (old work) ≡ true → h .disks ≡ disks
         → r ≡ cond (inTable (coreOf h (old work) .table) (ownerOf (coreOf h (old work) .sizes) (drop headWords (old work)) (found .at))
         && not (eqb (ownerOf (coreOf h (old work) .sizes) (drop headWords (old work)) (found .at)) number)) 11
@@ -106,7 +107,7 @@ fn late_refusal(
         return 11;
     }
     let need = 2 * (3 + found.width as u64);
-    if has_room(start, entry.tail, entry.fill, entry.sum, ring, need) {
+    if fits_ring(start, entry.tail + entry.fill, entry.sum, ring, need) {
         0
     } else {
         14
@@ -186,7 +187,7 @@ pub fn plan_update(
         return no_plan(first);
     }
     let found = find_slot(work, count, total, page, slot);
-    let entry = find_entry(work, disks, tails, number);
+    let entry = find_entry(work, disks, &tails, number);
     let early = early_refusal(
         found.refusal,
         entry.refusal,

@@ -43,7 +43,7 @@ fn count_update(work: &mut [u64], plan: Plan, number: u64, fill: u64)
 }
 
 pub fn update(
-    mut carried: Carried,
+    carried: Carried,
     number: u64,
     page: u64,
     slot: u64,
@@ -108,7 +108,19 @@ pub fn update(
         return cut(stores);
     }
     count_update(work, plan, number, added.fill);
+    // most updates flush nothing
+    if added.tail == plan.tail {
+        return finished(carried, stores, 0);
+    }
     let d = plan.disk as usize;
-    carried.tails[d] = added.tail;
-    finished(carried, stores, 0)
+    let mut moved = carried.tails;
+    moved[d] = added.tail;
+    finished(
+        Carried {
+            tails: moved,
+            ..carried
+        },
+        stores,
+        0,
+    )
 }

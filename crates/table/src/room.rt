@@ -12,7 +12,19 @@ ghost use Rattle.table.specs.Parts.{logsOf, sumsOf, coreOf, roomFor};
 // The bound of positions: 2^62.
 pub const LIMIT: u64 = 4611686018427387904;
 
-// A need of so many words fits on a disk, by its numbers: any numbers, so what is above LIMIT is refused before it is added.
+// A need of so many words fits on a disk whose log ends at `end`.
+pub fn fits_ring(start: u64, end: u64, reserved: u64, ring: u64, need: u64) -> bool
+    requires { ⌜ (end ≤ limit) × (reserved ≤ limit) × (need ≤ limit) ⌝ }
+    ensures { λ r. ⌜ r ≡ roomFor start end reserved ring need ⌝ }
+{
+    if LIMIT < end + reserved + need {
+        return false;
+    }
+    let used = saturating_sub(end, start);
+    used + reserved + need <= ring
+}
+
+// The same of any numbers: what is above LIMIT is refused before it is added.
 pub fn has_room(start: u64, tail: u64, fill: u64, reserved: u64, ring: u64, need: u64) -> bool
     requires { ⌜ need ≤ limit ⌝ }
     ensures { λ r. ⌜ r ≡ roomFor start (tail + fill) reserved ring need ⌝ }
@@ -30,12 +42,7 @@ pub fn has_room(start: u64, tail: u64, fill: u64, reserved: u64, ring: u64, need
     if LIMIT < end {
         return false;
     }
-    let whole = end + reserved + need;
-    if LIMIT < whole {
-        return false;
-    }
-    let used = saturating_sub(end, start);
-    used + reserved + need <= ring
+    fits_ring(start, end, reserved, ring, need)
 }
 
 // A disk less busy than the best so far, or the first.

@@ -1,7 +1,7 @@
--- `table::room::has_room` meets its contract: what is above the limit has no room, and the other sums fit a word. Assumes nothing.
+-- `table::room::has_room` meets its contract: what is above the limit has no room. Assumes nothing.
 use native.Mathlib.Omega.{arith}
 use borrow.Author.Needs.{needs}
-use Rattle.table.proofs.HasRoom.{no-room, room-by-ring}
+use Rattle.table.proofs.HasRoom.{no-room}
 use Rattle.table.proofs.room.has_room.Statement.{statement}
 use Rattle.table.proofs.room.has_room.Tie as tie
 
@@ -18,10 +18,7 @@ returns-4 : tie.Need-returns-4
 returns-4 c = no-room _ _ _ _ _ (omega arith)
 
 returns-5 : tie.Need-returns-5
-returns-5 c = no-room _ _ _ _ _ (omega arith)
-
-returns-6 : tie.Need-returns-6
-returns-6 c = rw (c .saturating-sub .ensures) (room-by-ring _ _ _ _ _ (omega arith))
+returns-5 c = c .fits-ring .ensures
 
 pub has-room-spec : {M : Type 1} → statement M
 has-room-spec =
@@ -32,10 +29,5 @@ has-room-spec =
     returns-3
     (λ c. search needs)
     returns-4
-    (λ c. search needs)
-    (λ c. search needs)
-    returns-5
     (λ c κs. search needs)
-    (λ c. search needs)
-    (λ c. search needs)
-    returns-6)
+    returns-5)
