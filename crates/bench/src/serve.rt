@@ -1,45 +1,104 @@
-// The transactions of the stream, with a checkpoint when a disk has no room.
+// The transactions of the stream. A call that finds no log room is made again after a checkpoint.
 use crate::answers::is_refused;
 use crate::answers::value_of;
 use crate::copying::checkpointed;
 use crate::input::Plan;
-use crate::stream::Turn;
-use crate::stream::no_turn;
+use crate::stream::SEED;
+use crate::stream::next;
+use crate::stream::pick;
 use crate::stream::product;
 use crate::stream::spread;
-use crate::stream::turn_after;
-use model::Answer;
 use std::num::wrapping_add_u64;
 use std::num::wrapping_sub_u64;
-use store::Called;
 use store::State;
 use store::transactions::abort;
 use store::transactions::begin;
 use store::transactions::commit;
 use store::transactions::update;
+use trial_table::words::get;
 
-// One call of a transaction.
-fn call(
-    turn: Turn,
-    number: u64,
+// An open transaction: the state, and its number.
+struct Opened {
     state: State,
-    value: &[u64],
+    number: u64,
+}
+
+// A begin. It is refused once at most.
+fn opened(
+    count: u64,
+    from: State,
+    anchor: &mut [u64],
+    pages: &[u64],
+    backups: &mut [u64],
+    logs: &mut [u64],
+    work: &mut [u64],
+    budget: &mut u64,
+) -> Opened {
+    let mut state = from;
+    let mut number: u64 = 0;
+    let mut tries: u64 = 0;
+    while tries < 2 {
+        tries += 1;
+        let called = begin(state, anchor, pages, backups, logs, work);
+        state = called.state;
+        let answer = called.answer;
+        if is_refused(answer) {
+            let copied = checkpointed(state, count, anchor, pages, backups, logs, work, budget);
+            state = copied.state;
+        } else {
+            number = value_of(answer);
+            tries = 2;
+        }
+    }
+    Opened { state, number }
+}
+
+// The close: an abort for one transaction in fifty.
+fn closed(
+    aborts: bool,
+    state: State,
+    number: u64,
     anchor: &[u64],
     pages: &mut [u64],
     backups: &[u64],
     logs: &mut [u64],
     work: &mut [u64],
     budget: &mut u64,
-) -> Called {
-    if turn.phase == 0 {
-        return begin(state, anchor, pages, backups, logs, work);
+) -> State {
+    if aborts {
+        let undone = abort(state, number, anchor, pages, backups, logs, work, budget);
+        return undone.state;
     }
-    if turn.phase < 4 {
-        return update(
+    let done = commit(state, number, anchor, pages, backups, logs, work, budget);
+    done.state
+}
+
+// The three updates, of slots and to values that the stream tells from its number `seed` on. Each is refused once at most.
+fn all_updated(
+    plan: Plan,
+    from: State,
+    number: u64,
+    seed: u64,
+    value: &mut [u64],
+    anchor: &mut [u64],
+    pages: &mut [u64],
+    backups: &mut [u64],
+    logs: &mut [u64],
+    work: &mut [u64],
+    budget: &mut u64,
+) -> State {
+    let mut state = from;
+    let mut r = next(seed);
+    let mut made: u64 = 0;
+    let mut tries: u64 = 0;
+    while made < 3 && tries < 6 {
+        tries += 1;
+        spread(value, r);
+        let called = update(
             state,
             number,
-            turn.page,
-            turn.slot,
+            pick(r / 4294967296, plan.pages),
+            pick(r, plan.slots),
             value,
             anchor,
             pages,
@@ -48,17 +107,30 @@ fn call(
             work,
             budget,
         );
+        state = called.state;
+        let answer = called.answer;
+        if is_refused(answer) {
+            let copied = checkpointed(
+                state,
+                plan.pages,
+                anchor,
+                pages,
+                backups,
+                logs,
+                work,
+                budget,
+            );
+            state = copied.state;
+        } else {
+            made += 1;
+            r = next(r);
+        }
     }
-    if turn.aborts {
-        return abort(state, number, anchor, pages, backups, logs, work, budget);
-    }
-    commit(state, number, anchor, pages, backups, logs, work, budget)
+    state
 }
 
-// What is kept from call to call: the number of the open transaction, whether the last call was refused, and counts.
+// What the transactions come to.
 pub struct Tally {
-    number: u64,
-    refused: bool,
     pub taken: u64,
     pub aborts: u64,
     pub checkpoints: u64,
@@ -69,93 +141,8 @@ fn one_if(yes: bool) -> u64 {
     if yes { 1 } else { 0 }
 }
 
-// The number of the open transaction after a call.
-fn number_after(turn: Turn, number: u64, answer: Answer) -> u64 {
-    if turn.phase == 0 {
-        return value_of(answer);
-    }
-    number
-}
-
-// Is this the call that aborts?
-fn is_abort(turn: Turn) -> bool {
-    if turn.phase == 4 { turn.aborts } else { false }
-}
-
-fn counted(tally: Tally, turn: Turn, answer: Answer) -> Tally {
-    if turn.full {
-        return Tally {
-            refused: false,
-            checkpoints: wrapping_add_u64(tally.checkpoints, 1),
-            ..tally
-        };
-    }
-    if is_refused(answer) {
-        return Tally {
-            refused: true,
-            ..tally
-        };
-    }
-    Tally {
-        number: number_after(turn, tally.number, answer),
-        taken: wrapping_add_u64(tally.taken, 1),
-        aborts: wrapping_add_u64(tally.aborts, one_if(is_abort(turn))),
-        ..tally
-    }
-}
-
-fn no_tally() -> Tally {
-    Tally {
-        number: 0,
-        refused: false,
-        taken: 0,
-        aborts: 0,
-        checkpoints: 0,
-        stores: 0,
-    }
-}
-
-// The stores are what is gone of the largest budget.
-fn with_stores(tally: Tally, budget: u64) -> Tally {
-    Tally {
-        stores: wrapping_sub_u64(18446744073709551615, budget),
-        ..tally
-    }
-}
-
-// One turn: a checkpoint, or a call.
-fn made(
-    turn: Turn,
-    tally: Tally,
-    state: State,
-    count: u64,
-    value: &mut [u64],
-    anchor: &mut [u64],
-    pages: &mut [u64],
-    backups: &mut [u64],
-    logs: &mut [u64],
-    work: &mut [u64],
-    budget: &mut u64,
-) -> Called {
-    if turn.full {
-        return checkpointed(state, count, anchor, pages, backups, logs, work, budget);
-    }
-    spread(value, turn.seed);
-    call(
-        turn,
-        tally.number,
-        state,
-        value,
-        anchor,
-        pages,
-        backups,
-        logs,
-        work,
-        budget,
-    )
-}
-
-// All calls of the stream, five for each transaction. A call is refused once at most: so three turns for each are enough.
+// All transactions of the stream. Each takes five of its numbers: one for its close, three for its updates, one for none. A checkpoint
+// raises c by one, from 1 after the format.
 pub fn served(
     plan: Plan,
     begun: State,
@@ -166,21 +153,31 @@ pub fn served(
     logs: &mut [u64],
     work: &mut [u64],
 ) -> Tally {
-    let calls = product(plan.transactions, 5);
-    let turns = product(plan.transactions, 15);
     let mut budget: u64 = 18446744073709551615;
     let mut state = begun;
-    let mut turn = no_turn();
-    let mut tally = no_tally();
+    let mut r = SEED;
+    let mut aborts: u64 = 0;
     let mut i: u64 = 0;
-    while i < turns && tally.taken < calls {
+    while i < plan.transactions {
         i += 1;
-        turn = turn_after(turn, tally.refused, plan.pages, plan.slots);
-        let called = made(
-            turn,
-            tally,
-            state,
+        r = next(r);
+        let aborting = r % 50 == 0;
+        let called = opened(
             plan.pages,
+            state,
+            anchor,
+            pages,
+            backups,
+            logs,
+            work,
+            &mut budget,
+        );
+        let number = called.number;
+        state = all_updated(
+            plan,
+            called.state,
+            number,
+            r,
             value,
             anchor,
             pages,
@@ -189,9 +186,24 @@ pub fn served(
             work,
             &mut budget,
         );
-        state = called.state;
-        let answer = called.answer;
-        tally = counted(tally, turn, answer);
+        r = next(next(next(next(r))));
+        state = closed(
+            aborting,
+            state,
+            number,
+            anchor,
+            pages,
+            backups,
+            logs,
+            work,
+            &mut budget,
+        );
+        aborts = wrapping_add_u64(aborts, one_if(aborting));
     }
-    with_stores(tally, budget)
+    Tally {
+        taken: product(plan.transactions, 5),
+        aborts,
+        checkpoints: wrapping_sub_u64(get(anchor, 3), 1),
+        stores: wrapping_sub_u64(18446744073709551615, budget),
+    }
 }
