@@ -2,7 +2,7 @@
 use crate::calls::Call;
 use crate::calls::Kind;
 use crate::calls::lay_value;
-use crate::rooms;
+use crate::logs;
 use crate::shape::Shape;
 use crate::shape::address_of;
 use crate::shape::width_of;
@@ -34,7 +34,7 @@ pub fn new_plain() -> Plain {
 // After lost power: all sheets and buffers go.
 pub fn lost(plain: Plain, book: &mut [u64]) -> Plain {
     write_sets::clear(book);
-    rooms::lose(book);
+    logs::lose(book);
     Plain {
         stage: 0,
         entries: 0,
@@ -107,7 +107,7 @@ fn note(plain: Plain, shape: Shape, call: Call, book: &mut [u64]) {
         Kind::Update => note_update(plain.entries, shape, call, book),
         Kind::Commit => write_sets::close(book, plain.entries, call.number, true),
         Kind::Abort => write_sets::close(book, plain.entries, call.number, false),
-        Kind::RestartEnd => rooms::empty(book),
+        Kind::RestartEnd => logs::empty(book),
         _ => {}
     }
 }
