@@ -11,7 +11,7 @@ use crate::words::put;
 use crate::write_sets;
 
 // Stages are 0 shut, 1 replaying, 2 open, 3 copying. `next` is the number that a begin answers, `epoch` 01's c, `copied` the pages that
-// the checkpoint under way has copied, `entries` the entries of all sheets.
+// the checkpoint under way has copied, `entries` the entries of all write sets.
 pub struct Plain {
     pub stage: u64,
     pub next: u64,
@@ -31,7 +31,7 @@ pub fn new_plain() -> Plain {
     }
 }
 
-// After lost power: all sheets and buffers go.
+// After lost power: all write sets and buffers go.
 pub fn lost(plain: Plain, book: &mut [u64]) -> Plain {
     write_sets::clear(book);
     logs::lose(book);
