@@ -15,7 +15,7 @@ ghost use Prim.Native.Nat.{_≤_};
 ghost use mathlib.Core.List.{[]};
 ghost use lib.ListN.{length};
 ghost use Rattle.model.specs.World.{worldOf};
-ghost use Rattle.model.specs.Moments.{old, new, oldWorld};
+ghost use Rattle.model.specs.Moments.{new, oldWorld};
 ghost use Rattle.model.specs.View.{coreOf, bodyOf};
 ghost use Rattle.hall.specs.Running.{formatting, started};
 ghost use Rattle.hall.specs.Held.{Stands};

@@ -1,7 +1,7 @@
 -- `hall::serving::answer_input` meets its contract: the lines, then the last one, then the tally.
 use borrow.Author.Needs.{needs}
 use native.Mathlib.Omega.{arith}
-use mathlib.Core.Path.{_≡_, _∙_}
+use mathlib.Core.Path.{_∙_}
 use Rattle.model.proofs.Booleans.{true-false}
 use Rattle.hall.proofs.serving.answer_input.Statement.{statement}
 use Rattle.hall.proofs.serving.answer_input.Tie as tie
