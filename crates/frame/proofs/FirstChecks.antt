@@ -20,14 +20,14 @@ use Rattle.model.specs.View.{headWords, ownWork, coreOf, bodyOf}
 use Rattle.model.proofs.Booleans.{all-four}
 use Rattle.model.proofs.Store.Rows.{not-shut}
 use Rattle.layout.specs.Raw.{lengthsAre}
+use Rattle.frame.specs.Checks.{commonRows}
 use Rattle.frame.specs.Fits.{countsWithin}
 use Rattle.frame.specs.Lent.{lentRefusal}
 use Rattle.frame.proofs.Fitting.{Counted, counted}
 
--- a call's rows: 1, 2 and 5, and the rest; row 1 with the test that the call makes of a state where the lengths are right
+-- the rows of a call that a serving state allows
 abbrev pub viewRows : (test : Bool) → Core → World → List Row → List Row
-viewRows test c w rest =
-    row 1 (stageForbids whenServing (fitsOn test c w) c) ∷ row 2 (anchorWrong (w .anchor)) ∷ row 5 (lengthsWrong (c .sizes) (c .bases .total) w) ∷ rest
+viewRows = commonRows whenServing
 
 by-tests : (allowed counts right anchor test : Bool) (rest : List Row)
     → verdict (row 1 (not (allowed && (counts && (not right || test)))) ∷ row 2 (not anchor) ∷ row 5 (not right) ∷ rest)

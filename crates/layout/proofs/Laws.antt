@@ -1,18 +1,17 @@
 -- Laws that the proofs of this crate share: products, the bounds on the sizes, an array that is filled word by word, fresh memory.
 use mathlib.Core.Path.{_≡_, refl, sym, ap, _∙_}
 use mathlib.Core.Bool.{Bool, true, false, and-false, _&&_}
-use mathlib.Core.List.{List, append-nil}
+use mathlib.Core.List.{List}
 use Prim.Native.Nat.{ℕ, _+_, _*_, _≤_, _<_}
 use native.Mathlib.Omega.{arith}
 use native.Mathlib.Numerals.{add-one}
 use native.Mathlib.Nat.{le-trans, mul-le-mul-left, mul-le-mul-right}
 use lib.Dec.{ltb, eqb}
-use lib.ListN.{length, getD, set, take, drop-of-length-le, replicate}
-use lib.Seq.{sets, sets-eq, take-suc, take-suc-set, take-all}
+use lib.ListN.{length, getD, set, take, replicate}
+use lib.Seq.{sets, take-suc, take-suc-set, take-all}
 use borrow.Author.Tests.{eq-eqb, ltb-true, ltb-false}
 use Rattle.model.specs.declared.Sizes.{Sizes}
 use Rattle.model.specs.declared.Bases.{Bases}
-use Rattle.model.specs.Word.{part}
 use Rattle.model.specs.Below.{allBelow}
 use Rattle.model.specs.Sizes.{slotsIn, widthIn, pageWords, usedEntry, unusedEntry, entryInBounds, countsInBounds, sizesInBounds, total, logWords, diskAt}
 use Rattle.model.specs.State.{basesOf}
@@ -22,7 +21,6 @@ use Rattle.model.specs.Format.{freshWork}
 use Rattle.model.proofs.Store.Puts.{fresh-is}
 use Rattle.model.proofs.Below.{all-stop}
 use Rattle.model.proofs.Bounds.{bounded}
-use Rattle.model.proofs.Parts.{length-part}
 use Rattle.layout.specs.Raw.{countsOf, lengthsAre}
 
 pub product-max : (a b m n : ℕ) → a ≤ m → b ≤ n → a * b ≤ m * n
@@ -36,14 +34,6 @@ fill-more out source i v h k e done =
 
 pub fill-end : (out source : List ℕ) (n i : ℕ) → i ≡ n → length out ≡ n → length source ≡ n → take i out ≡ take i source → out ≡ source
 fill-end out source n i last h k done = sym (take-all i out (omega arith)) ∙ done ∙ take-all i source (omega arith)
-
--- An array that a part of a list is copied over.
-pub copied-part : (n at : ℕ) (source old : List ℕ) {after : List ℕ} → at + n ≤ length source → length old ≡ n
-    → after ≡ sets old 0 (part at n source) → after ≡ part at n source
-copied-part n at source old fits whole e =
-    let long = length-part at n source fits in
-    let none = drop-of-length-le old {i = 0 + length (part at n source)} (omega (arith, long, whole)) in
-    e ∙ sets-eq (part at n source) old 0 (omega (arith, long, whole)) ∙ rw (none, append-nil)
 
 -- The bounds on the entries speak of the pages and the two arrays alone.
 abbrev pub entriesOf : ℕ → List ℕ → List ℕ → Sizes

@@ -3,6 +3,7 @@ pub mod Decoding
 pub mod Scanning
 pub mod Rings
 pub mod Fronts
+pub mod FrontSteps
 pub mod Surveying
 pub mod Ready
 -- Writing: runs of words set in a list, and runs of words stored in a ring.

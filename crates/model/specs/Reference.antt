@@ -19,7 +19,7 @@ pub record Write : Type 0 where
   pub slot : ℕ
   pub value : List ℕ
 
--- A sheet: the writes of an open transaction, first to last.
+-- A write set: the writes of an open transaction, first to last.
 pub record WriteSet : Type 0 where
   pub number : ℕ
   pub writes : List Write
@@ -82,7 +82,7 @@ blank s =
 unfoldable pub slotIndex : Sizes → ℕ → ℕ → ℕ
 slotIndex s page slot = sumBelow (slotsIn s) page + slot
 
--- the transaction has a sheet
+-- the transaction has a write set
 unfoldable pub hasSet : ℕ → List WriteSet → Bool
 hasSet number [] = false
 hasSet number (x ∷ xs) = eqb (x .number) number || hasSet number xs
@@ -107,7 +107,7 @@ applied s [] table = table
 applied s (e ∷ es) table = applied s es (set table (slotIndex s (e .page) (e .slot)) (e .value))
 
 abbrev pub withSets : Reference → List WriteSet → Reference
-withSets r sheets = record { sizes = r .sizes; committed = r .committed; writeSets = sheets }
+withSets r sets = record { sizes = r .sizes; committed = r .committed; writeSets = sets }
 
 -- The six rules, for a call taken.
 abbrev pub afterTaken : Call → ℕ → Reference → Reference

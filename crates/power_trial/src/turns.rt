@@ -74,7 +74,7 @@ fn quiet_turn(
     }
 }
 
-// Power is lost: sheets and buffers go, pages and work hold anything.
+// Power is lost: write sets and buffers go, pages and work hold anything.
 fn lose_power(
     progress: Progress,
     pages: &mut [u64],

@@ -1,9 +1,8 @@
 -- A difference XORed in as two, one behind the other; where the pages begin, one after the other.
 use mathlib.Core.Path.{_≡_, refl, sym, ap, _∙_}
 use mathlib.Core.List.{List, [], _∷_, _++_}
-use Prim.Native.Nat.{ℕ, suc, _+_, _-_, _%_, _≤_, _<_}
+use Prim.Native.Nat.{ℕ, _+_, _-_, _%_, _≤_, _<_}
 use native.Mathlib.Omega.{arith}
-use native.Mathlib.Nat.{add-zero, add-suc, suc-add}
 use native.Mathlib.Decide.{ℕ-discrete}
 use lib.ListN.{length, getD, set, take, drop, length-append}
 use lib.Seq.{sets, take-add, drop-drop, getD-set-same, getD-set-other}
@@ -13,12 +12,9 @@ use Rattle.model.specs.Decode.{span}
 use Rattle.model.specs.Image.{xorAt}
 use Rattle.model.proofs.Xor.{length-xors-same}
 use Rattle.model.proofs.Parts.{length-part, part-sets-behind}
+use Rattle.words.proofs.Laws.{sets-append}
 use Rattle.log.specs.Ring.{readRing}
 use Rattle.log.proofs.Rings.{span-run, span-round}
-
-sets-append : (l : List ℕ) (at : ℕ) (a b : List ℕ) → sets l at (a ++ b) ≡ sets (sets l at a) (at + length a) b
-sets-append l at [] b = rw add-zero
-sets-append l at (x ∷ a) b = rw (add-suc, ← suc-add) (sets-append (set l at x) (suc at) a b)
 
 xors-append : (x y a b : List ℕ) → length x ≡ length a → xors (x ++ y) (a ++ b) ≡ xors x a ++ xors y b
 unfolding xors

@@ -1,35 +1,30 @@
 -- What a replaying state gives a run.
 use mathlib.Core.Path.{_≡_, refl}
 use mathlib.Core.List.{List}
+use mathlib.Core.Bool.{true}
 use Prim.Native.Nat.{ℕ, _+_, _*_, _≤_, _<_}
 use native.Mathlib.Omega.{arith}
-use lib.ListN.{length}
+use lib.ListN.{length, getD}
 use Rattle.model.specs.declared.Core.{Core}
 use Rattle.model.specs.declared.Sizes.{Sizes}
 use Rattle.model.specs.Word.{part}
-use Rattle.model.specs.Sizes.{ringOf, diskAt, pageBase, slotBase, total}
+use Rattle.model.specs.Sizes.{ringOf, diskAt, pageBase, slotBase, total, sizesInBounds}
 use Rattle.model.specs.World.{World}
 use Rattle.model.specs.State.{tailOf}
 use Rattle.model.specs.Causes.{whenReplaying}
-use Rattle.model.proofs.Bounds.{total-max}
+use Rattle.model.proofs.Bounds.{bounded, total-max}
 use Rattle.model.proofs.Decode.{ChangeAt}
 use Rattle.model.proofs.Geometry.{slot-end-total}
 use Rattle.model.proofs.Ring.{disk-within}
 use Rattle.frame.proofs.Verdicts.{Passed}
 use Rattle.log.specs.Ring.{ringAt, Ring, EntriesOf}
 use Rattle.log.proofs.Rings.{ring-is, ring-size}
-use Rattle.replay.specs.Step.{OnLog}
+use Rattle.replay.specs.Step.{Replays, OnLog}
 use Rattle.replay.proofs.Facts.{replays, replaying, sizes-bounded, tail-low}
-use Rattle.run.specs.Run.{Passes}
+use Rattle.run.specs.Run.{Passes, LaidOf, DiskRing}
 
 pub passes : {c : Core} {w : World} → Passed whenReplaying c w → Passes c w
 passes p = record { replays = replays p; anchor = p .anchor; lengths = p .lengths }
-
--- The words of a disk's ring, and that it lies within the logs.
-pub record DiskRing (s : Sizes) (logs : List ℕ) (disk : ℕ) (ring : List ℕ) : Type 0 where
-  pub same : ring ≡ ringAt s logs disk
-  pub inside : diskAt s disk + ringOf s disk + 1 ≤ length logs
-  pub some : 0 < ringOf s disk
 
 -- A log, read by ring index.
 module _ {c : Core} {disk : ℕ} {pages logs : List ℕ} (on : OnLog c disk pages logs) where
@@ -51,16 +46,21 @@ module _ {c : Core} {disk : ℕ} {pages logs : List ℕ} (on : OnLog c disk page
       rw (d .same)
       (record { ring-min = omega (arith, size, b .ring-min); ring-max = omega (arith, size, b .ring-max); tail-low = omega (arith, tail-low on) })
 
-  pub log-entries : EntriesOf (c .sizes) (c .sizes .slots) (c .sizes .widths)
-  log-entries = record { bounds = replaying c (on .replays) .bounds; same-slots = refl; same-widths = refl }
+-- what a run knows of the sizes and the pages
+module _ {c : Core} (on : Replays c) where
+  pub entries-of : EntriesOf (c .sizes) (c .sizes .slots) (c .sizes .widths)
+  entries-of = record { bounds = replaying c on .bounds; same-slots = refl; same-widths = refl }
 
-  -- the slot of a change found there, from where its page begins
-  pub slot-sum : {stop p kind page slot number width next base : ℕ} → ChangeAt (c .sizes) stop p kind page slot number width next
-      → base ≡ pageBase (c .sizes) page
-      → (slot * width ≤ 8192) × (base + slot * width ≡ slotBase (c .sizes) page slot) × (slotBase (c .sizes) page slot + width ≤ total (c .sizes))
-      × (total (c .sizes) ≤ 8192)
-  unfolding slotBase
-  slot-sum {page} {slot} f e =
-      let max = total-max (c .sizes) (sizes-bounded c (on .replays)) in
-      let ends = slot-end-total (c .sizes) page slot (f .page-in) (f .slot-in) in
-      rw (f .width-eq, e) (omega (arith, ends, max), refl, ends, omega (arith, max))
+  pub laid-of : {bases pages : List ℕ} → ((page : ℕ) → page < 64 → getD bases page 0 ≡ pageBase (c .sizes) page) → length pages ≡ total (c .sizes)
+      → LaidOf (c .sizes) (c .sizes .slots) (c .sizes .widths) bases pages
+  laid-of base words = record { entries = entries-of; base = base; words = words }
+
+-- the slot of a change, from where its page begins
+pub slot-sum : (s : Sizes) → sizesInBounds s ≡ true → {stop p kind page slot number width next base : ℕ} → ChangeAt s stop p kind page slot number width next
+    → base ≡ pageBase s page
+    → (slot * width ≤ 8192) × (base + slot * width ≡ slotBase s page slot) × (slotBase s page slot + width ≤ total s) × (total s ≤ 8192)
+unfolding slotBase
+slot-sum s ok {page = page} {slot = slot} f e =
+    let max = total-max s (bounded s ok) in
+    let ends = slot-end-total s page slot (f .page-in) (f .slot-in) in
+    rw (f .width-eq, e) (omega (arith, ends, max), refl, ends, omega (arith, max))

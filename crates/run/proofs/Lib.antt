@@ -5,4 +5,5 @@ pub mod Faults
 pub mod Facts
 pub mod Onward
 pub mod Running
+pub mod Taking
 pub mod Backups

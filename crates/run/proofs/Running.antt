@@ -12,7 +12,7 @@ use Rattle.model.specs.declared.Decoded.{Decoded}
 use Rattle.model.specs.declared.Decoded.the-variants.{Change, Close, Malformed}
 use Rattle.model.specs.declared.Fault.{Fault}
 use Rattle.model.specs.declared.Fate.{Fate}
-use Rattle.model.specs.declared.Fate.the-variants.{Unreadable}
+use Rattle.model.specs.declared.Fate.the-variants.{Closed, Unclosed, Unreadable}
 use Rattle.model.specs.Sizes.{slotBase}
 use Rattle.model.specs.Decode.{readLog, span, decodeAt}
 use Rattle.model.specs.Scan.{scan, fateIn}
@@ -23,13 +23,19 @@ use Rattle.model.specs.State.{withReplay, tailOf}
 use Rattle.model.specs.Restart.{positionOf, replays, readDisk, fateFrom, nextRecord, fateFault, recordFault, stepFault, movedTo}
 use Rattle.model.proofs.KeptBases.{bases-carried}
 use Rattle.model.proofs.Sound.Test.{ReplaySound, replay-sound, replaying-test}
+use Rattle.model.proofs.Decode.{found-change, found-close}
 use Rattle.model.proofs.Restart.Words.{withPages}
 use Rattle.log.specs.Ring.{readRing, ringAt}
 use Rattle.log.proofs.Rings.{ring-decode, ring-scan, ring-span}
-use Rattle.run.specs.Run.{Passes, RanOn, Onward, faultAt}
+use Rattle.run.specs.Run.{Passes, RanOn, Onward, faultAt, DiskRing, TakesChange, Takes}
 use Rattle.replay.proofs.Stepping.{fault-here, step-none, step-malformed, step-close, step-unreadable, step-change}
-use Rattle.run.proofs.Facts.{DiskRing}
 use Rattle.run.proofs.Onward.{onward-none, onward-step, onward-most, onward-stop}
+
+not-closed : (q : ℕ) → Closed ≡ Unreadable q → ⊥
+not-closed q e = let z : _≡_ {A = ℕ} 0 1 = cc in omega arith
+
+not-unclosed : (q : ℕ) → Unclosed ≡ Unreadable q → ⊥
+not-unclosed q e = let z : _≡_ {A = ℕ} 0 1 = cc in omega arith
 
 module _ (c : Core) (w : World) (disk : ℕ) (h : disk < c .sizes .disks) (long : disk < length (c .replay .positions)) (ring : List ℕ)
     (lies : DiskRing (c .sizes) (w .logs) disk ring) where
@@ -151,12 +157,12 @@ module _ (c : Core) (w : World) (disk : ℕ) (h : disk < c .sizes .disks) (long 
       unfolding movedTo withReplay
       before = omega (arith, moved-position p, l)
 
-      pub run-bad : r ≡ Malformed → RanOn disk most c w made (movedTo c disk p) (withPages w pages)
+      run-bad : r ≡ Malformed → RanOn disk most c w made (movedTo c disk p) (withPages w pages)
       run-bad e =
           onward-stop disk most c w _ _ _ o passes
           (step-malformed (movedTo c disk p) (withPages w pages) disk (inside p) before (here e))
 
-      pub run-close : {kind number next : ℕ} → made < most → r ≡ Close kind number next
+      run-close : {kind number next : ℕ} → made < most → r ≡ Close kind number next
           → Onward disk most c w (made + 1) (most - (made + 1)) (movedTo c disk next) (withPages w pages)
       run-close {next} some e =
           onward-step disk most c w (omega arith) o passes
@@ -164,12 +170,12 @@ module _ (c : Core) (w : World) (disk : ℕ) (h : disk < c .sizes .disks) (long 
 
       module _ {kind page slot number copy width next : ℕ} (e : r ≡ Change kind page slot number copy width next) {f : Fate}
           (fate : f ≡ fateIn number (scan (c .sizes) word tail next)) where
-        pub run-unreadable : {q : ℕ} → f ≡ Unreadable q → RanOn disk most c w made (movedTo c disk p) (withPages w pages)
+        run-unreadable : {q : ℕ} → f ≡ Unreadable q → RanOn disk most c w made (movedTo c disk p) (withPages w pages)
         run-unreadable u =
             onward-stop disk most c w _ _ _ o passes
             (step-unreadable (movedTo c disk p) (withPages w pages) disk (inside p) before (here e) (fate-at p pages number next fate ∙ u))
 
-        pub run-change : {b : Bool} {after : List ℕ} → made < most → ((q : ℕ) → f ≡ Unreadable q → ⊥) → b ≡ replays (c .epoch) f copy
+        run-change : {b : Bool} {after : List ℕ} → made < most → ((q : ℕ) → f ≡ Unreadable q → ⊥) → b ≡ replays (c .epoch) f copy
             → p + 3 + width ≤ tail
             → after ≡ cond b (xorAt (slotBase (c .sizes) page slot) (span word (p + 3) width) pages) pages
             → Onward disk most c w (made + 1) (most - (made + 1)) (movedTo c disk next) (withPages w after)
@@ -179,3 +185,39 @@ module _ (c : Core) (w : World) (disk : ℕ) (h : disk < c .sizes .disks) (long 
             (rw (moved-moved p next) at
             (step-change (movedTo c disk p) (withPages w pages) disk h before (here e) (fate-at p pages number next fate) unmet chosen
             (did ∙ ap (λ (d : List ℕ). cond b (xorAt (slotBase (c .sizes) page slot) d pages) pages) (span-at p pages width fits))))
+
+      -- the record that stands at p, by what it comes to
+      pub run-record : {after : List ℕ} {next : ℕ} → made < most → Takes (c .sizes) (c .epoch) tail word p pages after next r
+          → (next ≡ p → RanOn disk most c w made (movedTo c disk p) (withPages w after))
+          × ((next ≡ p → ⊥) → Onward disk most c w (made + 1) (most - (made + 1)) (movedTo c disk next) (withPages w after))
+      run-record {after} {next} some takes = go r refl takes
+        where
+          fate-of : ℕ → ℕ → Fate
+          fate-of number to = fateIn number (scan (c .sizes) word tail to)
+
+          xored : (page slot width : ℕ) → List ℕ
+          xored page slot width = xorAt (slotBase (c .sizes) page slot) (span word (p + 3) width) pages
+
+          taken : (kind page slot number copy width to : ℕ) → r ≡ Change kind page slot number copy width to → (f : Fate) → f ≡ fate-of number to
+              → ((q : ℕ) → f ≡ Unreadable q → ⊥) → (next ≡ to) × (after ≡ cond (replays (c .epoch) f copy) (xored page slot width) pages)
+              → (next ≡ p → RanOn disk most c w made (movedTo c disk p) (withPages w after))
+              × ((next ≡ p → ⊥) → Onward disk most c w (made + 1) (most - (made + 1)) (movedTo c disk next) (withPages w after))
+          taken kind page slot number copy width to e f fate unmet t =
+              let got = found-change (c .sizes) word tail (sym is ∙ e) in
+              (λ x. absurd (omega (arith, t .0, x, got .next-eq)), λ _. rw (t .0) (run-change e fate some unmet refl (omega (arith, got .next-eq, got .next-le)) (t .1)))
+
+          change : (kind page slot number copy width to : ℕ) → r ≡ Change kind page slot number copy width to → (f : Fate) → f ≡ fate-of number to
+              → TakesChange (c .epoch) copy p to (xored page slot width) pages after next f
+              → (next ≡ p → RanOn disk most c w made (movedTo c disk p) (withPages w after))
+              × ((next ≡ p → ⊥) → Onward disk most c w (made + 1) (most - (made + 1)) (movedTo c disk next) (withPages w after))
+          change kind page slot number copy width to e (Unreadable q) fate t =
+              (λ _. rw (t .1) (run-unreadable e fate refl), λ on. absurd (on (t .0)))
+          change kind page slot number copy width to e Closed fate t = taken kind page slot number copy width to e Closed fate not-closed t
+          change kind page slot number copy width to e Unclosed fate t = taken kind page slot number copy width to e Unclosed fate not-unclosed t
+
+          go : (d : Decoded) → r ≡ d → Takes (c .sizes) (c .epoch) tail word p pages after next d
+              → (next ≡ p → RanOn disk most c w made (movedTo c disk p) (withPages w after))
+              × ((next ≡ p → ⊥) → Onward disk most c w (made + 1) (most - (made + 1)) (movedTo c disk next) (withPages w after))
+          go (Change kind page slot number copy width to) e t = change kind page slot number copy width to e (fate-of number to) refl t
+          go (Close kind number to) e t = (λ x. absurd (omega (arith, t .0, x, found-close (c .sizes) word tail (sym is ∙ e) .next-eq)), λ _. rw (t .0, t .1) (run-close some e))
+          go Malformed e t = (λ _. rw (t .1) (run-bad e), λ on. absurd (on (t .0)))

@@ -2,4 +2,5 @@
 mod ahead;
 mod fates;
 mod fault;
+mod record;
 pub mod run;

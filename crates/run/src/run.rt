@@ -1,7 +1,6 @@
 // Restart run: steps of one source, as many as are asked for, or until the next would be refused.
-use crate::fates::forget;
-use crate::fates::recall;
 use crate::fault::record_fault;
+use crate::record::take_record;
 use frame::checks::common_refusal;
 use frame::settle::finish;
 use frame::settle::refuse;
@@ -9,18 +8,13 @@ use frame::settle::refuse_at;
 use frame::stages::When;
 use layout::disks::disk_at;
 use log::ring::advance;
-use log::ring::decode_ring;
 use log::ring::ring_words;
 use model::Core;
-use model::Decoded;
-use model::Fate;
 use model::Fault;
 use model::Replay;
 use model::Reply;
-use replay::record::is_replayed;
 use replay::record::move_on;
 use replay::ring::page_bases;
-use replay::ring::replay_ring;
 use replay::take::xor_page;
 ghost use mathlib.Core.Path.{_≡_};
 ghost use mathlib.Core.List.{List};
@@ -29,10 +23,12 @@ ghost use lib.ListN.{length, getD};
 ghost use Rattle.model.specs.Sizes.{total};
 ghost use Rattle.model.specs.World.{worldOf};
 ghost use Rattle.model.specs.Moments.{old, new, oldWorld};
+ghost use Rattle.model.specs.State.{tailOf};
 ghost use Rattle.model.specs.Restart.{movedTo};
 ghost use Rattle.model.specs.Call.{Gives, restartRun};
+ghost use Rattle.log.specs.Ring.{Ring};
 ghost use Rattle.replay.specs.Step.{Replays, OnLog};
-ghost use Rattle.run.specs.Run.{RunsOn, Passes, RanOn};
+ghost use Rattle.run.specs.Run.{RunsOn, Passes, RanOn, DiskRing};
 
 // A log's next position.
 fn next_position(replay: Replay, disk: u64) -> u64
@@ -49,73 +45,50 @@ pub struct Ran {
     pub made: u64,
 }
 
-// Takes the next records of a log, with no state handed on in the loop.
-fn run_ring(core: Core, disk: u64, most: u64, pages: &mut [u64], logs: &[u64]) -> Ran
-    requires { ⌜ OnLog core disk (now pages) (now logs) ⌝ }
-    ensures { λ r. ⌜ ((anchor backups work : List ℕ) → Passes core (worldOf anchor (now (pages .entry)) backups (now (logs .entry)) work)
-        → RanOn disk most core (worldOf anchor (now (pages .entry)) backups (now (logs .entry)) work) (r .made) (movedTo core disk (r .position)) (worldOf anchor (now (pages .exit)) backups (now (logs .entry)) work)) ⌝ }
+// Takes the next records of a log, whose ring is handed in.
+fn run_ring(core: Core, disk: u64, ring: &[u64], most: u64, pages: &mut [u64]) -> Ran
+    requires { ⌜ Replays core × (disk < core .sizes .disks) × (length (now pages) ≡ total (core .sizes)) × Ring (now ring) (tailOf (core .logs) disk) ⌝ }
+    ensures { λ r. ⌜ ((anchor backups logs work : List ℕ) → DiskRing (core .sizes) logs disk (now (ring .entry))
+        → Passes core (worldOf anchor (now (pages .entry)) backups logs work)
+        → RanOn disk most core (worldOf anchor (now (pages .entry)) backups logs work) (r .made) (movedTo core disk (r .position)) (worldOf anchor (now (pages .exit)) backups logs work)) ⌝ }
 {
     let sizes = core.sizes;
     let slots = sizes.slots;
     let widths = sizes.widths;
-    let place = disk_at(sizes.ring, disk);
-    let ring = ring_words(logs, place, sizes.ring);
-    let size = ring.len() as u64;
+    let bases = page_bases(sizes);
     let tails = core.logs.tails;
     let tail = tails[disk as usize];
-    let bases = page_bases(sizes);
     let mut numbers = [0u64; 16];
     let mut closed = [false; 16];
     let mut used: usize = 0;
     let mut p = next_position(core.replay, disk);
-    let mut at = p % size;
+    let mut at = p % ring.len() as u64;
     let mut made: u64 = 0;
     while made < most {
         if tail <= p {
             return Ran { position: p, made };
         }
-        let here = decode_ring(&slots, &widths, ring, tail, p, at);
-        match here {
-            Decoded::Change {
-                page,
-                slot,
-                number,
-                copy,
-                width,
-                next,
-                ..
-            } => {
-                let known = recall(
-                    &mut numbers,
-                    &mut closed,
-                    used,
-                    &slots,
-                    &widths,
-                    ring,
-                    tail,
-                    next,
-                    number,
-                );
-                used = known.used;
-                let fate = known.fate;
-                if let Fate::Unreadable { .. } = fate {
-                    return Ran { position: p, made };
-                }
-                let replays = is_replayed(core.epoch, fate, copy);
-                let to = bases[page as usize] + slot * width;
-                replay_ring(replays, pages, to, ring, advance(at, 3, size), width);
-                at = advance(at, next - p, size);
-                p = next;
-                made += 1;
-            }
-            Decoded::Close { number, next, .. } => {
-                used = forget(&mut numbers, &mut closed, used, number);
-                at = advance(at, next - p, size);
-                p = next;
-                made += 1;
-            }
-            Decoded::Malformed => return Ran { position: p, made },
+        let taken = take_record(
+            &mut numbers,
+            &mut closed,
+            used,
+            &slots,
+            &widths,
+            &bases,
+            ring,
+            tail,
+            p,
+            at,
+            core.epoch,
+            pages,
+        );
+        if taken.next == p {
+            return Ran { position: p, made };
         }
+        used = taken.used;
+        at = advance(at, taken.next - p, ring.len() as u64);
+        p = taken.next;
+        made += 1;
     }
     Ran { position: p, made }
 }
@@ -144,7 +117,7 @@ fn run_log(core: Core, disk: u64, most: u64, pages: &mut [u64], logs: &[u64]) ->
             position: p,
         } => refuse_at(core, 7, bad, p),
         Fault::NoFault => {
-            let ran = run_ring(core, disk, most, pages, logs);
+            let ran = run_ring(core, disk, ring, most, pages);
             let moved = move_on(core, disk, ran.position);
             finish(moved.core, ran.made)
         }

@@ -24,18 +24,12 @@ use Rattle.model.specs.View.{headWords, coreOf, carriedOf, headOf, headAfter, b
 use Rattle.model.proofs.Run.{run-lengths}
 use Rattle.model.proofs.Store.Cases.{call-cases}
 use Rattle.model.proofs.View.Seen.{behind-left}
+use Rattle.frame.proofs.Behind.{lentFrom, backFrom, lent-from, back-from}
 use Rattle.head.specs.Narrow.{narrowed}
 use Rattle.head.specs.Saves.{saves}
 use Rattle.head.proofs.Wrapped.{takesState, wrapped-room, wrapped-serves}
 use Rattle.store.specs.Handed.{Arrays}
 use Rattle.store.proofs.Handing.{sound-served}
-
--- The part of a work memory that is lent from `from` on, and the memory with other words in that part.
-abbrev lentFrom : ℕ → List ℕ → List ℕ
-lentFrom from work = take (length work - from) (drop from work)
-
-abbrev backFrom : ℕ → List ℕ → (body : List ℕ) → List ℕ
-backFrom from work body = take from work ++ (body ++ drop (length work - from) (drop from work))
 
 -- It is lent from where the body begins, or from the end where there is none.
 start-parts : (work : List ℕ) → (take (min headWords (length work)) work ≡ take headWords work) × (drop (min headWords (length work)) work ≡ drop headWords work)
@@ -56,14 +50,10 @@ start-parts work = go (leb headWords (length work)) refl
 
 module _ (work : List ℕ) (from : ℕ) (start : from ≡ min headWords (length work)) where
   lent-body : lentFrom from work ≡ drop headWords work
-  lent-body =
-      take-all (length work - from) (drop from work) (omega (arith, length-drop from work))
-      ∙ ap (λ (n : ℕ). drop n work) start ∙ start-parts work .1
+  lent-body = lent-from from work ∙ ap (λ (n : ℕ). drop n work) start ∙ start-parts work .1
 
   body-back : (body : List ℕ) → backFrom from work body ≡ take headWords work ++ body
-  body-back body =
-      let none : drop (length work - from) (drop from work) ≡ [] = drop-of-length-le (drop from work) {i = length work - from} (omega (arith, length-drop from work)) in
-      rw (none, append-nil body, start, start-parts work .0) refl
+  body-back body = back-from from work body ∙ ap (λ (n : ℕ). take n work ++ body) start ∙ ap (λ (front : List ℕ). front ++ body) (start-parts work .0)
 
 -- the first words of a memory whose body was changed
 left-take : (work body : List ℕ) → length body ≡ length (drop headWords work) → take headWords (take headWords work ++ body) ≡ take headWords work

@@ -4,6 +4,7 @@ use crate::budget::budget_of;
 use crate::budget::spend;
 use crate::calls::Call;
 use crate::calls::Kind;
+use crate::logs;
 use crate::plain::Plain;
 use crate::refusals::refusal;
 use crate::rooms;
@@ -56,7 +57,7 @@ fn steps_of(shape: Shape, call: Call, book: &[u64]) -> u64 {
         return 1;
     };
     let most = call.most;
-    let left = rooms::steps_left(book, shape.disks, shape.pages, call.number);
+    let left = logs::steps_left(book, shape.disks, shape.pages, call.number);
     if most < left { most } else { left }
 }
 
@@ -121,19 +122,19 @@ fn charge_begin(shape: Shape, place: u64, budget: Budget, book: &mut [u64]) -> B
 }
 
 fn charge_mark(disks: u64, budget: Budget, book: &mut [u64]) -> Budget {
-    rooms::mark(book, disks);
+    logs::mark(book, disks);
     budget
 }
 
 fn charge_replay(shape: Shape, call: Call, budget: Budget, book: &mut [u64]) -> Budget {
     let steps = steps_of(shape, call, book);
-    rooms::replay(book, call.number, steps);
+    logs::replay(book, call.number, steps);
     budget
 }
 
 fn charge_update(width: u64, seat: Seat, budget: Budget, book: &mut [u64]) -> Budget {
     let words = sum(width, 3);
-    let after = rooms::append(book, seat.disk, words, budget);
+    let after = logs::append(book, seat.disk, words, budget);
     if !after.cut {
         rooms::update(book, seat.place, words);
     }
@@ -143,8 +144,8 @@ fn charge_update(width: u64, seat: Seat, budget: Budget, book: &mut [u64]) -> Bu
 // The closing record, and a flush.
 fn charge_commit(seat: Seat, budget: Budget, book: &mut [u64]) -> Budget {
     let disk = seat.disk;
-    let appended = rooms::append(book, disk, 2, budget);
-    let after = rooms::flush(book, disk, appended);
+    let appended = logs::append(book, disk, 2, budget);
+    let after = logs::flush(book, disk, appended);
     rooms::close(book, seat.place);
     after
 }
@@ -153,7 +154,7 @@ fn charge_commit(seat: Seat, budget: Budget, book: &mut [u64]) -> Budget {
 fn charge_abort(entries: u64, number: u64, seat: Seat, budget: Budget, book: &mut [u64]) -> Budget {
     let disk = seat.disk;
     let undone = compensate(entries, number, disk, budget, book);
-    let after = rooms::append(book, disk, 2, undone);
+    let after = logs::append(book, disk, 2, undone);
     rooms::close(book, seat.place);
     after
 }
@@ -164,7 +165,7 @@ fn compensate(entries: u64, number: u64, disk: u64, budget: Budget, book: &mut [
     while left > 0 {
         left -= 1;
         let words = compensation(left, number, book);
-        after = rooms::append(book, disk, words, after);
+        after = logs::append(book, disk, words, after);
     }
     after
 }
@@ -180,10 +181,10 @@ fn compensation(entry: u64, number: u64, book: &[u64]) -> u64 {
 
 // The flushes, a start for each disk, and c.
 fn charge_close(disks: u64, budget: Budget, book: &mut [u64]) -> Budget {
-    let flushed = rooms::flush_all(book, disks, budget);
+    let flushed = logs::flush_all(book, disks, budget);
     let after = spend(flushed, sum(disks, 1));
     if !after.cut {
-        rooms::move_starts(book, disks);
+        logs::move_starts(book, disks);
     }
     after
 }

@@ -4,6 +4,7 @@ pub mod answers;
 mod budget;
 pub mod calls;
 pub mod costs;
+mod logs;
 pub mod plain;
 pub mod random;
 mod refusals;

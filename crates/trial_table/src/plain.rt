@@ -2,7 +2,7 @@
 use crate::calls::Call;
 use crate::calls::Kind;
 use crate::calls::lay_value;
-use crate::rooms;
+use crate::logs;
 use crate::shape::Shape;
 use crate::shape::address_of;
 use crate::shape::width_of;
@@ -11,7 +11,7 @@ use crate::words::put;
 use crate::write_sets;
 
 // Stages are 0 shut, 1 replaying, 2 open, 3 copying. `next` is the number that a begin answers, `epoch` 01's c, `copied` the pages that
-// the checkpoint under way has copied, `entries` the entries of all sheets.
+// the checkpoint under way has copied, `entries` the entries of all write sets.
 pub struct Plain {
     pub stage: u64,
     pub next: u64,
@@ -31,10 +31,10 @@ pub fn new_plain() -> Plain {
     }
 }
 
-// After lost power: all sheets and buffers go.
+// After lost power: all write sets and buffers go.
 pub fn lost(plain: Plain, book: &mut [u64]) -> Plain {
     write_sets::clear(book);
-    rooms::lose(book);
+    logs::lose(book);
     Plain {
         stage: 0,
         entries: 0,
@@ -107,7 +107,7 @@ fn note(plain: Plain, shape: Shape, call: Call, book: &mut [u64]) {
         Kind::Update => note_update(plain.entries, shape, call, book),
         Kind::Commit => write_sets::close(book, plain.entries, call.number, true),
         Kind::Abort => write_sets::close(book, plain.entries, call.number, false),
-        Kind::RestartEnd => rooms::empty(book),
+        Kind::RestartEnd => logs::empty(book),
         _ => {}
     }
 }

@@ -1,4 +1,4 @@
-// The plain table: the sheets of the open transactions, and the results, word for word.
+// The plain table: the write sets of the open transactions, and the results, word for word.
 // Its memory, the book, is one slice: 96 words of log room (`rooms`); the open transactions' numbers, 16 words (0: none); what was last
 // read, a length and 39 words; the results, 8,192 words; then entries of 36 words in the order made: transaction (0: gone),
 // the slot's address, its width, its value.
@@ -116,7 +116,7 @@ fn leave(book: &mut [u64], number: u64) {
     }
 }
 
-// All sheets go.
+// All write sets go.
 pub fn clear(book: &mut [u64]) {
     wipe(tail_mut(book, open_at(0)), 16);
 }

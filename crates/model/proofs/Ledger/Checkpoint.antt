@@ -13,7 +13,7 @@ use Rattle.model.proofs.Ledger.State.{Ledger, copied, switched}
 use Rattle.model.proofs.Ledger.Sums.{sum-append, sum-zero, all-map}
 use Rattle.model.proofs.Ledger.Picks.{sum-pick, closed-pick, some-append}
 use Rattle.model.proofs.Ledger.Word.{Inv, Copied, newer, copy-page, flush-keeps, switch-keeps, drop-keeps}
-use Rattle.model.proofs.Ledger.WriteSets.{sheets-same}
+use Rattle.model.proofs.Ledger.WriteSets.{write-sets-same}
 use Rattle.model.proofs.Ledger.Good.{Good}
 use Rattle.model.proofs.Ledger.Flush.{neither}
 use Rattle.model.proofs.Booleans.{true-false}
@@ -38,7 +38,7 @@ module _ {x size : ℕ} {a : Ledger} (inPage : ℕ → Bool) (before : (w : ℕ)
   unfolding copied
   copy-good = record {
     words = g .words;
-    sheets = g .sheets;
+    write-sets = g .write-sets;
     copied = λ w i. copied-word w i (inPage w) refl;
     numbers = λ w i. number w i (inPage w);
     unclosed = g .unclosed;
@@ -127,8 +127,8 @@ module _ {size : ℕ} {a : Ledger} {retains : Entry → Bool} (g : Good 0 size a
   unfolding switched R D
   switch-good = record {
     words = word;
-    sheets = λ w i. sheets-same 0 w (a .committed w) (a .flushed ++ a .buffered) (R ++ []) (a .opened) (a .writes) (a .writes) (a .owners w)
-        (λ u n o. shed (λ r. mask (eqb (r .number) u) (adds w r)) (all-map (not-there w u (g .words w i .loose u o)) D (may .closed))) (λ u o. refl) (g .sheets w i);
+    write-sets = λ w i. write-sets-same 0 w (a .committed w) (a .flushed ++ a .buffered) (R ++ []) (a .opened) (a .writes) (a .writes) (a .owners w)
+        (λ u n o. shed (λ r. mask (eqb (r .number) u) (adds w r)) (all-map (not-there w u (g .words w i .loose u o)) D (may .closed))) (λ u o. refl) (g .write-sets w i);
     copied = λ w i h. absurd (omega (arith, g .numbers w i .1));
     numbers = λ w i. omega (arith, may .all-copied w i, g .numbers w i .1);
     unclosed = λ u o. flat u (g .unclosed u o);

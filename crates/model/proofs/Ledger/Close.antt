@@ -12,7 +12,7 @@ use Rattle.model.proofs.Ledger.State.{Ledger, except, abortedBy, commit
 use Rattle.model.proofs.Ledger.Sums.{mask-zero, sum-append, all-zip, all-right}
 use Rattle.model.proofs.Ledger.Picks.{sum-pick, all-pick, closed-append, closed-pick}
 use Rattle.model.proofs.Ledger.Word.{Inv, ofTxn, append-keeps, abort-keeps, flush-keeps, sum-snoc, except-open}
-use Rattle.model.proofs.Ledger.WriteSets.{Sheets, sheets-same, commit-sheets, commit-others, not-shut}
+use Rattle.model.proofs.Ledger.WriteSets.{WriteSets, write-sets-same, committed-writes, commit-others, not-shut}
 use Rattle.model.proofs.Ledger.Good.{Good}
 use Rattle.model.proofs.Ledger.Flush.{neither, elsewhere, stays}
 use Rattle.model.proofs.Booleans.{true-false, or-none}
@@ -58,17 +58,17 @@ module _ {size : ℕ} {a : Ledger} (r : Entry) (g : Good (r .number) size a) (op
       (closed-append (a .flushed ++ a .buffered) (r ∷ []) u ∙ rw (h, closes-one r c u) (ne-eqb (r .number) u (λ e. n (sym e))))
 
   accounts : (w : ℕ) → w < size
-      → Sheets 0 w (a .committed w) (a .flushed ++ (a .buffered ++ r ∷ [])) (except (a .opened) (r .number)) (a .writes) (a .owners w)
+      → WriteSets 0 w (a .committed w) (a .flushed ++ (a .buffered ++ r ∷ [])) (except (a .opened) (r .number)) (a .writes) (a .owners w)
   accounts w i = record {
     adds-up = λ u k o.
         let p : (a .opened u ≡ true) × (u ≡ r .number → ⊥) = except-open (a .opened) (r .number) u o in
-        g .sheets w i .adds-up u (p .1) (p .0) ∙ ap (λ (y : ℕ). a .committed w ⊕ y) (sym (sums w (λ q. eqb (q .number) u)));
+        g .write-sets w i .adds-up u (p .1) (p .0) ∙ ap (λ (y : ℕ). a .committed w ⊕ y) (sym (sums w (λ q. eqb (q .number) u)));
     no-record = λ u k o n.
         let p : (a .opened u ≡ true) × (u ≡ r .number → ⊥) = except-open (a .opened) (r .number) u o in
-        sums w (λ q. eqb (q .number) u) ∙ g .sheets w i .no-record u (p .1) (p .0) n;
+        sums w (λ q. eqb (q .number) u) ∙ g .write-sets w i .no-record u (p .1) (p .0) n;
     no-entry = λ u k o n.
         let p : (a .opened u ≡ true) × (u ≡ r .number → ⊥) = except-open (a .opened) (r .number) u o in
-        g .sheets w i .no-entry u (p .1) (p .0) n;
+        g .write-sets w i .no-entry u (p .1) (p .0) n;
   }
 
   pub abort-good : Good 0 size (abortedBy a r)
@@ -77,7 +77,7 @@ module _ {size : ℕ} {a : Ledger} (r : Entry) (g : Good (r .number) size a) (op
     words = λ w i.
         abort-keeps w (a .epoch) (a .current w) (a .pages w) (a .committed w) (a .flushed) (a .buffered ++ r ∷ []) (a .opened) (r .number)
         (closing-word r g c opened w i) opened (sums w (λ q. eqb (q .number) (r .number)) ∙ cancels w i);
-    sheets = accounts;
+    write-sets = accounts;
     copied = λ w i h. record {
       page = g .copied w i h .page ∙ ap (λ (y : ℕ). a .other w ⊕ y) (sym (sums w (λ q. leb (a .epoch + 1) (q .copy))));
     };
@@ -176,18 +176,18 @@ module _ {size : ℕ} {a : Ledger} (home : ℕ → ℕ) (r : Entry) (homed : All
       (all-zip other-disk rest (stays home (a .buffered) (all-right _ (a .flushed) (a .buffered) homed) (r .disk))
       (all-pick _ (λ q. not (onDisk (r .disk) q)) (a .buffered) (g .words w i .apart)))
       (λ u o. still-open u o .0) (λ u h. parts u h .0) was-shut
-      (commit-sheets 0 w (a .pages w) (a .committed w) (a .flushed ++ a .buffered) (a .opened) (a .writes) (a .owners w) (r .number)
-      (g .sheets w i) not-none opened (g .words w i .book)
+      (committed-writes 0 w (a .pages w) (a .committed w) (a .flushed ++ a .buffered) (a .opened) (a .writes) (a .owners w) (r .number)
+      (g .write-sets w i) not-none opened (g .words w i .book)
       ∙ ap (λ (y : ℕ). a .pages w ⊕ y) (sym (close-none w (λ q. except (a .opened) (r .number) (q .number)) (a .flushed) (a .buffered) r c)))
 
   pub commit-good : Good 0 size (committedBy a r)
   unfolding committedBy log gone rest
   commit-good = record {
     words = committed-word;
-    sheets = λ w i.
-        sheets-same 0 w (patched w (a .writes (r .number)) (a .committed w)) (a .flushed ++ a .buffered) (log ++ rest) (except (a .opened) (r .number))
+    write-sets = λ w i.
+        write-sets-same 0 w (patched w (a .writes (r .number)) (a .committed w)) (a .flushed ++ a .buffered) (log ++ rest) (except (a .opened) (r .number))
         (a .writes) (a .writes) (a .owners w) (λ u n o. commit-sums w (λ q. eqb (q .number) u)) (λ u o. refl)
-        (commit-others 0 w (a .committed w) (a .flushed ++ a .buffered) (a .opened) (a .writes) (a .owners w) (r .number) (g .sheets w i) not-none opened);
+        (commit-others 0 w (a .committed w) (a .flushed ++ a .buffered) (a .opened) (a .writes) (a .owners w) (r .number) (g .write-sets w i) not-none opened);
     copied = λ w i h. record { page = g .copied w i h .page ∙ ap (λ (y : ℕ). a .other w ⊕ y) (sym (commit-sums w (λ q. leb (a .epoch + 1) (q .copy)))) };
     numbers = g .numbers;
     unclosed = λ u o. still-open u o .1;

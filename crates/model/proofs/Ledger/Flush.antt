@@ -12,7 +12,7 @@ use Rattle.model.proofs.Ledger.State.{Ledger, flushedDisk}
 use Rattle.model.proofs.Ledger.Sums.{sum-append, all-zip, all-right}
 use Rattle.model.proofs.Ledger.Picks.{sum-pick, all-pick, pick-all, closed-append, closed-pick, some-none}
 use Rattle.model.proofs.Ledger.Word.{flush-keeps}
-use Rattle.model.proofs.Ledger.WriteSets.{sheets-same}
+use Rattle.model.proofs.Ledger.WriteSets.{write-sets-same}
 use Rattle.model.proofs.Ledger.Good.{Good}
 use Rattle.model.proofs.Booleans.{true-false, or-none}
 
@@ -82,8 +82,8 @@ module _ {x size : ℕ} {a : Ledger} (home : ℕ → ℕ) (homed : All (λ r. r 
         (λ u o. both u (g .unclosed u o) .0)
         (λ u h. neither (a .flushed) moved u h .0)
         (λ u h o. o) (g .words w i .book);
-    sheets = λ w i. sheets-same x w (a .committed w) (a .flushed ++ a .buffered) ((a .flushed ++ moved) ++ stay) (a .opened) (a .writes) (a .writes) (a .owners w)
-        (λ u n o. flush-sums _) (λ u o. refl) (g .sheets w i);
+    write-sets = λ w i. write-sets-same x w (a .committed w) (a .flushed ++ a .buffered) ((a .flushed ++ moved) ++ stay) (a .opened) (a .writes) (a .writes) (a .owners w)
+        (λ u n o. flush-sums _) (λ u o. refl) (g .write-sets w i);
     copied = λ w i h. record { page = g .copied w i h .page ∙ ap (λ (y : ℕ). a .other w ⊕ y) (sym (flush-sums _)) };
     numbers = g .numbers;
     unclosed = λ u o. both u (g .unclosed u o) .1;

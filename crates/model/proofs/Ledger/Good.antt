@@ -14,13 +14,13 @@ use Rattle.model.proofs.Ledger.Sums.{sum-ext, sum-xor, all-of}
 use Rattle.model.proofs.Ledger.Picks.{closed-append}
 use Rattle.model.proofs.Ledger.Groups.{sum-by-key}
 use Rattle.model.proofs.Ledger.Word.{Inv, Copied, newer, ofTxn, ofOpen, recovers-word, fresh-word}
-use Rattle.model.proofs.Ledger.WriteSets.{Sheets, sheets-same, sheets-exempt, not-shut, open-one}
+use Rattle.model.proofs.Ledger.WriteSets.{WriteSets, write-sets-same, write-sets-exempt, not-shut, open-one}
 use Rattle.model.proofs.Booleans.{true-false, or-none}
 
 -- The invariant of the words below `size`. Transaction x is inside an abort: its writes no longer count (0: there is none).
 pub record Good (x size : ℕ) (a : Ledger) : Type 0 where
   pub words : (w : ℕ) → w < size → Inv w (a .epoch) (a .current w) (a .pages w) (a .committed w) (a .flushed) (a .buffered) (a .opened)
-  pub sheets : (w : ℕ) → w < size → Sheets x w (a .committed w) (a .flushed ++ a .buffered) (a .opened) (a .writes) (a .owners w)
+  pub write-sets : (w : ℕ) → w < size → WriteSets x w (a .committed w) (a .flushed ++ a .buffered) (a .opened) (a .writes) (a .owners w)
   -- a page copied in this checkpoint has the next epoch, and lies in the other backup; what came later has that epoch
   pub copied : (w : ℕ) → w < size → a .epoch < a .copies w → Copied w (a .epoch + 1) (a .other w) (a .pages w) (a .flushed ++ a .buffered)
   pub numbers : (w : ℕ) → w < size → (a .epoch ≤ a .copies w) × (a .copies w ≤ a .epoch + 1)
@@ -46,7 +46,7 @@ recovers {a = a} g w i =
 pub plain-table : {size : ℕ} {a : Ledger} → Good 0 size a → (w : ℕ) → w < size → a .opened (a .owners w) ≡ true
     → a .pages w ≡ patched w (a .writes (a .owners w)) (a .committed w)
 plain-table {size} {a} g w i o =
-    sym (g .sheets w i .adds-up t (not-shut (a .opened) 0 t (g .nobody) o) o ∙ twice (a .pages w) (ofTxn w t L) (a .committed w) only)
+    sym (g .write-sets w i .adds-up t (not-shut (a .opened) 0 t (g .nobody) o) o ∙ twice (a .pages w) (ofTxn w t L) (a .committed w) only)
   where
     t : ℕ
     t = a .owners w
@@ -56,7 +56,7 @@ plain-table {size} {a} g w i o =
 
     only : a .committed w ≡ a .pages w ⊕ ofTxn w t L
     only = g .words w i .book ∙ ap (λ (y : ℕ). a .pages w ⊕ y)
-        (open-one w (a .opened) t L o (λ s z n. g .sheets w i .no-record s (not-shut (a .opened) 0 s (g .nobody) z) z n))
+        (open-one w (a .opened) t L o (λ s z n. g .write-sets w i .no-record s (not-shut (a .opened) 0 s (g .nobody) z) z n))
 
     twice : (v y c : ℕ) → c ≡ v ⊕ y → c ⊕ y ≡ v
     twice v y c e = rw e (simp xor)
@@ -67,15 +67,15 @@ plain-table-free {size} {a} g w i o =
     sym (g .words w i .book ∙ rw (sum-by-key (λ r. r .number) (adds w) (a .opened) (a .flushed ++ a .buffered) none) (⊕-zero-r (a .pages w)))
   where
     none : (t : ℕ) → a .opened t ≡ true → ofTxn w t (a .flushed ++ a .buffered) ≡ 0
-    none t z = g .sheets w i .no-record t (not-shut (a .opened) 0 t (g .nobody) z) z (not-shut (a .opened) (a .owners w) t o z)
+    none t z = g .write-sets w i .no-record t (not-shut (a .opened) 0 t (g .nobody) z) z (not-shut (a .opened) (a .owners w) t o z)
 
 -- ---- a ledger that agrees, and an abort that begins
 pub good-same : {x size : ℕ} {a b : Ledger} → Same size a b → Good x size a → Good x size b
 good-same {x} {size} {a} {b} s g = record {
   words = λ w i. rw (← s .epoch, ← s .current w i, ← s .pages w i, ← s .committed w i, ← s .flushed, ← s .buffered, ← opened) (g .words w i);
-  sheets = λ w i. rw (← s .committed w i, ← s .flushed, ← s .buffered, ← opened, ← s .owners w i)
-      (sheets-same x w (a .committed w) (a .flushed ++ a .buffered) (a .flushed ++ a .buffered) (a .opened) (a .writes) (b .writes) (a .owners w)
-      (λ u n o. refl) (s .writes) (g .sheets w i));
+  write-sets = λ w i. rw (← s .committed w i, ← s .flushed, ← s .buffered, ← opened, ← s .owners w i)
+      (write-sets-same x w (a .committed w) (a .flushed ++ a .buffered) (a .flushed ++ a .buffered) (a .opened) (a .writes) (b .writes) (a .owners w)
+      (λ u n o. refl) (s .writes) (g .write-sets w i));
   copied = λ w i. rw (← s .epoch, ← s .copies w i, ← s .other w i, ← s .pages w i, ← s .flushed, ← s .buffered) (g .copied w i);
   numbers = λ w i. rw (← s .epoch, ← s .copies w i) (g .numbers w i);
   unclosed = rw (← s .flushed, ← s .buffered, ← opened) (g .unclosed);
@@ -93,7 +93,7 @@ good-same {x} {size} {a} {b} s g = record {
 pub good-exempt : {size : ℕ} {a : Ledger} (x : ℕ) → Good 0 size a → Good x size a
 good-exempt {size} {a} x g = record {
   words = g .words;
-  sheets = λ w i. sheets-exempt 0 x w (a .committed w) (a .flushed ++ a .buffered) (a .opened) (a .writes) (a .owners w) (g .nobody) (g .sheets w i);
+  write-sets = λ w i. write-sets-exempt 0 x w (a .committed w) (a .flushed ++ a .buffered) (a .opened) (a .writes) (a .owners w) (g .nobody) (g .write-sets w i);
   copied = g .copied;
   numbers = g .numbers;
   unclosed = g .unclosed;
@@ -110,7 +110,7 @@ pub fresh-good : {size : ℕ} (c : ℕ) (words other owners : ℕ → ℕ) → G
 unfolding fresh sum closedIn some
 fresh-good c words other owners = record {
   words = λ w i. fresh-word w c (words w);
-  sheets = λ w i. record { adds-up = λ t n o. true-false o refl; no-record = λ t n o. true-false o refl; no-entry = λ t n o. true-false o refl };
+  write-sets = λ w i. record { adds-up = λ t n o. true-false o refl; no-record = λ t n o. true-false o refl; no-entry = λ t n o. true-false o refl };
   copied = λ w i h. absurd (omega arith);
   numbers = λ w i. omega arith;
   unclosed = λ t o. refl;
@@ -167,24 +167,24 @@ module _ {size : ℕ} {a : Ledger} (g : Good 0 size a) where
         (sym (open-including w (a .opened) (a .next) (a .flushed ++ a .buffered) new-shut (g .unlogged w (a .next) i (omega arith))));
   }
 
-  accounts : (w : ℕ) → w < size → Sheets 0 w (a .committed w) (a .flushed ++ a .buffered) (including (a .opened) (a .next))
+  accounts : (w : ℕ) → w < size → WriteSets 0 w (a .committed w) (a .flushed ++ a .buffered) (including (a .opened) (a .next))
       (λ u. cond (eqb u (a .next)) [] (a .writes u)) (a .owners w)
   unfolding patched
   accounts w i = record {
     adds-up = λ u k o. newly (a .opened) (a .next) u _ o
         (λ e. rw (eq-eqb u (a .next) e, e, g .unlogged w (a .next) i (omega arith)) (sym (⊕-zero-r (a .committed w))))
-        (λ n p. rw n (g .sheets w i .adds-up u k p));
+        (λ n p. rw n (g .write-sets w i .adds-up u k p));
     no-record = λ u k o h. newly (a .opened) (a .next) u _ o
-        (λ e. rw e (g .unlogged w (a .next) i (omega arith))) (λ n p. g .sheets w i .no-record u k p h);
+        (λ e. rw e (g .unlogged w (a .next) i (omega arith))) (λ n p. g .write-sets w i .no-record u k p h);
     no-entry = λ u k o h y. newly (a .opened) (a .next) u _ o
-        (λ e. rw (eq-eqb u (a .next) e)) (λ n p. rw n (g .sheets w i .no-entry u k p h y));
+        (λ e. rw (eq-eqb u (a .next) e)) (λ n p. rw n (g .write-sets w i .no-entry u k p h y));
   }
 
   pub begin-good : Good 0 size (begun a)
   unfolding begun
   begin-good = record {
     words = word;
-    sheets = accounts;
+    write-sets = accounts;
     copied = g .copied;
     numbers = g .numbers;
     unclosed = λ u o. newly (a .opened) (a .next) u _ o (λ e. rw e new-closed) (λ n p. g .unclosed u p);

@@ -14,7 +14,7 @@ use Rattle.model.proofs.Ledger.State.{Ledger, logged, updated}
 use Rattle.model.proofs.Ledger.Sums.{mask-zero}
 use Rattle.model.proofs.Ledger.Picks.{closed-append}
 use Rattle.model.proofs.Ledger.Word.{Inv, Copied, newer, ofTxn, append-keeps, append-copied, sum-snoc, txn-differs}
-use Rattle.model.proofs.Ledger.WriteSets.{Sheets, sheets-same, noted, update-sheets, update-sheets-out}
+use Rattle.model.proofs.Ledger.WriteSets.{WriteSets, write-sets-same, noted, updated-writes, updated-elsewhere}
 use Rattle.model.proofs.Ledger.Good.{Good}
 
 -- a change adds its difference within its slot, and nothing outside
@@ -97,21 +97,21 @@ module _ {size : ℕ} {a : Ledger} {r : Entry} {value : List ℕ} (g : Good 0 si
   copies w i e = may .copy w i (rw (may .lengths) at e)
 
   accounts : (w : ℕ) → w < size → (b : Bool) → spanning (r .at) (length value) w ≡ b
-      → Sheets 0 w (a .committed w) ((a .flushed ++ a .buffered) ++ r ∷ []) (a .opened) (noted (a .writes) (r .number) write) (cond b (r .number) (a .owners w))
+      → WriteSets 0 w (a .committed w) ((a .flushed ++ a .buffered) ++ r ∷ []) (a .opened) (noted (a .writes) (r .number) write) (cond b (r .number) (a .owners w))
   unfolding write patch
   accounts w i true e =
-      update-sheets 0 w (a .pages w) (a .committed w) (getD value (w - r .at) 0) (a .flushed ++ a .buffered) (a .opened) (a .writes) (a .owners w) r write
-      (g .sheets w i) (g .nobody) (may .opened) (g .words w i .book) (may .free w i e) (λ y. rw e)
+      updated-writes 0 w (a .pages w) (a .committed w) (getD value (w - r .at) 0) (a .flushed ++ a .buffered) (a .opened) (a .writes) (a .owners w) r write
+      (g .write-sets w i) (g .nobody) (may .opened) (g .words w i .book) (may .free w i e) (λ y. rw e)
       (adds-in w r (may .change) (rw (may .lengths) e) ∙ may .differs w i e)
   accounts w i false e =
-      update-sheets-out 0 w (a .committed w) (a .flushed ++ a .buffered) (a .opened) (a .writes) (a .owners w) r write
-      (g .sheets w i) (λ y. rw e) (adds-out w r (rw (may .lengths) e))
+      updated-elsewhere 0 w (a .committed w) (a .flushed ++ a .buffered) (a .opened) (a .writes) (a .owners w) r write
+      (g .write-sets w i) (λ y. rw e) (adds-out w r (rw (may .lengths) e))
 
   pub update-good : Good 0 size (updated a r value)
   unfolding updated write
   update-good = record {
     words = word r g (may .opened) (may .change) copies;
-    sheets = λ w i. rw (← append-assoc (a .flushed) (a .buffered) (r ∷ [])) (accounts w i (spanning (r .at) (length value) w) refl);
+    write-sets = λ w i. rw (← append-assoc (a .flushed) (a .buffered) (r ∷ [])) (accounts w i (spanning (r .at) (length value) w) refl);
     copied = copied-word r g (may .opened) (may .change) copies;
     numbers = g .numbers;
     unclosed = λ u o. still r g (may .opened) (may .change) copies u (g .unclosed u o);
@@ -129,8 +129,8 @@ pub compensate-good : {size : ℕ} {a : Ledger} (r : Entry) → Good (r .number)
 unfolding logged
 compensate-good {size} {a} r g opened change copies = record {
   words = word r g opened change copies;
-  sheets = λ w i. sheets-same (r .number) w (a .committed w) (a .flushed ++ a .buffered) (a .flushed ++ (a .buffered ++ r ∷ [])) (a .opened) (a .writes) (a .writes) (a .owners w)
-      (λ u n o. others r g opened change copies w u (λ e. n (sym e))) (λ u o. refl) (g .sheets w i);
+  write-sets = λ w i. write-sets-same (r .number) w (a .committed w) (a .flushed ++ a .buffered) (a .flushed ++ (a .buffered ++ r ∷ [])) (a .opened) (a .writes) (a .writes) (a .owners w)
+      (λ u n o. others r g opened change copies w u (λ e. n (sym e))) (λ u o. refl) (g .write-sets w i);
   copied = copied-word r g opened change copies;
   numbers = g .numbers;
   unclosed = λ u o. still r g opened change copies u (g .unclosed u o);

@@ -21,7 +21,7 @@ patched-snoc w (a ∷ es) e x = patched-snoc w es e (patch w a x)
 
 -- Word `w`, committed as `res`; all records; the open transactions and their writes; the owner of the word's slot.
 -- Nothing is claimed of transaction x: it is inside an abort (0: none is).
-pub record Sheets (x w res : ℕ) (L : List Entry) (O : ℕ → Bool) (writes : ℕ → List Patch) (owner : ℕ) : Type 0 where
+pub record WriteSets (x w res : ℕ) (L : List Entry) (O : ℕ → Bool) (writes : ℕ → List Patch) (owner : ℕ) : Type 0 where
   -- the writes come to what the transaction's records come to
   pub adds-up : (t : ℕ) → (t ≡ x → ⊥) → O t ≡ true → patched w (writes t) res ≡ res ⊕ ofTxn w t L
   -- only the owner has touched the word
@@ -32,20 +32,20 @@ pub record Sheets (x w res : ℕ) (L : List Entry) (O : ℕ → Bool) (writes : 
 pub not-shut : (O : ℕ → Bool) (x t : ℕ) → O x ≡ false → O t ≡ true → t ≡ x → ⊥
 not-shut O x t shut h e = true-false h (rw e shut)
 
--- the accounts depend on the sums and on the open transactions' writes alone
-pub sheets-same : (x w res : ℕ) (L M : List Entry) (O : ℕ → Bool) (f g : ℕ → List Patch) (owner : ℕ)
+-- the write sets depend on the sums and on the open transactions' writes alone
+pub write-sets-same : (x w res : ℕ) (L M : List Entry) (O : ℕ → Bool) (f g : ℕ → List Patch) (owner : ℕ)
     → ((u : ℕ) → (u ≡ x → ⊥) → O u ≡ true → ofTxn w u M ≡ ofTxn w u L) → ((u : ℕ) → O u ≡ true → f u ≡ g u)
-    → Sheets x w res L O f owner → Sheets x w res M O g owner
-sheets-same x w res L M O f g owner e d h = record {
+    → WriteSets x w res L O f owner → WriteSets x w res M O g owner
+write-sets-same x w res L M O f g owner e d h = record {
   adds-up = λ t n o. rw (← d t o, e t n o) (h .adds-up t n o);
   no-record = λ t n o m. e t n o ∙ h .no-record t n o m;
   no-entry = λ t n o m y. rw (← d t o) (h .no-entry t n o m y);
 }
 
 -- where none is exempt, any may be
-pub sheets-exempt : (x y w res : ℕ) (L : List Entry) (O : ℕ → Bool) (writes : ℕ → List Patch) (owner : ℕ) → O x ≡ false
-    → Sheets x w res L O writes owner → Sheets y w res L O writes owner
-sheets-exempt x y w res L O writes owner shut h = record {
+pub write-sets-exempt : (x y w res : ℕ) (L : List Entry) (O : ℕ → Bool) (writes : ℕ → List Patch) (owner : ℕ) → O x ≡ false
+    → WriteSets x w res L O writes owner → WriteSets y w res L O writes owner
+write-sets-exempt x y w res L O writes owner shut h = record {
   adds-up = λ t n o. h .adds-up t (not-shut O x t shut o) o;
   no-record = λ t n o. h .no-record t (not-shut O x t shut o) o;
   no-entry = λ t n o. h .no-entry t (not-shut O x t shut o) o;
@@ -60,19 +60,19 @@ open-one w O t L open? h = split-open w O t L open? ∙ rw (sum-by-key (λ r. r 
     each s e = h s (except-open O t s e .0) (except-open O t s e .1)
 
 -- a commit: the writes are put over the committed word
-pub commit-sheets : (x w v res : ℕ) (L : List Entry) (O : ℕ → Bool) (writes : ℕ → List Patch) (owner t : ℕ) → Sheets x w res L O writes owner
+pub committed-writes : (x w v res : ℕ) (L : List Entry) (O : ℕ → Bool) (writes : ℕ → List Patch) (owner t : ℕ) → WriteSets x w res L O writes owner
     → (t ≡ x → ⊥) → O t ≡ true → res ≡ v ⊕ ofOpen w O L
     → patched w (writes t) res ≡ v ⊕ ofOpen w (except O t) L
-commit-sheets x w v res L O writes owner t h n open? book =
+committed-writes x w v res L O writes owner t h n open? book =
     h .adds-up t n open? ∙ rw (book, split-open w O t L open?) (cancel v (ofOpen w (except O t) L) (ofTxn w t L))
   where
     cancel : (v o a : ℕ) → (v ⊕ (o ⊕ a)) ⊕ a ≡ v ⊕ o
     cancel v o a = simp xor
 
 -- after it the other writes still add up
-pub commit-others : (x w res : ℕ) (L : List Entry) (O : ℕ → Bool) (writes : ℕ → List Patch) (owner t : ℕ) → Sheets x w res L O writes owner
+pub commit-others : (x w res : ℕ) (L : List Entry) (O : ℕ → Bool) (writes : ℕ → List Patch) (owner t : ℕ) → WriteSets x w res L O writes owner
     → (t ≡ x → ⊥) → O t ≡ true
-    → Sheets x w (patched w (writes t) res) L (except O t) writes owner
+    → WriteSets x w (patched w (writes t) res) L (except O t) writes owner
 commit-others x w res L O writes owner t h m open? = record {
   adds-up = λ s n o. others s n (except-open O t s o .0) (except-open O t s o .1) (eqb t owner) refl;
   no-record = λ s n o. h .no-record s n (except-open O t s o .0);
@@ -94,12 +94,12 @@ final : (u v a res : ℕ) → res ≡ v ⊕ a → u ≡ res ⊕ (a ⊕ (v ⊕ u)
 final u v a res h = rw h (simp xor)
 
 -- an update of a slot that spans the word, by its owner or where it is free
-pub update-sheets : (x w v res u : ℕ) (L : List Entry) (O : ℕ → Bool) (writes : ℕ → List Patch) (owner : ℕ) (r : Entry) (e : Patch)
-    → Sheets x w res L O writes owner → O x ≡ false → O (r .number) ≡ true → res ≡ v ⊕ ofOpen w O L
+pub updated-writes : (x w v res u : ℕ) (L : List Entry) (O : ℕ → Bool) (writes : ℕ → List Patch) (owner : ℕ) (r : Entry) (e : Patch)
+    → WriteSets x w res L O writes owner → O x ≡ false → O (r .number) ≡ true → res ≡ v ⊕ ofOpen w O L
     → ((s : ℕ) → O s ≡ true → (s ≡ r .number → ⊥) → s ≡ owner → ⊥)
     → ((y : ℕ) → patch w e y ≡ u) → adds w r ≡ v ⊕ u
-    → Sheets x w res (L ++ r ∷ []) O (noted writes (r .number) e) (r .number)
-update-sheets x w v res u L O writes owner r e h shut open? book free sets diff = record {
+    → WriteSets x w res (L ++ r ∷ []) O (noted writes (r .number) e) (r .number)
+updated-writes x w v res u L O writes owner r e h shut open? book free sets diff = record {
   adds-up = λ s k o. up s k o (eqb s (r .number)) refl;
   no-record = λ s k o n. rw (more s, ne-eqb (r .number) s (λ d. n (sym d)), h .no-record s k o (free s o n)) (⊕-zero-l 0);
   no-entry = λ s k o n y. rw (ne-eqb s (r .number) n) (h .no-entry s k o (free s o n) y);
@@ -119,10 +119,10 @@ update-sheets x w v res u L O writes owner r e h shut open? book free sets diff 
     up s k o false d = rw (d, more s, ne-eqb (r .number) s (λ q. eqb-false s (r .number) d (sym q)), ⊕-zero-r (ofTxn w s L)) (h .adds-up s k o)
 
 -- an update of another slot
-pub update-sheets-out : (x w res : ℕ) (L : List Entry) (O : ℕ → Bool) (writes : ℕ → List Patch) (owner : ℕ) (r : Entry) (e : Patch)
-    → Sheets x w res L O writes owner → ((y : ℕ) → patch w e y ≡ y) → adds w r ≡ 0
-    → Sheets x w res (L ++ r ∷ []) O (noted writes (r .number) e) owner
-update-sheets-out x w res L O writes owner r e h sets diff = record {
+pub updated-elsewhere : (x w res : ℕ) (L : List Entry) (O : ℕ → Bool) (writes : ℕ → List Patch) (owner : ℕ) (r : Entry) (e : Patch)
+    → WriteSets x w res L O writes owner → ((y : ℕ) → patch w e y ≡ y) → adds w r ≡ 0
+    → WriteSets x w res (L ++ r ∷ []) O (noted writes (r .number) e) owner
+updated-elsewhere x w res L O writes owner r e h sets diff = record {
   adds-up = λ s k o. entry s res ∙ h .adds-up s k o ∙ ap (λ (y : ℕ). res ⊕ y) (sym (more s));
   no-record = λ s k o n. more s ∙ h .no-record s k o n;
   no-entry = λ s k o n y. entry s y ∙ h .no-entry s k o n y;

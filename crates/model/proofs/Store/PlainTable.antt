@@ -69,7 +69,7 @@ module _ {home : ℕ → ℕ} {puts : Told} {c : Core} {w : World} {r : Referenc
       one : (x : WriteSet) → (writesOf (x .number) (r .writeSets) ≡ x .writes) × (hasSet (x .number) (r .writeSets) ≡ true) → Idle s i (owner i) x
       one x k ne v =
           ap (λ (l : List Write). patched i (map (patchOf s) l) v) (sym (k .0))
-          ∙ g .safe .good .sheets i h .no-entry (x .number) (not-nobody (x .number) (open-set (x .number) (k .1))) (open-set (x .number) (k .1)) ne v
+          ∙ g .safe .good .write-sets i h .no-entry (x .number) (not-nobody (x .number) (open-set (x .number) (k .1))) (open-set (x .number) (k .1)) ne v
 
   page-word : (i : ℕ) → i < total s → getD (w .pages) i 0 ≡ foldSets s i (r .writeSets) (getD (wordsIn (r .committed)) i 0)
   unfolding owner view

@@ -211,11 +211,11 @@ module _ {home : ℕ → ℕ} {puts : Told} {c : Core} {w : World} {r : Referenc
         write : Write
         write = record { page = page; slot = slot; value = value }
 
-        sheet : List Write
-        sheet = writesOf n (r .writeSets)
+        own : List Write
+        own = writesOf n (r .writeSets)
 
-        go : (b : Bool) → cond b (map (patchOf s) sheet ++ patchOf s write ∷ []) (map (patchOf s) sheet) ≡ map (patchOf s) (cond b (sheet ++ write ∷ []) sheet)
-        go true = sym (map-append (patchOf s) sheet (write ∷ []))
+        go : (b : Bool) → cond b (map (patchOf s) own ++ patchOf s write ∷ []) (map (patchOf s) own) ≡ map (patchOf s) (cond b (own ++ write ∷ []) own)
+        go true = sym (map-append (patchOf s) own (write ∷ []))
         go false = refl
 
     same : Same (total s) (updated (view c w r F B) e value)

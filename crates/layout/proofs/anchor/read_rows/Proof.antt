@@ -1,7 +1,7 @@
 -- `layout::anchor::read_rows` meets its contract: each row is copied over.
 use mathlib.Core.Path.{refl}
 use native.Mathlib.Omega.{arith}
-use Rattle.layout.proofs.Laws.{copied-part}
+use Rattle.words.proofs.Laws.{copied-part}
 use borrow.Author.Needs.{needs}
 use Rattle.layout.proofs.anchor.read_rows.Statement.{statement}
 use Rattle.layout.proofs.anchor.read_rows.Tie as tie

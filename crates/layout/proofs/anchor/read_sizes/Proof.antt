@@ -2,7 +2,7 @@
 use mathlib.Core.Path.{refl}
 use native.Mathlib.Omega.{arith}
 use Rattle.model.specs.Anchor.{sizesOn}
-use Rattle.layout.proofs.Laws.{copied-part}
+use Rattle.words.proofs.Laws.{copied-part}
 use borrow.Author.Needs.{needs}
 use Rattle.layout.proofs.anchor.read_sizes.Statement.{statement}
 use Rattle.layout.proofs.anchor.read_sizes.Tie as tie

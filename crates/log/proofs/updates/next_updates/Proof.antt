@@ -13,7 +13,8 @@ use Rattle.log.specs.Reading.{LiesAt, positionsIn}
 use Rattle.log.specs.Front.{InTurn}
 use Rattle.log.proofs.Decoding.{words-le}
 use Rattle.log.proofs.Fronts.{turn-none, turn-later}
-use Rattle.log.proofs.Surveying.{more-at, more-fits, more-step, gather-more, gather-one, gather-done}
+use Rattle.log.proofs.FrontSteps.{more-at, more-fits, more-step}
+use Rattle.log.proofs.Surveying.{gather-more, gather-one, gather-done}
 use Rattle.log.proofs.updates.next_updates.Statement.{statement}
 use Rattle.log.proofs.updates.next_updates.Tie as tie
 

@@ -16,7 +16,8 @@ use Rattle.log.specs.Reading.{LiesAt}
 use Rattle.log.specs.Ring.{EntriesOf}
 use Rattle.log.specs.Front.{InTurn}
 use Rattle.log.proofs.Fronts.{turn-none, turn-later}
-use Rattle.log.proofs.Surveying.{Surveying, surveying-start, surveying-pass, surveying-update, noted-length, surveyed-end, surveyed-bad, part-none, part-past, part-step}
+use Rattle.log.proofs.FrontSteps.{part-none, part-past, part-step}
+use Rattle.log.proofs.Surveying.{Surveying, surveying-start, surveying-pass, surveying-update, noted-length, surveyed-end, surveyed-bad}
 use Rattle.log.proofs.updates.survey_log.Statement.{statement}
 use Rattle.log.proofs.updates.survey_log.Tie as tie
 

@@ -11,7 +11,7 @@ use Rattle.model.proofs.Restart.Steps.{remaining-log}
 use Rattle.model.proofs.Ring.{disk-within}
 use Rattle.log.proofs.Rings.{entries-long}
 use Rattle.replay.proofs.Facts.{extent-asked, eight}
-use Rattle.run.proofs.Facts.{disk-ring, log-ring, log-entries}
+use Rattle.run.proofs.Facts.{disk-ring, log-ring, entries-of}
 use Rattle.replay.proofs.Stepping.{step-none, fault-refused}
 use Rattle.run.proofs.Onward.{run-refused, run-given, step-accepted}
 use Rattle.run.proofs.Running.{fault-at}
@@ -44,20 +44,23 @@ ring-words-requires c κs =
 
 slice-aggregate-record-fault : tie.Need-slice-aggregate-record-fault
 slice-aggregate-record-fault c =
-    sym (entries-long (record { sizes = c .before .before .before .before .before .before .before .before .before .before .before .args .core .sizes; are = log-entries (c .before .before .before .before .before .before .before .before .before .before .before .pre) }) .0)
+    sym (entries-long (record { sizes = c .before .before .before .before .before .before .before .before .before .before .before .args .core .sizes; are = entries-of (c .before .before .before .before .before .before .before .before .before .before .before .pre .replays) }) .0)
 
 slice-aggregate-record-fault-2 : tie.Need-slice-aggregate-record-fault-2
 slice-aggregate-record-fault-2 c =
-    sym (entries-long (record { sizes = c .before .before .before .before .before .before .before .before .before .before .before .before .args .core .sizes; are = log-entries (c .before .before .before .before .before .before .before .before .before .before .before .before .pre) }) .1)
+    sym (entries-long (record { sizes = c .before .before .before .before .before .before .before .before .before .before .before .before .args .core .sizes; are = entries-of (c .before .before .before .before .before .before .before .before .before .before .before .before .pre .replays) }) .1)
 
 record-fault-requires : tie.Need-record-fault-requires
 unfolding tailOf
 record-fault-requires c κs =
     let core = c .before .before .before .before .before .before .before .before .before .before .before .before .args .core in
-    (record { sizes = core .sizes; are = log-entries (c .before .before .before .before .before .before .before .before .before .before .before .before .pre) }, log-ring (c .before .before .before .before .before .before .before .before .before .before .before .before .pre) (disk-ring (c .before .before .before .before .before .before .before .before .before .before .before .before .pre) (c .before .before .before .disk-at .ensures .0) (c .before .before .ring-words .ensures)), c .before .before .before .before .if1 .left)
+    (record { sizes = core .sizes; are = entries-of (c .before .before .before .before .before .before .before .before .before .before .before .before .pre .replays) }, log-ring (c .before .before .before .before .before .before .before .before .before .before .before .before .pre) (disk-ring (c .before .before .before .before .before .before .before .before .before .before .before .before .pre) (c .before .before .before .disk-at .ensures .0) (c .before .before .ring-words .ensures)), c .before .before .before .before .if1 .left)
 
 run-ring-requires : tie.Need-run-ring-requires
-run-ring-requires c κs = c .before .before .before .before .before .before .before .before .before .before .before .before .before .before .before .before .pre
+unfolding tailOf
+run-ring-requires c κs =
+    let on = c .before .before .before .before .before .before .before .before .before .before .before .before .before .before .before .before .pre in
+    (on .replays, on .disk-in, on .page-words, log-ring on (disk-ring on (c .before .before .before .before .before .before .before .disk-at .ensures .0) (c .before .before .before .before .before .before .ring-words .ensures)))
 
 move-on-requires : tie.Need-move-on-requires
 move-on-requires c κs = eight (c .before .before .before .before .before .before .before .before .before .before .before .before .before .before .before .before .before .before .before .pre)
@@ -70,7 +73,7 @@ returns-2 c =
     let next = c .before .before .before .before .before .before .before .before .before .before .next-position .ensures in
     let long : c .before .before .before .before .before .before .before .before .before .before .before .before .before .before .before .before .before .args .disk < length (core .replay .positions) = omega (arith, next .1, eight on) in
     let some = rw (next .0) at (c .before .before .before .before .before .before .before .before .before .if1 .left) in
-    let found = rw (next .0) at (c .before .before .before .before .record-fault .ensures (core .sizes) (log-entries on)) in
+    let found = rw (next .0) at (c .before .before .before .before .record-fault .ensures (core .sizes) (entries-of (on .replays))) in
     λ anchor backups work pass.
     rw (c .refuse-at .ensures)
     (run-refused _ _ _ _ _ _ _
@@ -89,12 +92,13 @@ returns-3 c =
     let next = c .before .before .before .before .before .before .before .before .before .before .before .before .before .before .next-position .ensures in
     let long : c .before .before .before .before .before .before .before .before .before .before .before .before .before .before .before .before .before .before .before .before .before .args .disk < length (core .replay .positions) = omega (arith, next .1, eight on) in
     let some = rw (next .0) at (c .before .before .before .before .before .before .before .before .before .before .before .before .before .if1 .left) in
-    let found = rw (next .0) at (c .before .before .before .before .before .before .before .before .record-fault .ensures (core .sizes) (log-entries on)) in
+    let found = rw (next .0) at (c .before .before .before .before .before .before .before .before .record-fault .ensures (core .sizes) (entries-of (on .replays))) in
+    let lies = disk-ring on (c .before .before .before .before .before .before .before .before .before .before .before .before .disk-at .ensures .0) (c .before .before .before .before .before .before .before .before .before .before .before .ring-words .ensures) in
     λ anchor backups work pass.
-    let sound = fault-at core _ (c .before .before .before .before .before .before .before .before .before .before .before .before .before .before .before .before .before .before .before .before .before .args .disk) (on .disk-in) long _ (disk-ring on (c .before .before .before .before .before .before .before .before .before .before .before .before .disk-at .ensures .0) (c .before .before .before .before .before .before .before .before .before .before .before .ring-words .ensures)) some found ∙ c .before .before .before .before .before .before .enum-told .given .1 in
+    let sound = fault-at core _ (c .before .before .before .before .before .before .before .before .before .before .before .before .before .before .before .before .before .before .before .before .before .args .disk) (on .disk-in) long _ lies some found ∙ c .before .before .before .before .before .before .enum-told .given .1 in
     rw (c .finish .ensures, c .before .move-on .ensures)
     (run-given _ _ _ _ (step-accepted (c .before .before .before .before .before .before .before .before .before .before .before .before .before .before .before .before .before .before .before .before .before .args .disk) core _ sound (omega (arith, on .disk-in)) (omega (arith, remaining-log core (c .before .before .before .before .before .before .before .before .before .before .before .before .before .before .before .before .before .before .before .before .before .args .disk) (on .disk-in), some)))
-    (c .before .before .before .before .run-ring .ensures anchor backups work pass))
+    (c .before .before .before .before .run-ring .ensures anchor backups _ work lies pass))
 
 pub run-log-spec : {M : Type 1} → statement M
 run-log-spec =

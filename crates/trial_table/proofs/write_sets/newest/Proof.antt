@@ -4,10 +4,10 @@ use Rattle.trial_table.proofs.write_sets.newest.Statement.{statement}
 use Rattle.trial_table.proofs.write_sets.newest.Tie as tie
 
 abbrev Inv-loop : tie.InvT-loop
-Inv-loop sheets entries address left₀ left = Unit {0}
+Inv-loop sets entries address left₀ left = Unit {0}
 
 abbrev μ-loop : tie.MeasureT-loop
-μ-loop sheets entries address left₀ left = left
+μ-loop sets entries address left₀ left = left
 
 pub newest-spec : {M : Type 1} → statement M
 newest-spec =

@@ -1,11 +1,11 @@
--- `hall::flush` meets its contract: nothing waits any more.
+-- `hall::serving::flush` meets its contract: nothing waits any more.
 use native.Mathlib.Omega.{arith}
 use borrow.Author.Needs.{needs}
 use mathlib.Core.Path.{refl, sym}
 use lib.Seq.{length-take-le}
 use Rattle.hall.proofs.Holding.{all-handed}
-use Rattle.hall.proofs.flush.Statement.{statement}
-use Rattle.hall.proofs.flush.Tie as tie
+use Rattle.hall.proofs.serving.flush.Statement.{statement}
+use Rattle.hall.proofs.serving.flush.Tie as tie
 
 slice-aggregate-write-all : tie.Need-slice-aggregate-write-all
 slice-aggregate-write-all c = sym (length-take-le _ _ (omega arith))

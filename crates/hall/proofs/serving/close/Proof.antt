@@ -1,12 +1,12 @@
--- `hall::close` meets its contract: the tally is added.
+-- `hall::serving::close` meets its contract: the tally is added.
 use borrow.Author.Needs.{needs}
 use native.Mathlib.Omega.{arith}
 use mathlib.Core.Path.{_≡_}
 use lib.ListN.{length, take}
 use Rattle.hall.proofs.Gathering.{text-short, text-added}
 use Rattle.hall.proofs.Holding.{tally-added}
-use Rattle.hall.proofs.close.Statement.{statement}
-use Rattle.hall.proofs.close.Tie as tie
+use Rattle.hall.proofs.serving.close.Statement.{statement}
+use Rattle.hall.proofs.serving.close.Tie as tie
 
 returns : tie.Need-returns
 returns c =

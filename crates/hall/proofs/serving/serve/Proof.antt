@@ -1,4 +1,4 @@
--- `hall::serve` meets its contract: some of the input is taken in. The measure is the number of turns that are left.
+-- `hall::serving::serve` meets its contract: some of the input is taken in. The measure is the number of turns that are left.
 use borrow.Author.Needs.{needs}
 use native.Mathlib.Omega.{arith}
 use mathlib.Core.Path.{_≡_, refl}
@@ -10,8 +10,8 @@ use Rattle.model.specs.World.{worldOf}
 use Rattle.hall.specs.Running.{Program, fed}
 use Rattle.hall.specs.Held.{Stands}
 use Rattle.hall.proofs.Feeding.{fed-append}
-use Rattle.hall.proofs.serve.Statement.{statement}
-use Rattle.hall.proofs.serve.Tie as tie
+use Rattle.hall.proofs.serving.serve.Statement.{statement}
+use Rattle.hall.proofs.serving.serve.Tie as tie
 
 abbrev Inv-loop : tie.InvT-loop
 Inv-loop anchor₀ pages₀ backups₀ logs₀ work₀ out₀ c₀ turns₀ anchor pages backups logs work out c turns =

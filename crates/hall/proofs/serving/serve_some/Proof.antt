@@ -1,10 +1,10 @@
--- `hall::serve_some` meets its contract: what came is taken in, all of it, and its text is handed on.
+-- `hall::serving::serve_some` meets its contract: what came is taken in, all of it, and its text is handed on.
 use borrow.Author.Needs.{needs}
 use mathlib.Core.Path.{sym}
 use mathlib.Core.List.{[]}
 use Rattle.hall.specs.Running.{fed}
-use Rattle.hall.proofs.serve_some.Statement.{statement}
-use Rattle.hall.proofs.serve_some.Tie as tie
+use Rattle.hall.proofs.serving.serve_some.Statement.{statement}
+use Rattle.hall.proofs.serving.serve_some.Tie as tie
 
 returns : tie.Need-returns
 unfolding fed

@@ -3,8 +3,8 @@ use Prim.Native.Nat.{_-_}
 use lib.ListN.{length}
 use mathlib.Core.Path.{_≡_}
 use borrow.Author.Needs.{needs}
-use Rattle.trial_table.proofs.rooms.flush_all.Statement.{statement}
-use Rattle.trial_table.proofs.rooms.flush_all.Tie as tie
+use Rattle.trial_table.proofs.logs.flush_all.Statement.{statement}
+use Rattle.trial_table.proofs.logs.flush_all.Tie as tie
 
 abbrev Inv-loop : tie.InvT-loop
 Inv-loop rooms₀ disks i₀ after₀ rooms i after = length rooms ≡ length rooms₀

@@ -1,7 +1,7 @@
 -- `new_start` is safe and ends.
 use borrow.Author.Needs.{needs}
-use Rattle.trial_table.proofs.rooms.new_start.Statement.{statement}
-use Rattle.trial_table.proofs.rooms.new_start.Tie as tie
+use Rattle.trial_table.proofs.logs.new_start.Statement.{statement}
+use Rattle.trial_table.proofs.logs.new_start.Tie as tie
 
 abbrev Inv-loop : tie.InvT-loop
 Inv-loop rooms disk left₀ start₀ left start = Unit {0}

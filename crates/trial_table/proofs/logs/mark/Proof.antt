@@ -2,8 +2,8 @@
 use lib.ListN.{length}
 use mathlib.Core.Path.{_≡_}
 use borrow.Author.Needs.{needs}
-use Rattle.trial_table.proofs.rooms.mark.Statement.{statement}
-use Rattle.trial_table.proofs.rooms.mark.Tie as tie
+use Rattle.trial_table.proofs.logs.mark.Statement.{statement}
+use Rattle.trial_table.proofs.logs.mark.Tie as tie
 
 abbrev Inv-loop : tie.InvT-loop
 Inv-loop rooms₀ disks left₀ rooms left = length rooms ≡ length rooms₀
