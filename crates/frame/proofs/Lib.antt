@@ -3,6 +3,7 @@
 pub mod Fitting
 pub mod Entries
 pub mod Passing
+pub mod PagesRight
 pub mod Verdicts
 pub mod Given
 pub mod Homes

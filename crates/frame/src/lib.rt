@@ -6,6 +6,7 @@ pub mod fits;
 pub mod handed;
 pub mod home;
 pub mod lent;
+pub mod pages;
 pub mod settle;
 pub mod stages;
 pub mod states;
