@@ -5,7 +5,8 @@ use Prim.Native.Nat.{ℕ, _+_, _*_}
 use lib.Dec.{leb, ltb, eqb}
 use lib.ListN.{getD}
 use Rattle.model.specs.Below.{within, sumBelow, allBelow}
-use Rattle.model.specs.View.{headSlots, headWidths, headBases}
+use Rattle.model.specs.State.{limit}
+use Rattle.model.specs.View.{headSlots, headWidths, headBases, headPositions}
 
 -- an entry of these numbers is a page's, which begins where those before it end
 unfoldable pub entryRight : (slots width base sum : ℕ) → Bool
@@ -29,3 +30,7 @@ unusedAt work from t page =
 
 unfoldable pub unusedRight : (work : List ℕ) → (from t : ℕ) → Bool
 unusedRight work from t = allBelow (unusedAt work from t) 64
+
+-- a log's tail is within bounds, and its next position not past it
+abbrev pub positionRight : (work tails : List ℕ) → ℕ → Bool
+positionRight work tails d = leb (getD tails d 0) limit && leb (getD work (headPositions + d) 0) (getD tails d 0)

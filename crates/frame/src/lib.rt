@@ -7,6 +7,7 @@ pub mod handed;
 pub mod home;
 pub mod lent;
 pub mod pages;
+pub mod replaying;
 pub mod settle;
 pub mod stages;
 pub mod states;
