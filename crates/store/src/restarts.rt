@@ -116,6 +116,6 @@ pub fn restart_end(
 pub fn restart_remaining(state: State, source: u64, work: &[u64]) -> u64
     ensures { λ r. ⌜ r ≡ remaining (coreOf (state .carried) (old work)) source ⌝ }
 {
-    let core = loaded(state, work);
-    restart::remain::remaining(core, source)
+    let carried = carried_of(state);
+    restart::remain::remaining(carried, source, work)
 }
