@@ -8,9 +8,9 @@ use Rattle.store.proofs.restarts.restart_step.Tie as tie
 
 returns : tie.Need-returns
 returns c =
-    let x = c .before .before .before .before .before .before .before .before .before .before .before .args in
+    let x = c .before .before .before .before .before .before .before .before .before .before .before .before .before .before .args in
     handed-on (restartStep (x .source)) (x .state .carried) (worldOf (x .anchor .now) (x .pages .now) (x .backups .now) (x .logs .now) (x .work .now)) _ _ _
-    (c .before .before .before .before .before .carried-of .ensures) (c .before .before .before .step .ensures) (c .hand-back .ensures)
+    (c .before .before .before .before .before .before .before .before .carried-of .ensures) (c .before .before .before .before .before .step .ensures) (c .hand-back .ensures)
 
 pub restart-step-spec : {M : Type 1} → statement M
 restart-step-spec =
@@ -19,5 +19,6 @@ restart-step-spec =
     (λ c κs. search needs)
     (λ c κs. search needs)
     (λ c κs. search needs)
+    (λ c. search needs)
     (λ c. search needs)
     returns)
