@@ -3,11 +3,14 @@
 pub mod Fitting
 pub mod Entries
 pub mod Passing
+pub mod PagesRight
+pub mod ReplayRight
 pub mod Verdicts
 pub mod Given
 pub mod Homes
 pub mod Switches
 -- Calls that take their state in two parts: their first checks and their end against `Serves`.
 pub mod Behind
+pub mod LentChecks
 pub mod FirstChecks
 pub mod Shown

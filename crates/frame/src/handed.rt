@@ -22,6 +22,20 @@ pub fn refused(carried: Carried, number: u64) -> Handed
     }
 }
 
+// No. 7: a malformed record.
+pub fn unreadable(carried: Carried, disk: u64, position: u64) -> Handed
+    ensures { λ r. ⌜ r ≡ refusedTo carried 7 disk position ⌝ }
+{
+    Handed {
+        answer: Answer::Refused {
+            number: 7,
+            first: disk,
+            second: position,
+        },
+        carried,
+    }
+}
+
 pub fn finished(carried: Carried, stores: u64, value: u64) -> Handed
     ensures { λ r. ⌜ r ≡ finishedTo carried stores value ⌝ }
 {

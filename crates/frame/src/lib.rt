@@ -6,6 +6,8 @@ pub mod fits;
 pub mod handed;
 pub mod home;
 pub mod lent;
+pub mod pages;
+pub mod replaying;
 pub mod settle;
 pub mod stages;
 pub mod states;

@@ -37,6 +37,18 @@ pub record OfDisk (s : Sizes) (e : Extent) : Type 0 where
   pub disk : ℕ
   pub lies : LiesAt s disk (e .place) (e .ring)
 
+-- P and the pages' two lists are these.
+pub record PagesOf (s : Sizes) (pages : ℕ) (slots widths : List ℕ) : Type 0 where
+  pub same-pages : s .pages ≡ pages
+  pub same-slots : s .slots ≡ slots
+  pub same-widths : s .widths ≡ widths
+
+-- An extent is that of a disk of such sizes.
+pub record OfLog (pages : ℕ) (slots widths : List ℕ) (e : Extent) : Type 0 where
+  pub sizes : Sizes
+  pub paged : PagesOf sizes pages slots widths
+  pub of-disk : OfDisk sizes e
+
 -- A log that can be read up to its end: tail word and ring lie within the logs, and every position has a word in the ring or the buffer.
 pub record Readable (e : Extent) (logs buffer : List ℕ) : Type 0 where
   pub ring-pos : 1 ≤ e .ring

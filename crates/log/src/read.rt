@@ -8,7 +8,7 @@ ghost use Prim.Native.Nat.{ℕ, _+_, _≤_, _<_, _^_};
 ghost use lib.ListN.{length};
 ghost use Rattle.model.specs.Record.{wordsOf};
 ghost use Rattle.model.specs.Decode.{readLog, misplaced, decodeAt};
-ghost use Rattle.log.specs.Reading.{decodedChange, decodedClose, LiesAt, extentOf, Readable};
+ghost use Rattle.log.specs.Reading.{decodedChange, decodedClose, PagesOf, LiesAt, extentOf, Readable};
 
 // What a reader needs of a disk's log: the index of its tail word in the logs of all disks, its ring size, its tail, and where it ends.
 pub struct Extent {
@@ -56,29 +56,36 @@ pub fn words_of(kind: u64, width: u64) -> u64
     }
 }
 
-// Are the fields of a change's first word not those of a page?
-fn is_misplaced(sizes: Sizes, w: u64) -> bool
-    ensures { λ r. ⌜ r ≡ misplaced sizes w ⌝ }
+// Are the fields of a change's first word not those of a page? The two lists are any numbers.
+fn is_misplaced(pages: u64, slots: &[u64], widths: &[u64], w: u64) -> bool
+    requires { ⌜ (length (now slots) ≡ 64) × (length (now widths) ≡ 64) ⌝ }
+    ensures { λ r. ⌜ ((s : Sizes) → PagesOf s pages (now (slots .entry)) (now (widths .entry)) → r ≡ misplaced s w) ⌝ }
 {
-    let pages = sizes.pages;
     let page = w / 8 % 64;
     let at = page as usize;
     if pages <= page {
         return true;
     }
-    let slots = sizes.slots[at] as u64;
-    if slots <= w / 512 % 128 {
+    if slots[at] <= w / 512 % 128 {
         return true;
     }
-    let width = sizes.widths[at] as u64;
-    w / 65536 != width
+    w / 65536 != widths[at]
 }
 
 // A change by its first three words, if its page, slot and width are those of a page.
-fn decode_change(sizes: Sizes, w: u64, number: u64, copy: u64, next: u64) -> Decoded
-    ensures { λ r. ⌜ r ≡ decodedChange sizes w number copy next ⌝ }
+fn decode_change(
+    pages: u64,
+    slots: &[u64],
+    widths: &[u64],
+    w: u64,
+    number: u64,
+    copy: u64,
+    next: u64,
+) -> Decoded
+    requires { ⌜ (length (now slots) ≡ 64) × (length (now widths) ≡ 64) ⌝ }
+    ensures { λ r. ⌜ ((s : Sizes) → PagesOf s pages (now (slots .entry)) (now (widths .entry)) → r ≡ decodedChange s w number copy next) ⌝ }
 {
-    if is_misplaced(sizes, w) {
+    if is_misplaced(pages, slots, widths, w) {
         return Decoded::Malformed;
     }
     Decoded::Change {
@@ -106,11 +113,19 @@ pub fn decode_close(w: u64, number: u64, next: u64) -> Decoded
     }
 }
 
-// What stands at position p of a log.
-pub fn decode_at(sizes: Sizes, logs: &[u64], extent: Extent, buffer: &[u64], p: u64) -> Decoded
-    requires { ⌜ Readable extent (now logs) (now buffer) × (p < extent .end) ⌝ }
-    ensures { λ r. ⌜ ((disk : ℕ) → LiesAt sizes disk (extent .place) (extent .ring)
-        → r ≡ decodeAt sizes (readLog sizes (now (logs .entry)) disk (extent .tail) (now (buffer .entry))) (extent .end) p) ⌝ }
+// What stands at position p of a log. P, slots and widths are handed in as numbers.
+pub fn decode_at(
+    pages: u64,
+    slots: &[u64],
+    widths: &[u64],
+    logs: &[u64],
+    extent: Extent,
+    buffer: &[u64],
+    p: u64,
+) -> Decoded
+    requires { ⌜ (length (now slots) ≡ 64) × (length (now widths) ≡ 64) × Readable extent (now logs) (now buffer) × (p < extent .end) ⌝ }
+    ensures { λ r. ⌜ ((s : Sizes) (disk : ℕ) → PagesOf s pages (now (slots .entry)) (now (widths .entry)) → LiesAt s disk (extent .place) (extent .ring)
+        → r ≡ decodeAt s (readLog s (now (logs .entry)) disk (extent .tail) (now (buffer .entry))) (extent .end) p) ⌝ }
 {
     let place = extent.place;
     let ring = extent.ring;
@@ -131,7 +146,7 @@ pub fn decode_at(sizes: Sizes, logs: &[u64], extent: Extent, buffer: &[u64], p: 
     }
     if kind < 2 {
         let copy = read_word(logs, place, ring, tail, buffer, p + 2);
-        return decode_change(sizes, w, number, copy, next);
+        return decode_change(pages, slots, widths, w, number, copy, next);
     }
     decode_close(w, number, next)
 }

@@ -11,25 +11,27 @@ use model::Fault;
 use model::Sizes;
 ghost use mathlib.Core.Path.{_≡_};
 ghost use Prim.Native.Nat.{ℕ};
-ghost use lib.ListN.{getD};
+ghost use lib.ListN.{length, getD};
 ghost use Rattle.model.specs.Decode.{readLog};
 ghost use Rattle.model.specs.declared.Fault.the-variants.{NoFault};
 ghost use Rattle.model.specs.Scan.{scan, fateIn};
 ghost use Rattle.model.specs.Causes.{faultFrom};
-ghost use Rattle.log.specs.Reading.{LiesAt, OfDisk, Readable, Checkable};
+ghost use Rattle.log.specs.Reading.{PagesOf, LiesAt, OfLog, Readable, Checkable};
 
 // The search ahead for a transaction's closing record.
 pub fn fate_from(
-    sizes: Sizes,
+    pages: u64,
+    slots: &[u64],
+    widths: &[u64],
     logs: &[u64],
     extent: Extent,
     buffer: &[u64],
     from: u64,
     number: u64,
 ) -> Fate
-    requires { ⌜ Readable extent (now logs) (now buffer) × OfDisk sizes extent ⌝ }
-    ensures { λ r. ⌜ ((disk : ℕ) → LiesAt sizes disk (extent .place) (extent .ring)
-        → r ≡ fateIn number (scan sizes (readLog sizes (now (logs .entry)) disk (extent .tail) (now (buffer .entry))) (extent .end) from)) ⌝ }
+    requires { ⌜ (length (now slots) ≡ 64) × (length (now widths) ≡ 64) × Readable extent (now logs) (now buffer) × OfLog pages (now slots) (now widths) extent ⌝ }
+    ensures { λ r. ⌜ ((s : Sizes) (disk : ℕ) → PagesOf s pages (now (slots .entry)) (now (widths .entry)) → LiesAt s disk (extent .place) (extent .ring)
+        → r ≡ fateIn number (scan s (readLog s (now (logs .entry)) disk (extent .tail) (now (buffer .entry))) (extent .end) from)) ⌝ }
 {
     let end = extent.end;
     let mut p = from;
@@ -37,7 +39,7 @@ pub fn fate_from(
         if end <= p {
             break Fate::Unclosed;
         }
-        let here = decode_at(sizes, logs, extent, buffer, p);
+        let here = decode_at(pages, slots, widths, logs, extent, buffer, p);
         match here {
             Decoded::Change { next, .. } => p = next,
             Decoded::Close {

@@ -43,7 +43,7 @@ module _ {c : Core} {disk : ℕ} {pages logs : List ℕ} (on : OnLog c disk page
 
   -- A change found there: its slot is one of the pages', and its difference ends within the log.
   module _ (w : World) {kind page slot number copy width next : ℕ} (e : nextRecord c w disk ≡ Change kind page slot number copy width next) where
-    found : ChangeAt (c .sizes) (tailOf (c .logs) disk) (positionOf c disk) kind page slot number width next
+    pub found : ChangeAt (c .sizes) (tailOf (c .logs) disk) (positionOf c disk) kind page slot number width next
     unfolding nextRecord
     found = found-change (c .sizes) (readDisk c w disk) (tailOf (c .logs) disk) e
 

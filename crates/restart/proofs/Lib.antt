@@ -2,4 +2,7 @@
 pub mod Remaining
 pub mod Beginning
 pub mod Extents
+pub mod Records
+pub mod Backups
+pub mod Steps
 pub mod Ending

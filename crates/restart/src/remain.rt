@@ -1,29 +1,44 @@
 // What remains of a restart's sources: words of the logs, pages of the backup.
+use head::own::is_own;
+use head::places::PAGE_AT;
+use head::places::POSITIONS_AT;
+use model::Carried;
 use model::Core;
 use words::saturating_sub;
 ghost use mathlib.Core.Path.{_≡_};
-ghost use Prim.Native.Nat.{_+_, _-_, _≤_};
+ghost use mathlib.Core.Bool.{true, cond};
+ghost use Prim.Native.Nat.{_+_, _-_, _≤_, _<_};
 ghost use lib.Dec.{eqb};
-ghost use lib.ListN.{getD};
+ghost use lib.ListN.{length, getD};
 ghost use Rattle.model.specs.Below.{allBelow};
+ghost use Rattle.model.specs.Moments.{old};
 ghost use Rattle.model.specs.Restart.{remaining};
+ghost use Rattle.model.specs.View.{headWords, coreOf};
+
+// A word of the head; 0 where the work memory is not the state's own.
+fn head_word(own: bool, work: &[u64], at: usize) -> u64
+    requires { ⌜ (at < headWords) × (own ≡ true → headWords ≤ length (now work)) ⌝ }
+    ensures { λ r. ⌜ r ≡ cond own (getD (old work) at 0) 0 ⌝ }
+{
+    if own { work[at] } else { 0 }
+}
 
 // Of any state: a state that no call made may name more than eight disks.
-pub fn remaining(core: Core, source: u64) -> u64
-    ensures { λ r. ⌜ r ≡ remaining core source ⌝ }
+pub fn remaining(carried: Carried, source: u64, work: &[u64]) -> u64
+    ensures { λ r. ⌜ r ≡ remaining (coreOf carried (old work)) source ⌝ }
 {
-    let disks = core.sizes.disks;
-    let logs = core.logs;
-    let replay = core.replay;
-    if source < disks {
+    let stage = carried.stage;
+    let own = is_own(stage, carried.disks, carried.total, work.len());
+    if source < carried.disks {
         if source >= 8 {
             return 0;
         }
         let d = source as usize;
-        return saturating_sub(logs.tails[d], replay.positions[d]);
+        let tails = carried.tails;
+        return saturating_sub(tails[d], head_word(own, work, POSITIONS_AT + d));
     }
-    if source == disks {
-        return saturating_sub(core.sizes.pages, replay.page);
+    if source == carried.disks {
+        return saturating_sub(carried.pages, head_word(own, work, PAGE_AT));
     }
     0
 }

@@ -1,6 +1,8 @@
 // The calls of a restart, and what remains of a source.
 use crate::Called;
 use crate::State;
+use crate::carried_of;
+use crate::hand_back;
 use crate::whole::kept;
 use crate::whole::loaded;
 use head::own::body_start;
@@ -47,10 +49,9 @@ pub fn restart_step(
         (handedOf r) 0 (worldOf (old anchor) (new pages) (old backups) (old logs) (new work)) ⌝ }
     ensures { λ r. ⌜ (sound (coreOf (state .carried) (old work)) ≡ true → sound (coreOf (r .state .carried) (new work)) ≡ true) ⌝ }
 {
-    let core = loaded(state, work);
-    let from = body_start(work.len());
-    let reply = restart::step::step(core, source, anchor, pages, backups, logs, &work[from..]);
-    kept(reply, work)
+    let carried = carried_of(state);
+    let handed = restart::step::step(carried, source, anchor, pages, backups, logs, work);
+    hand_back(handed)
 }
 
 // Replays up to `most` items of a source, as that many steps would; answers how many.
@@ -115,6 +116,6 @@ pub fn restart_end(
 pub fn restart_remaining(state: State, source: u64, work: &[u64]) -> u64
     ensures { λ r. ⌜ r ≡ remaining (coreOf (state .carried) (old work)) source ⌝ }
 {
-    let core = loaded(state, work);
-    restart::remain::remaining(core, source)
+    let carried = carried_of(state);
+    restart::remain::remaining(carried, source, work)
 }

@@ -12,8 +12,7 @@ use Rattle.log.proofs.read.decode_at.Tie as tie
 returns : tie.Need-returns
 unfolding decodeAt
 returns c =
-    let s = c .before .before .before .before .args .sizes in
-    λ disk lies.
+    λ s disk of lies.
     rw (← c .before .read-word .ensures s disk lies) (decode-kind s _ _ _ _ _ _ refl (c .if1 .taken))
 
 add-next : tie.Need-add-next
@@ -24,8 +23,7 @@ unfolding decodeAt
 returns-2 c =
     let known = c .before .before in
     let first = known .before in
-    let s = first .before .before .before .args .sizes in
-    λ disk lies.
+    λ s disk of lies.
     rw (← first .read-word .ensures s disk lies)
     (decode-past s _ _ _ _ _ _ (c .before .words-of .ensures) (known .if1 .left) (c .if2 .taken))
 
@@ -39,8 +37,7 @@ returns-3 c =
     let whole = second .before in
     let known = whole .before .before in
     let first = known .before in
-    let s = first .before .before .before .args .sizes in
-    λ disk lies.
+    λ s disk of lies.
     rw (← first .read-word .ensures s disk lies, ← second .read-word2 .ensures s disk lies)
     (decode-zero s _ _ _ _ _ _ (whole .before .words-of .ensures) (known .if1 .left) (whole .if2 .left) (c .if3 .taken))
 
@@ -58,10 +55,9 @@ returns-4 c =
     let whole = second .before in
     let known = whole .before .before in
     let first = known .before in
-    let s = first .before .before .before .args .sizes in
-    λ disk lies.
+    λ s disk of lies.
     rw (← first .read-word .ensures s disk lies, ← second .read-word2 .ensures s disk lies, ← third .read-word3 .ensures s disk lies)
-    (c .decode-change .ensures
+    (c .decode-change .ensures s of
     ∙ decode-is-change s _ _ _ _ _ _ (whole .before .words-of .ensures) (known .if1 .left) (whole .if2 .left)
     (numbered .if3 .left) (third .before .if4 .taken))
 
@@ -73,8 +69,7 @@ returns-5 c =
     let whole = second .before in
     let known = whole .before .before in
     let first = known .before in
-    let s = first .before .before .before .args .sizes in
-    λ disk lies.
+    λ s disk of lies.
     rw (← first .read-word .ensures s disk lies, ← second .read-word2 .ensures s disk lies)
     (c .decode-close .ensures
     ∙ decode-is-close s _ _ _ _ _ _ (whole .before .words-of .ensures) (known .if1 .left) (whole .if2 .left)

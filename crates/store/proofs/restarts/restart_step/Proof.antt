@@ -1,25 +1,16 @@
--- `store::restarts::restart_step` meets its contract: what the call gives on the whole state, kept. Assumes nothing.
-use mathlib.Core.Path.{refl}
+-- `store::restarts::restart_step` meets its contract: what the call gives, handed back. Assumes nothing.
 use Rattle.model.specs.World.{worldOf}
 use Rattle.model.specs.Call.{restartStep}
-use Rattle.store.proofs.Served.{read-room, read-served}
+use Rattle.store.proofs.Handing.{handed-on}
 use borrow.Author.Needs.{needs}
 use Rattle.store.proofs.restarts.restart_step.Statement.{statement}
 use Rattle.store.proofs.restarts.restart_step.Tie as tie
 
-room : tie.Need-kept-requires
-room c κs =
-    let x = c .before .before .before .before .before .before .before .before .before .before .before .before .before .before .before .args in
-    read-room (restartStep (x .source)) refl (x .state .carried) (worldOf (x .anchor .now) (x .pages .now) (x .backups .now) (x .logs .now) (x .work .now))
-    (c .before .before .before .before .before .before .before .before .loaded .ensures) (c .before .before .before .before .before .before .before .body-start .ensures) _ _ _
-    (c .before .before .before .step .ensures) refl
-
 returns : tie.Need-returns
 returns c =
-    let x = c .before .before .before .before .before .before .before .before .before .before .before .before .before .before .before .before .before .before .args in
-    read-served (restartStep (x .source)) refl (x .state .carried) (worldOf (x .anchor .now) (x .pages .now) (x .backups .now) (x .logs .now) (x .work .now))
-    (c .before .before .before .before .before .before .before .before .before .before .before .loaded .ensures) (c .before .before .before .before .before .before .before .before .before .before .body-start .ensures) _ _ _
-    (c .before .before .before .before .before .before .step .ensures) refl (c .before .before .kept .ensures)
+    let x = c .before .before .before .before .before .before .before .before .before .before .before .before .before .before .args in
+    handed-on (restartStep (x .source)) (x .state .carried) (worldOf (x .anchor .now) (x .pages .now) (x .backups .now) (x .logs .now) (x .work .now)) _ _ _
+    (c .before .before .before .before .before .before .before .before .carried-of .ensures) (c .before .before .before .before .before .step .ensures) (c .hand-back .ensures)
 
 pub restart-step-spec : {M : Type 1} → statement M
 restart-step-spec =
@@ -27,12 +18,7 @@ restart-step-spec =
     (tie.spec
     (λ c κs. search needs)
     (λ c κs. search needs)
-    (λ c. search needs)
-    (λ c. search needs)
-    (λ c. search needs)
-    (λ c. search needs)
     (λ c κs. search needs)
-    room
     (λ c. search needs)
     (λ c. search needs)
     returns)
