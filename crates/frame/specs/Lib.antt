@@ -6,3 +6,4 @@ pub mod Lent
 pub mod Settle
 pub mod Switch
 pub mod Entry
+pub mod Sizes

@@ -7,6 +7,7 @@ pub mod handed;
 pub mod home;
 pub mod lent;
 pub mod settle;
+pub mod sizes;
 pub mod stages;
 pub mod states;
 pub mod switch;
