@@ -12,3 +12,11 @@ pub mod Undone
 pub mod Pending
 pub mod OneLeft
 pub mod Noting
+-- The call.
+pub mod Scopes
+pub mod Apart
+pub mod Examining
+pub mod Rolled
+pub mod Aborts
+pub mod ReadLog
+pub mod Closing

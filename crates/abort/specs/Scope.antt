@@ -7,6 +7,7 @@ use lib.Dec.{ltb, eqb}
 use Rattle.model.specs.declared.Sizes.{Sizes}
 use Rattle.model.specs.declared.Logs.{Logs}
 use Rattle.model.specs.declared.Core.{Core}
+use Rattle.model.specs.declared.Carried.{Carried}
 use Rattle.model.specs.declared.Fault.the-variants.{NoFault, BadRecord}
 use Rattle.model.specs.Anchor.{anchorWords}
 use Rattle.model.specs.Record.{encode, close, abortKind}
@@ -17,6 +18,7 @@ use Rattle.model.specs.Append.{Appended, append}
 use Rattle.model.specs.Transaction.{diskOf}
 use Rattle.model.specs.Reads.{placeFits, scopeFits, sizesFit}
 use Rattle.model.specs.Abort.{undoAll}
+use Rattle.model.specs.View.{ownWork}
 use Rattle.model.specs.Fields.{Put, put, fills, leaving}
 use Rattle.frame.specs.declared.entry.Entry.{Entry}
 use Rattle.frame.specs.Entry.{EntryOf}
@@ -25,6 +27,13 @@ use Rattle.abort.specs.declared.scope.Target.{Target}
 use Rattle.abort.specs.declared.fault.Examined.{Examined}
 use Rattle.abort.specs.Undo.{reader, partsFrom}
 use Rattle.abort.specs.Groups.{Noted}
+
+-- The work memory is that of a state with these disks and tails.
+pub record OfState (work : List ℕ) (disks : ℕ) (tails : List ℕ) : Type 0 where
+  pub state : Carried
+  pub own : ownWork state work ≡ true
+  pub same-disks : state .disks ≡ disks
+  pub same-tails : state .tails ≡ tails
 
 unfoldable pub scopeOf : Core → ℕ → Scope
 scopeOf c number =

@@ -126,6 +126,7 @@ pub fn abort(
         return refused(carried, row);
     }
     let entry = found.entry;
+    let scope = found.scope;
     let tip = Tip {
         tail: entry.tail,
         fill: entry.fill,
@@ -133,7 +134,7 @@ pub fn abort(
     let seen = examine(
         found.sizes,
         tip,
-        found.scope,
+        scope,
         number,
         logs,
         &work[HEAD_WORDS..],
@@ -146,7 +147,7 @@ pub fn abort(
     let done = roll_back(
         found.sizes,
         tip,
-        entry.disk,
+        scope.disk,
         number,
         seen.notes,
         pages,
@@ -158,7 +159,7 @@ pub fn abort(
         return cut(saturating_sub(before, *budget));
     }
     let reached = done.tip;
-    let disk = entry.disk as usize;
+    let disk = scope.disk as usize;
     close_place(
         work,
         entry.place,

@@ -15,7 +15,7 @@ ghost use Rattle.model.specs.declared.Carried.{Carried};
 ghost use Rattle.model.specs.Moments.{old};
 ghost use Rattle.model.specs.State.{limit};
 ghost use Rattle.model.specs.View.{headWords, ownWork, coreOf};
-ghost use Rattle.abort.specs.Scope.{scopeIn, Read};
+ghost use Rattle.abort.specs.Scope.{OfState, scopeIn, Read};
 
 // The disk, where the log is read from, the first position, and how many words of updates are reserved.
 pub struct Scope {
@@ -100,7 +100,7 @@ pub fn find_scope(
     tails: [u64; 8],
     number: u64,
 ) -> Target
-    requires { ⌜ (disks ≤ 8) × (headWords ≤ length (now work)) ⌝ }
+    requires { ⌜ (disks ≤ 8) × (headWords ≤ length (now work)) × OfState (now work) disks tails ⌝ }
     ensures { λ r. ⌜ ((h : Carried) → ownWork h (old work) ≡ true → h .pages ≡ pages → h .disks ≡ disks → h .ring ≡ ring → h .total ≡ total
         → h .tails ≡ tails → Read (coreOf h (old work)) number r) ⌝ }
 {
