@@ -1,48 +1,33 @@
 -- The call: its checks against its rows, and what they leave its work to rely on.
 use mathlib.Core.Path.{_≡_, refl, sym, ap, _∙_}
-use mathlib.Core.List.{List, [], _∷_}
+use mathlib.Core.List.{[], _∷_}
 use mathlib.Core.Bool.{Bool, true, false, cond, not, _&&_, _||_}
-use Prim.Native.Nat.{ℕ, _+_, _-_, _≤_, _<_}
+use Prim.Native.Nat.{ℕ, _-_, _<_}
 use native.Mathlib.Omega.{arith}
-use lib.Dec.{leb, ltb, eqb}
-use lib.ListN.{length, drop, length-drop}
-use borrow.Author.Tests.{leb-true, ltb-true, ltb-false, eqb-true, eq-eqb, ne-eqb}
+use lib.Dec.{eqb}
+use lib.ListN.{length}
+use borrow.Author.Tests.{eq-eqb, ne-eqb}
 use Rattle.model.specs.declared.Core.{Core}
 use Rattle.model.specs.declared.Carried.{Carried}
 use Rattle.model.specs.declared.Fault.{Fault}
-use Rattle.model.specs.declared.Fault.the-variants.{NoFault, BadRecord}
+use Rattle.model.specs.declared.Fault.the-variants.{NoFault}
 use Rattle.model.specs.Anchor.{anchorWords}
-use Rattle.model.specs.Sizes.{total, ringOf, logWords, diskAt, sizesInBounds}
-use Rattle.model.specs.Scan.{Scan, end, ringThenBuffer, faultIn, updatesIn, updateWords}
+use Rattle.model.specs.Sizes.{total}
 use Rattle.model.specs.World.{World}
-use Rattle.model.specs.Memory.{bufferAt, copyAt, ownerAt, workWords}
-use Rattle.model.specs.State.{limit, tailOf, fillOf, endOf, placeOf, isOpen, diskAtPlace, firstAt, reservedAt, hasUpdate}
-use Rattle.model.specs.Refusal.{row, Verdict, verdict, accepted, rejected}
+use Rattle.model.specs.State.{placeOf, isOpen, diskAtPlace}
+use Rattle.model.specs.Refusal.{row, verdict, rejected}
 use Rattle.model.specs.Causes.{whenServing, anchorWrong, notOpen, faultRow}
 use Rattle.model.specs.Reads.{placeFits, scopeFits, sizesFit, abortFits}
 use Rattle.model.specs.Transaction.{diskOf}
-use Rattle.model.specs.Abort.{abortScan, updatesLeft, abortFault, abortRows}
-use Rattle.model.specs.View.{headWords, ownWork, coreOf, bodyOf}
-use Rattle.model.proofs.Booleans.{true-false, both}
-use Rattle.model.proofs.Bounds.{bounded}
-use Rattle.model.proofs.Reading.{ending}
-use Rattle.model.proofs.Faults.{fault-rest}
-use Rattle.model.proofs.RingThenBuffer.{parts-end}
-use Rattle.model.proofs.Growth.{tail-end}
-use Rattle.model.proofs.Updates.{abort-words}
+use Rattle.model.specs.Abort.{abortFault, abortRows}
+use Rattle.model.specs.View.{ownWork, coreOf, bodyOf}
 use Rattle.model.proofs.Store.AbortRows.{nothing-bad}
-use Rattle.model.proofs.View.Head.{own-view}
 use Rattle.frame.specs.Lent.{lentRefusal}
 use Rattle.frame.proofs.FirstChecks.{Ready, lent-refused, lent-passed, lent-ready, own-ready}
 use Rattle.frame.proofs.Fitting.{Placed, placed}
-use Rattle.abort.specs.declared.window.Tip.{Tip}
 use Rattle.abort.specs.declared.scope.Scope.{Scope}
 use Rattle.abort.specs.declared.scope.Target.{Target}
-use Rattle.abort.specs.Undo.{onlyLog, Serving, reader, logFrom, partsFrom, Undoable}
 use Rattle.abort.specs.Scope.{scopeOf, ReadOf, Read, abortRefusal}
-use Rattle.abort.proofs.Tips.{tip-tail, tip-fill, tip-end, tip-small}
-use Rattle.abort.proofs.Malformed.{sound-end}
-use Rattle.abort.proofs.Examining.{as-one}
 
 -- rows 1, 2 and 9 by what is found of the transaction; of one that is not open no fault is found
 by-found : (opened fits anchor : Bool) (fault : Fault) → (opened ≡ false → fault ≡ NoFault) → (found : ℕ) → found ≡ cond opened (cond fits 0 1) 9

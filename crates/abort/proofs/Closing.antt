@@ -4,7 +4,6 @@ use mathlib.Core.List.{List, _++_}
 use mathlib.Core.Bool.{true, false}
 use Prim.Native.Nat.{ℕ, _-_}
 use lib.ListN.{length, getD, set, take, drop}
-use Rattle.model.specs.declared.Logs.{Logs}
 use Rattle.model.specs.declared.Core.{Core}
 use Rattle.model.specs.declared.Carried.{Carried}
 use Rattle.model.specs.declared.Handed.{Handed}
@@ -138,8 +137,11 @@ module _ (h : Carried) (w : World) (number budget : ℕ) {t : Target} (st : Stan
             (withReserved (withPlace (core .table) (t .entry .place) 0 0 0 0) d (t .entry .sum - t .entry .reserved))
         after-abort =
             ap (λ (x : Task). x .core) task-is
-            ∙ rw (moved-alone (core .sizes) d (st .low) (core .logs) sized tip (tail-here h w number st) (fill-here h w number st) (bodyOf w) number
-            (updatesLeft core (bodyOf w) number) (done .tip) (here .state all), shut-table) refl
+            ∙ rw (
+              moved-alone (core .sizes) d (st .low) (core .logs) sized tip (tail-here h w number st) (fill-here h w number st) (bodyOf w) number
+                  (updatesLeft core (bodyOf w) number) (done .tip) (here .state all),
+              shut-table,
+            ) refl
 
         lists-after : headLists (abortTask core (bodyOf w) number .core)
             ≡ putLists (closed (t .entry .place) d (done .tip .fill) (t .entry .sum - t .entry .reserved)) (headLists core)

@@ -2,14 +2,14 @@
 use mathlib.Core.Path.{_≡_, refl, sym, ap, _∙_}
 use mathlib.Core.List.{List}
 use mathlib.Core.Bool.{Bool, true, false, cond, not, _&&_, _||_}
-use Prim.Native.Nat.{ℕ, _+_, _-_, _≤_, _<_}
+use Prim.Native.Nat.{ℕ, _+_, _-_, _<_}
 use native.Mathlib.Omega.{arith}
-use lib.Dec.{leb, ltb, eqb}
+use lib.Dec.{leb, ltb}
 use lib.ListN.{getD}
 use Rattle.model.specs.declared.Core.{Core}
 use Rattle.model.specs.declared.Carried.{Carried}
 use Rattle.model.specs.Sizes.{ringOf}
-use Rattle.model.specs.State.{limit, endOf, placeOf, isOpen, firstAt, hasUpdate}
+use Rattle.model.specs.State.{endOf, placeOf, isOpen, firstAt, hasUpdate}
 use Rattle.model.specs.Reads.{placeFits, scopeFits, sizesFit}
 use Rattle.model.specs.Transaction.{diskOf}
 use Rattle.model.specs.View.{headFirsts, ownWork, coreOf}
@@ -24,7 +24,7 @@ use Rattle.frame.proofs.Fitting.{Placed, placed}
 use Rattle.frame.proofs.KnownSizes.{sizes-here, total-here}
 use Rattle.abort.specs.declared.scope.Scope.{Scope}
 use Rattle.abort.specs.declared.scope.Target.{Target}
-use Rattle.abort.specs.Scope.{OfState, scopeOf, scopeIn, ReadOf, Read}
+use Rattle.abort.specs.Scope.{scopeOf, scopeIn, Read}
 
 module _ (h : Carried) (work : List ℕ) (own : ownWork h work ≡ true) (number : ℕ) {e : Entry} (entered : Entered (coreOf h work) number e) where
   abbrev c : Core

@@ -11,7 +11,7 @@ use Rattle.model.specs.declared.Carried.{Carried}
 use Rattle.model.specs.declared.Fault.the-variants.{NoFault, BadRecord}
 use Rattle.model.specs.Anchor.{anchorWords}
 use Rattle.model.specs.Record.{encode, close, abortKind}
-use Rattle.model.specs.Scan.{Scan, scan, faultIn, Update, updatesIn, updateWords}
+use Rattle.model.specs.Scan.{scan, faultIn, Update, updatesIn, updateWords}
 use Rattle.model.specs.World.{World, perform}
 use Rattle.model.specs.State.{endOf, placeOf, isOpen, firstAt, reservedAt, hasUpdate}
 use Rattle.model.specs.Append.{Appended, append}

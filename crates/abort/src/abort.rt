@@ -131,14 +131,7 @@ pub fn abort(
         tail: entry.tail,
         fill: entry.fill,
     };
-    let seen = examine(
-        found.sizes,
-        tip,
-        scope,
-        number,
-        logs,
-        &work[HEAD_WORDS..],
-    );
+    let seen = examine(found.sizes, tip, scope, number, logs, &work[HEAD_WORDS..]);
     let fault = seen.fault;
     if let Fault::BadRecord { disk, position } = fault {
         return refused_at(carried, 7, disk, position);

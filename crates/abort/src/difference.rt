@@ -23,14 +23,7 @@ pub struct Site {
 }
 
 // The site of the update at a position, by its first word.
-pub fn site_at(
-    sizes: Sizes,
-    tip: Tip,
-    disk: u64,
-    position: u64,
-    logs: &[u64],
-    work: &[u64],
-) -> Site
+pub fn site_at(sizes: Sizes, tip: Tip, disk: u64, position: u64, logs: &[u64], work: &[u64]) -> Site
     requires { ⌜ Serving sizes (onlyLog disk tip) disk (now logs) (now work) × (position < endOf (onlyLog disk tip) disk) ⌝ }
     ensures { λ r. ⌜ r ≡ siteAt (reader sizes (onlyLog disk tip) disk (now (logs .entry)) (now (work .entry))) position ⌝ }
 {

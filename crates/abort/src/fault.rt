@@ -5,7 +5,6 @@ use crate::scope::Scope;
 use crate::window::Tip;
 use model::Fault;
 use model::Sizes;
-ghost use mathlib.Core.Path.{_≡_};
 ghost use Prim.Native.Nat.{_+_, _≤_};
 ghost use Rattle.model.specs.State.{endOf};
 ghost use Rattle.abort.specs.Undo.{onlyLog, Serving};
