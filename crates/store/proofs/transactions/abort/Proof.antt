@@ -8,9 +8,9 @@ use Rattle.store.proofs.transactions.abort.Tie as tie
 
 returns : tie.Need-returns
 returns c =
-    let x = c .before .before .before .before .before .before .before .before .before .before .before .before .before .before .before .args in
+    let x = c .before .before .before .before .before .before .before .before .before .before .before .before .before .before .before .before .before .before .args in
     handed-on (abort (x .number) (x .budget .now)) (x .state .carried) (worldOf (x .anchor .now) (x .pages .now) (x .backups .now) (x .logs .now) (x .work .now)) _ _ _
-    (c .before .before .before .before .before .before .before .before .before .carried-of .ensures) (c .before .before .before .before .before .abort .ensures) (c .hand-back .ensures)
+    (c .before .before .before .before .before .before .before .before .before .before .before .before .carried-of .ensures) (c .before .before .before .before .before .before .before .abort .ensures) (c .hand-back .ensures)
 
 pub abort-spec : {M : Type 1} → statement M
 abort-spec =
@@ -19,6 +19,7 @@ abort-spec =
     (λ c κs. search needs)
     (λ c κs. search needs)
     (λ c κs. search needs)
+    (λ c. search needs)
     (λ c. search needs)
     (λ c. search needs)
     returns)
