@@ -1,187 +1,122 @@
--- What the checks leave an abort to rely on: its log can be read, and there is room for what takes its updates back.
-use mathlib.Core.Path.{_≡_, refl, sym, ap, subst, _∙_}
-use mathlib.Core.List.{List, []}
-use mathlib.Core.Bool.{Bool, true, false, cond}
-use Prim.Native.Nat.{ℕ, _+_, _≤_, _<_}
+-- The call: its checks against its rows, and what they leave its work to rely on.
+use mathlib.Core.Path.{_≡_, refl, sym, ap, _∙_}
+use mathlib.Core.List.{[], _∷_}
+use mathlib.Core.Bool.{Bool, true, false, cond, not, _&&_, _||_}
+use Prim.Native.Nat.{ℕ, _-_, _<_}
 use native.Mathlib.Omega.{arith}
-use lib.Dec.{ltb}
+use lib.Dec.{eqb}
 use lib.ListN.{length}
-use borrow.Author.Tests.{lt-ltb, le-ltb}
+use borrow.Author.Tests.{eq-eqb, ne-eqb}
 use Rattle.model.specs.declared.Core.{Core}
+use Rattle.model.specs.declared.Carried.{Carried}
 use Rattle.model.specs.declared.Fault.{Fault}
-use Rattle.model.specs.declared.Fault.the-variants.{NoFault, BadRecord}
-use Rattle.model.specs.Sizes.{ringOf, total}
-use Rattle.model.specs.Scan.{Scan, end, scan, ringThenBuffer, faultIn, updatesIn, updateWords}
-use Rattle.model.specs.World.{World, worldOf}
-use Rattle.model.specs.State.{limit, startOf, tailOf, endOf, placeOf, firstAt, reservedAt, isOpen, hasUpdate, servingSound}
+use Rattle.model.specs.declared.Fault.the-variants.{NoFault}
+use Rattle.model.specs.Anchor.{anchorWords}
+use Rattle.model.specs.Sizes.{total}
+use Rattle.model.specs.World.{World}
+use Rattle.model.specs.State.{placeOf, isOpen, diskAtPlace}
+use Rattle.model.specs.Refusal.{row, verdict, rejected}
+use Rattle.model.specs.Causes.{whenServing, anchorWrong, notOpen, faultRow}
+use Rattle.model.specs.Reads.{placeFits, scopeFits, sizesFit, abortFits}
 use Rattle.model.specs.Transaction.{diskOf}
-use Rattle.model.specs.Abort.{abortScan, updatesLeft, abortFault}
-use Rattle.model.proofs.Bounds.{bounded}
-use Rattle.model.proofs.Reading.{ending}
-use Rattle.model.proofs.Faults.{fault-end, fault-own, fault-rest}
-use Rattle.model.proofs.RingThenBuffer.{parts-as-one, parts-end}
-use Rattle.model.proofs.Growth.{tail-end, kept-le}
-use Rattle.model.proofs.Updates.{abort-words}
-use Rattle.model.proofs.KeptBases.{total-kept}
-use Rattle.model.proofs.Store.Rows.{sizes-sound, bases-sound, disk-sound}
-use Rattle.model.proofs.Store.Accepted.{small-buffers, open-entry, open-below, own-room, disks-max}
-use Rattle.frame.specs.Home.{Serves}
+use Rattle.model.specs.Abort.{abortFault, abortRows}
+use Rattle.model.specs.View.{ownWork, coreOf, bodyOf}
+use Rattle.model.proofs.Store.AbortRows.{nothing-bad}
+use Rattle.frame.specs.Lent.{lentRefusal}
+use Rattle.frame.proofs.FirstChecks.{Ready, lent-refused, lent-passed, lent-ready, own-ready}
+use Rattle.frame.proofs.Fitting.{Placed, placed}
 use Rattle.abort.specs.declared.scope.Scope.{Scope}
-use Rattle.abort.specs.declared.notes.Notes.{Notes}
-use Rattle.abort.specs.Groups.{Noted}
-use Rattle.abort.specs.Undo.{Serving, reader, logFrom, partsFrom, Undoable}
-use Rattle.abort.specs.Scope.{scopeOf, NotedFor}
-use Rattle.abort.proofs.Malformed.{sound-end}
+use Rattle.abort.specs.declared.scope.Target.{Target}
+use Rattle.abort.specs.Scope.{scopeOf, ReadOf, Read, abortRefusal}
 
--- its disk, and what `scope_of` requires
-module _ (c : Core) (number : ℕ) {logs work : List ℕ} (serves : Serves c logs work) (opened : isOpen (c .table) number ≡ true) where
-  pub disk-serves : Serving (c .sizes) (c .logs) (diskOf c number) logs work
-  disk-serves =
-      let below = open-below c number (serves .state) opened in
-      record {
-        sizes = sizes-sound c (serves .state);
-        disk-below = below;
-        log-words = serves .log-words;
-        work-words = rw (total-kept c (bases-sound c (serves .state))) at (serves .work-words);
-        fills-small = small-buffers c (serves .state);
-        end-small = omega (arith, disk-sound c (diskOf c number) (serves .state) below .limit);
-      }
+-- rows 1, 2 and 9 by what is found of the transaction; of one that is not open no fault is found
+by-found : (opened fits anchor : Bool) (fault : Fault) → (opened ≡ false → fault ≡ NoFault) → (found : ℕ) → found ≡ cond opened (cond fits 0 1) 9
+    → verdict (row 1 (not (not opened || fits)) ∷ row 2 (not anchor) ∷ faultRow fault ∷ row 9 (not opened) ∷ [])
+    ≡ cond (eqb (cond (eqb found 1) 1 (cond anchor found 2)) 0) (verdict (faultRow fault ∷ row 9 (not opened) ∷ []))
+    (rejected (cond (eqb found 1) 1 (cond anchor found 2)) 0 0)
+unfolding verdict
+by-found true true true fault shut found e = rw e refl
+by-found true true false fault shut found e = rw e refl
+by-found true false anchor fault shut found e = rw e refl
+by-found false fits true fault shut found e = rw (e, shut refl) refl
+by-found false fits false fault shut found e = rw e refl
 
-  pub scoped : (placeOf (c .table) number < 16) × (2 ≤ reservedAt (c .table) (placeOf (c .table) number))
-  scoped = let mine = open-entry c number (serves .state) opened in (mine .at, mine .sound .reserved)
+module _ (h : Carried) (w : World) (number : ℕ) {r : ℕ}
+    (answer : r ≡ lentRefusal (whenServing (h .stage)) (h .pages) (h .disks) (h .ring) (h .total) (length (w .anchor)) (length (w .pages)) (length (w .backups)) (length (w .logs)) (length (w .work)))
+  where
+    abbrev c : Core
+    c = coreOf h (w .work)
 
-  pub scoped-disk : (diskOf c number < 8) × (endOf (c .logs) (diskOf c number) ≤ limit)
-  scoped-disk = (omega (arith, disk-serves .disk-below, disks-max c (serves .state)), disk-serves .end-small)
+    pub abort-refused : (r ≡ 0 → ⊥) → verdict (abortRows c (bodyOf w) number) ≡ rejected r 0 0
+    unfolding abortRows
+    abort-refused some = lent-refused h w answer some (abortFits number c) (faultRow (abortFault c (bodyOf w) number) ∷ row 9 (notOpen c number) ∷ [])
 
-  module _ {at : Scope} (is : at ≡ scopeOf c number) where
-    pub scope-serves : Serving (c .sizes) (c .logs) (at .disk) logs work
-    unfolding scopeOf
-    scope-serves = rw is disk-serves
+    module _ (none : r ≡ 0) {found : ℕ}
+        (is : found ≡ cond (isOpen (c .table) number) (cond (placeFits (placeOf (c .table) number) c && scopeFits (placeOf (c .table) number) c && sizesFit c) 0 1) 9)
+        {q : ℕ} (later : q ≡ abortRefusal found (length (w .anchor))) where
+      by-rows : verdict (abortRows c (bodyOf w) number)
+          ≡ cond (eqb q 0) (verdict (faultRow (abortFault c (bodyOf w) number) ∷ row 9 (notOpen c number) ∷ [])) (rejected q 0 0)
+      unfolding abortRows abortFits notOpen anchorWrong abortRefusal
+      by-rows =
+          lent-passed h w answer none (abortFits number c) (faultRow (abortFault c (bodyOf w) number) ∷ row 9 (notOpen c number) ∷ [])
+          ∙ by-found (isOpen (c .table) number) (placeFits (placeOf (c .table) number) c && scopeFits (placeOf (c .table) number) c && sizesFit c)
+          (eqb (length (w .anchor)) anchorWords) (abortFault c (bodyOf w) number) (λ shut. nothing-bad c (bodyOf w) number (rw shut refl)) found is
+          ∙ rw (← later) refl
 
--- where its updates are read from
-pub scope-noted : (c : Core) (number : ℕ) {at : Scope} → at ≡ scopeOf c number → (logs work : List ℕ) {notes : Notes}
-    → Noted number (scan (c .sizes) (reader (c .sizes) (c .logs) (at .disk) logs work) (endOf (c .logs) (at .disk))) (at .from) notes
-    → NotedFor c number logs work notes
-unfolding NotedFor
-scope-noted c number is logs work noted = rw is at noted
+      pub abort-row : (q ≡ 0 → ⊥) → verdict (abortRows c (bodyOf w) number) ≡ rejected q 0 0
+      abort-row some = by-rows ∙ rw (ne-eqb q 0 some) refl
 
-pub noted-scope : (c : Core) (number : ℕ) {at : Scope} → at ≡ scopeOf c number → (logs work : List ℕ) {notes : Notes} → NotedFor c number logs work notes
-    → Noted number (scan (c .sizes) (reader (c .sizes) (c .logs) (at .disk) logs work) (endOf (c .logs) (at .disk))) (at .from) notes
-unfolding NotedFor
-noted-scope c number is logs work noted = rw is noted
+      found-none : q ≡ 0 → found ≡ 0
+      unfolding abortRefusal
+      found-none last = go (eqb found 1) (eqb (length (w .anchor)) anchorWords) (sym later ∙ last)
+        where
+          go : (a b : Bool) → _≡_ {A = ℕ} (cond a 1 (cond b found 2)) 0 → found ≡ 0
+          go true b z = absurd (omega (arith, z))
+          go false true z = z
+          go false false z = absurd (omega (arith, z))
 
-pub noted-own : {number : ℕ} {log : ℕ → Scan} {from : ℕ} {r : Notes} → Noted number log from r → Noted number log (r .from) r
-noted-own {number} {log} {from} {r} n = subst (λ (f : ℕ). Noted number log f r) (sym (n .starts)) n
+      found-open : q ≡ 0 → isOpen (c .table) number ≡ true
+      found-open last =
+          go (isOpen (c .table) number) (placeFits (placeOf (c .table) number) c && scopeFits (placeOf (c .table) number) c && sizesFit c) (sym is ∙ found-none last)
+        where
+          go : (a b : Bool) → _≡_ {A = ℕ} (cond a (cond b 0 1) 9) 0 → a ≡ true
+          go true b z = refl
+          go false b z = absurd (omega (arith, z))
 
--- the anchor and the backups are not read
-pub fault-apart : (c : Core) (number : ℕ) (anchor pages backups logs work : List ℕ)
-    → abortFault c (worldOf [] pages [] logs work) number ≡ NoFault → abortFault c (worldOf anchor pages backups logs work) number ≡ NoFault
-unfolding abortFault updatesLeft abortScan
-fault-apart c number anchor pages backups logs work none = none
+-- What is known of the transaction where rows 1, 2 and 9 do not apply.
+pub record Standing (h : Carried) (w : World) (number : ℕ) (t : Target) : Type 0 where
+  pub ready : Ready h w
+  pub own : ownWork h (w .work) ≡ true
+  pub read : ReadOf (coreOf h (w .work)) number t
+  pub opened : isOpen (coreOf h (w .work) .table) number ≡ true
+  pub placed : Placed (h .disks) (t .entry .disk) (t .entry .tail) (t .entry .fill) (t .entry .reserved) (t .entry .sum)
+  pub low : t .scope .disk < 8
+  pub rows : verdict (abortRows (coreOf h (w .work)) (bodyOf w) number)
+      ≡ verdict (faultRow (abortFault (coreOf h (w .work)) (bodyOf w) number) ∷ row 9 (notOpen (coreOf h (w .work)) number) ∷ [])
 
--- the log from there on
-module _ (c : Core) (number : ℕ) (opened : isOpen (c .table) number ≡ true) {at : Scope} (is : at ≡ scopeOf c number) (w : World) where
-  abbrev sc : Scan
-  sc = logFrom (c .sizes) (c .logs) (at .disk) (w .logs) (w .work) (at .from)
+-- the disk of the log that is read is the transaction's
+pub scope-disk : {c : Core} {number : ℕ} {t : Target} → ReadOf c number t → t .scope .disk ≡ t .entry .disk
+unfolding scopeOf diskOf
+scope-disk {c} {number} read =
+    ap (λ (x : Scope). x .disk) (read .scope) ∙ sym (read .entry .disk ∙ ap (diskAtPlace (c .table)) (read .entry .place))
 
-  abbrev parts : Scan
-  parts = partsFrom (c .sizes) (c .logs) (at .disk) (w .logs) (w .work) (at .from)
-
-  -- up to the tail and then in the buffer it is what an abort reads
-  scope-reads : abortScan c w number ≡ parts
-  unfolding abortScan partsFrom scopeOf
-  scope-reads = rw (is, opened) (go (hasUpdate (c .table) (placeOf (c .table) number)))
-    where
-      tail : ℕ
-      tail = tailOf (c .logs) (diskOf c number)
-
-      stop : ℕ
-      stop = endOf (c .logs) (diskOf c number)
-
-      read : ℕ → ℕ
-      read = reader (c .sizes) (c .logs) (diskOf c number) (w .logs) (w .work)
-
-      first : ℕ
-      first = firstAt (c .table) (placeOf (c .table) number)
-
-      go : (b : Bool) → cond b (ringThenBuffer (c .sizes) read tail stop first) end ≡ ringThenBuffer (c .sizes) read tail stop (cond b first stop)
-      go true = refl
-      go false = sym (parts-end (c .sizes) read tail stop (tail-end (c .logs) (diskOf c number)) stop (omega arith))
-
-  -- with no malformed record it is the whole as one log
-  as-one : ending parts ≡ end → parts ≡ sc
-  unfolding partsFrom logFrom
-  as-one sound =
-      parts-as-one (c .sizes) (reader (c .sizes) (c .logs) (at .disk) (w .logs) (w .work)) (tailOf (c .logs) (at .disk)) (endOf (c .logs) (at .disk))
-      (tail-end (c .logs) (at .disk)) (at .from) sound
-
-  -- the fault that an abort answers
-  abbrev long : Fault
-  long = cond (ltb (at .words) (updateWords (updatesIn number parts))) (BadRecord (at .disk) (at .first)) NoFault
-
-  fault-is : abortFault c w number ≡ faultIn (at .disk) parts long
-  unfolding abortFault updatesLeft scopeOf
-  fault-is = rw scope-reads (rw is refl)
-
-  module _ {malformed : Fault} (e : malformed ≡ faultIn (at .disk) parts NoFault) where
-    pub fault-malformed : (d q : ℕ) → malformed ≡ BadRecord d q → BadRecord d q ≡ abortFault c w number
-    fault-malformed d q b = sym (fault-is ∙ fault-own (at .disk) parts long (sym e ∙ b))
-
-    module _ (none : malformed ≡ NoFault) (words : ℕ) (count : words ≡ updateWords (updatesIn number sc)) where
-      sound : ending parts ≡ end
-      sound = sound-end (at .disk) parts (sym e ∙ none)
-
-      clean : abortFault c w number ≡ cond (ltb (at .words) words) (BadRecord (at .disk) (at .first)) NoFault
-      clean = fault-is ∙ fault-end (at .disk) parts long sound ∙ rw (as-one sound, ← count) refl
-
-      pub fault-long : at .words < words → BadRecord (at .disk) (at .first) ≡ abortFault c w number
-      fault-long more = sym (clean ∙ rw (lt-ltb (at .words) words more) refl)
-
-      pub fault-none : words ≤ at .words → NoFault ≡ abortFault c w number
-      fault-none few = sym (clean ∙ rw (le-ltb (at .words) words few) refl)
-
-  pub scope-disk : at .disk ≡ diskOf c number
-  unfolding scopeOf
-  scope-disk = rw is refl
-
-  -- the log that is read lies behind its start
-  behind-start : servingSound c ≡ true → startOf (c .logs) (diskOf c number) ≤ at .from
-  unfolding scopeOf diskOf
-  behind-start state = rw is (go (hasUpdate (c .table) (placeOf (c .table) number)) refl)
-    where
-      go : (b : Bool) → hasUpdate (c .table) (placeOf (c .table) number) ≡ b
-          → startOf (c .logs) (diskOf c number) ≤ cond b (firstAt (c .table) (placeOf (c .table) number)) (endOf (c .logs) (diskOf c number))
-      go true e = open-entry c number state opened .sound .first e .0
-      go false e =
-          omega (arith, disk-sound c (diskOf c number) state (open-below c number state opened) .ordered, tail-end (c .logs) (diskOf c number))
-
-  -- and is no longer than the ring
-  pub scope-near : servingSound c ≡ true → endOf (c .logs) (at .disk) ≤ at .from + 65536
-  unfolding ringOf
-  scope-near state =
-      let mine = open-entry c number state opened in
-      let room = own-room c number state opened 0 (omega arith) in
-      rw scope-disk
-      (omega (arith, room .0, behind-start state, kept-le (c .logs) (diskOf c number), bounded (c .sizes) (sizes-sound c state) .ring-max))
-
-  -- where there is none, its updates are those of the log as one, and can be taken back
-  module _ (none : abortFault c w number ≡ NoFault) where
-    whole : ending parts ≡ end
-    whole = sound-end (at .disk) parts (rw (fault-rest (at .disk) parts long (sym fault-is ∙ none)) at (sym fault-is ∙ none))
-
-    pub scope-updates : updatesLeft c w number ≡ updatesIn number sc
-    unfolding updatesLeft
-    scope-updates = ap (updatesIn number) (scope-reads ∙ as-one whole)
-
-    pub scope-undoable : Serves c (w .logs) (w .work) → length (w .pages) ≡ total (c .sizes)
-        → Undoable (c .sizes) (c .logs) (at .disk) number (at .from) (w .pages) (w .logs) (w .work)
-    scope-undoable serves right =
-        let few = abort-words c w number (rw none refl) in
-        let mine = open-entry c number (serves .state) opened in
-        let room = own-room c number (serves .state) opened (updateWords (updatesLeft c w number)) (omega (arith, mine .sound .reserved)) in
-        record {
-          serving = scope-serves c number serves opened is;
-          page-words = right;
-          ring = rw (← scope-updates, scope-disk) (omega (arith, room .0, behind-start (serves .state), kept-le (c .logs) (diskOf c number)));
-          in-limit = rw (← scope-updates, scope-disk) (room .1);
-        }
+pub abort-standing : (h : Carried) (w : World) (number : ℕ) {r : ℕ}
+    → r ≡ lentRefusal (whenServing (h .stage)) (h .pages) (h .disks) (h .ring) (h .total) (length (w .anchor)) (length (w .pages)) (length (w .backups)) (length (w .logs)) (length (w .work))
+    → r ≡ 0 → {t : Target} → (ownWork h (w .work) ≡ true → Read (coreOf h (w .work)) number t)
+    → {q : ℕ} → q ≡ abortRefusal (t .refusal) (length (w .anchor)) → q ≡ 0 → Standing h w number t
+unfolding coreOf
+abort-standing h w number answer none {t} entered {q} later last =
+    let ready = lent-ready h w answer none in
+    let own = own-ready h w ready in
+    let is = entered own .refusal in
+    let read = entered own .ready (found-none h w number answer none is later last) in
+    let fits = placed (read .entry .fits) in
+    record {
+      ready = ready;
+      own = own;
+      read = read;
+      opened = found-open h w number answer none is later last;
+      placed = fits;
+      low = omega (arith, scope-disk read, fits .below, ready .counts .disks-max);
+      rows = by-rows h w number answer none is later ∙ rw (eq-eqb q 0 last) refl;
+    }

@@ -29,16 +29,16 @@ ran-xor budget at diff w = pages-written budget at (xors (part at (length diff) 
 
 module _ (s : Sizes) (l : Logs) (w : World) (number disk : ℕ) (u : Update) {budget rest : ℕ} {v : World} {diff : List ℕ} {r : Progress}
     (same : diff ≡ u .diff)
-    (did : Did budget rest
+    (did : Did disk budget rest
     (append s l (w .work) disk (encode (change compensationKind (u .page) (u .slot) number (copyOf s (w .work) (u .page)) diff))) w v r) where
   -- the append was cut
-  pub compensated-cut : r .finished ≡ false → Did budget rest (compensate s l w number disk u) w v r
+  pub compensated-cut : r .finished ≡ false → Did disk budget rest (compensate s l w number disk u) w v r
   unfolding compensate
   compensated-cut e = rw (← same) (record { ran = rw e (ran-cut (did .ran) _ e); state = did .state })
 
   -- it was not
   pub compensated-whole : r .finished ≡ true → v .pages ≡ w .pages → {at : ℕ} → at ≡ slotBase s (u .page) (u .slot) → (after : List ℕ)
-      → after ≡ xorAt at diff (w .pages) → Did budget rest (compensate s l w number disk u) w (withPages v after) r
+      → after ≡ xorAt at diff (w .pages) → Did disk budget rest (compensate s l w number disk u) w (withPages v after) r
   unfolding compensate
   compensated-whole e kept {at} place after is =
       let next : Ran rest rest (xorIn at diff (w .pages)) v (withPages v after) true = rw (is, ← kept) (ran-xor rest at diff v) in

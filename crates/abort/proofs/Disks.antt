@@ -21,11 +21,13 @@ use Rattle.log.specs.declared.read.Extent.{Extent}
 use Rattle.log.specs.Reading.{LiesAt, extentOf, OfDisk, Readable}
 use Rattle.log.specs.Write.{Within, Encodable, Appends}
 use Rattle.log.proofs.Ready.{lies-there, disk-there, tail-there, end-there, readable}
-use Rattle.frame.specs.Home.{homeOf, withDisk}
+use Rattle.frame.specs.Home.{homeOf}
 use Rattle.frame.proofs.Homes.{home-fits}
+use Rattle.abort.specs.declared.window.Tip.{Tip}
 use Rattle.abort.specs.declared.window.Window.{Window}
 use Rattle.abort.specs.declared.record.Progress.{Progress}
-use Rattle.abort.specs.Undo.{windowOf, Serving, InSlot, reader, Did}
+use Rattle.abort.specs.Undo.{onlyLog, windowOf, Serving, InSlot, reader, Did}
+use Rattle.abort.proofs.Tips.{tip-moved}
 
 -- the bounds that the code's sums and indexes rely on
 pub record Small (s : Sizes) (disk : ℕ) (work : List ℕ) : Type 0 where
@@ -122,8 +124,8 @@ module _ {s : Sizes} {l : Logs} {disk : ℕ} {logs work : List ℕ} (at : Servin
       lent-reader = rw lent-tail lent-here
 
   -- the disk as an append takes it
-  pub home-asked : (disk < s .disks) × (s .disks ≤ 8) × (s .ring ≤ 65536)
-  home-asked = (at .disk-below, bounds .disks-max, bounds .ring-max)
+  pub home-asked : (disk < 8) × (s .ring ≤ 65536)
+  home-asked = (small .below, bounds .ring-max)
 
   pub home-lies : {h : Home} → h ≡ homeOf s l disk → Within h logs work
   home-lies e = rw e (home-fits s (total s) l logs work disk (omega (arith, bounds .ring-min)) (at .log-words) (at .work-words) (at .disk-below) fill-small (at .end-small))
@@ -149,11 +151,13 @@ module _ {s : Sizes} {l : Logs} {disk : ℕ} {logs work : List ℕ} (at : Servin
         width-small = omega (arith, there .width-is, used .width-max);
       }
 
--- what the answer of an append says of the state after it
-pub appended : {budget rest : ℕ} {s : Sizes} {l : Logs} {disk : ℕ} {words : List ℕ} {w v : World} {added : Logged}
-    → Appends budget rest s l disk words w v added → (p : Progress)
-    → (p .finished ≡ added .finished)
-    × (p .logs ≡ withDisk l disk (added .tail) (added .fill))
-    → Did budget rest (append s l (w .work) disk words) w v p
-appended did p e =
-    record { ran = rw (e .0) (did .ran); state = λ f. e .1 ∙ sym (did .state (sym (e .0) ∙ f)) }
+-- what the answer of an append says of the log after it
+pub appended : {budget rest : ℕ} {s : Sizes} {disk : ℕ} (tip : Tip) {words : List ℕ} {w v : World} {added : Logged}
+    → Appends budget rest s (onlyLog disk tip) disk words w v added → (p : Progress)
+    → (p .finished ≡ added .finished) × (p .tip .tail ≡ added .tail) × (p .tip .fill ≡ added .fill)
+    → Did disk budget rest (append s (onlyLog disk tip) (w .work) disk words) w v p
+appended {disk = disk} tip did p e =
+    record {
+      ran = rw (e .0) (did .ran);
+      state = λ f. sym (did .state (sym (e .0) ∙ f) ∙ rw (← e .1, ← e .2) (tip-moved disk tip (p .tip)));
+    }

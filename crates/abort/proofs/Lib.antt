@@ -1,4 +1,5 @@
 -- A disk of a serving state, as the functions of `log` are lent it; words taken out of its log.
+pub mod Tips
 pub mod Disks
 pub mod Malformed
 pub mod Spans
@@ -12,6 +13,10 @@ pub mod Pending
 pub mod OneLeft
 pub mod Noting
 -- The call.
-pub mod Aborts
+pub mod Scopes
+pub mod Apart
+pub mod Examining
 pub mod Rolled
-pub mod Given
+pub mod Aborts
+pub mod ReadLog
+pub mod Closing

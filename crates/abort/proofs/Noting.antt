@@ -20,7 +20,7 @@ use Rattle.log.specs.Reading.{positionsIn}
 use Rattle.log.specs.Front.{Gathered}
 use Rattle.abort.specs.declared.notes.Notes.{Notes}
 use Rattle.abort.specs.declared.record.Progress.{Progress}
-use Rattle.abort.specs.Undo.{Did, reader, logFrom, updateRead, Undoable}
+use Rattle.abort.specs.Undo.{onlyLog, Did, reader, logFrom, updateRead, Undoable}
 use Rattle.abort.specs.Groups.{Noted, lastFirst, Takeable}
 use Rattle.abort.proofs.Disks.{bounds}
 use Rattle.abort.proofs.Standing.{four-each, listed}
@@ -118,9 +118,9 @@ module _ (s : Sizes) (disk number from : ℕ) (l₀ : Logs) (pages₀ logs₀ wo
       mine = lastFirst (updateRead (reader s l disk logs work)) (take (g .count) (g .at))
 
       pub group-cut : (anchor backups : List ℕ) {rest : ℕ} {v : World} {part : Progress}
-          → Did budget rest (undoAll s l (worldOf anchor pages backups logs work) number disk mine) (worldOf anchor pages backups logs work) v part
+          → Did disk budget rest (undoAll s l (worldOf anchor pages backups logs work) number disk mine) (worldOf anchor pages backups logs work) v part
           → part .finished ≡ false
-          → Did budget₀ rest (undoAll s l₀ (worldOf anchor pages₀ backups logs₀ work₀) number disk (updatesIn number (logFrom s l₀ disk logs₀ work₀ from)))
+          → Did disk budget₀ rest (undoAll s l₀ (worldOf anchor pages₀ backups logs₀ work₀) number disk (updatesIn number (logFrom s l₀ disk logs₀ work₀ from)))
           (worldOf anchor pages₀ backups logs₀ work₀) v part
       group-cut anchor backups did e =
           rw all-updates
@@ -128,8 +128,8 @@ module _ (s : Sizes) (disk number from : ℕ) (l₀ : Logs) (pages₀ logs₀ wo
 
       pub group-step : {pages′ logs′ work′ : List ℕ} {rest : ℕ} {part : Progress} → part .finished ≡ true
           → ((anchor backups : List ℕ)
-          → Did budget rest (undoAll s l (worldOf anchor pages backups logs work) number disk mine)
+          → Did disk budget rest (undoAll s l (worldOf anchor pages backups logs work) number disk mine)
           (worldOf anchor pages backups logs work) (worldOf anchor pages′ backups logs′ work′) part)
-          → Pending s disk number l₀ pages₀ logs₀ work₀ budget₀ all (part .logs) pages′ logs′ work′ rest (take (128 * (k - 1)) all)
+          → Pending s disk number l₀ pages₀ logs₀ work₀ budget₀ all (onlyLog disk (part .tip)) pages′ logs′ work′ rest (take (128 * (k - 1)) all)
       group-step finished did =
           pending-step s disk number l₀ pages₀ logs₀ work₀ budget₀ all all-takeable (take (128 * (k - 1)) all) _ left finished did

@@ -13,7 +13,7 @@ use Rattle.model.specs.State.{endOf}
 use Rattle.model.specs.Abort.{compensate, undoAll}
 use Rattle.abort.specs.declared.difference.Site.{Site}
 use Rattle.abort.specs.declared.record.Progress.{Progress}
-use Rattle.abort.specs.Undo.{Serving, Did, reader, siteAt, updateRead, updateAt, Compensable}
+use Rattle.abort.specs.Undo.{onlyLog, Serving, Did, reader, siteAt, updateRead, updateAt, Compensable}
 use Rattle.abort.specs.Groups.{lastFirst, Takeable}
 use Rattle.abort.proofs.Undone.{undone-one}
 use Rattle.abort.proofs.Pending.{Pending, pending-takeable, pending-cut, pending-step}
@@ -50,15 +50,15 @@ module _ (s : Sizes) (disk number : ℕ) (l₀ : Logs) (pages₀ logs₀ work₀
         (record { serving = takeable .serving; page-words = takeable .page-words; slotted = there .slotted; inside = there .inside })
 
     -- what takes it back takes back a list of one
-    alone : (w : World) {rest : ℕ} {v : World} {one : Progress} → Did budget rest (compensate s l w number disk (updateAt s l disk logs work site)) w v one
-        → Did budget rest (undoAll s l w number disk (lastFirst (updateRead read) (q ∷ []))) w v one
+    alone : (w : World) {rest : ℕ} {v : World} {one : Progress} → Did disk budget rest (compensate s l w number disk (updateAt s l disk logs work site)) w v one
+        → Did disk budget rest (undoAll s l w number disk (lastFirst (updateRead read) (q ∷ []))) w v one
     unfolding siteAt updateAt updateRead lastFirst
     alone w did = undone-one s number disk l w (updateRead read q) (rw is at did)
 
     pub one-cut : (anchor backups : List ℕ) {rest : ℕ} {v : World} {one : Progress}
-        → Did budget rest (compensate s l (worldOf anchor pages backups logs work) number disk (updateAt s l disk logs work site))
+        → Did disk budget rest (compensate s l (worldOf anchor pages backups logs work) number disk (updateAt s l disk logs work site))
         (worldOf anchor pages backups logs work) v one → one .finished ≡ false
-        → Did budget₀ rest (undoAll s l₀ (worldOf anchor pages₀ backups logs₀ work₀) number disk (lastFirst (updateRead (reader s l₀ disk logs₀ work₀)) all))
+        → Did disk budget₀ rest (undoAll s l₀ (worldOf anchor pages₀ backups logs₀ work₀) number disk (lastFirst (updateRead (reader s l₀ disk logs₀ work₀)) all))
         (worldOf anchor pages₀ backups logs₀ work₀) v one
     one-cut anchor backups did e =
         pending-cut s disk number l₀ pages₀ logs₀ work₀ budget₀ all ok (take (n - 1) at) (q ∷ []) left anchor backups
@@ -66,9 +66,9 @@ module _ (s : Sizes) (disk number : ℕ) (l₀ : Logs) (pages₀ logs₀ work₀
 
     pub one-step : {pages′ logs′ work′ : List ℕ} {rest : ℕ} {one : Progress} → one .finished ≡ true
         → ((anchor backups : List ℕ)
-        → Did budget rest (compensate s l (worldOf anchor pages backups logs work) number disk (updateAt s l disk logs work site))
+        → Did disk budget rest (compensate s l (worldOf anchor pages backups logs work) number disk (updateAt s l disk logs work site))
         (worldOf anchor pages backups logs work) (worldOf anchor pages′ backups logs′ work′) one)
-        → Pending s disk number l₀ pages₀ logs₀ work₀ budget₀ all (one .logs) pages′ logs′ work′ rest (take (n - 1) at)
+        → Pending s disk number l₀ pages₀ logs₀ work₀ budget₀ all (onlyLog disk (one .tip)) pages′ logs′ work′ rest (take (n - 1) at)
     one-step finished did =
         pending-step s disk number l₀ pages₀ logs₀ work₀ budget₀ all ok (take (n - 1) at) (q ∷ []) left finished
         (λ anchor backups. alone (worldOf anchor pages backups logs work) (did anchor backups))

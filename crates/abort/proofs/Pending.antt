@@ -19,8 +19,9 @@ use Rattle.model.proofs.Updates.{update-words-append}
 use Rattle.model.proofs.Growth.{SizedLogs, Longer}
 use Rattle.model.proofs.Sound.Abort.{undo-grown}
 use Rattle.device.proofs.Ran.{ran-whole}
+use Rattle.abort.specs.declared.window.Tip.{Tip}
 use Rattle.abort.specs.declared.record.Progress.{Progress}
-use Rattle.abort.specs.Undo.{Serving, Did, reader, updateRead}
+use Rattle.abort.specs.Undo.{onlyLog, Serving, Did, reader, updateRead}
 use Rattle.abort.specs.Groups.{lastFirst, Standing, Takeable}
 use Rattle.abort.proofs.Disks.{small, slim}
 use Rattle.abort.proofs.Standing.{last-first-append, last-first-same, last-first-every, length-read, read-same}
@@ -49,8 +50,8 @@ module _ (s : Sizes) (disk number : ℕ) (l₀ : Logs) (pages₀ logs₀ work₀
     pub page-words : length pages ≡ total s
     -- what takes back those that are left takes back all
     pub follows : (anchor backups : List ℕ) (rest : ℕ) (v : World) (r : Progress)
-        → Did budget rest (undoAll s l (worldOf anchor pages backups logs work) number disk (taken left)) (worldOf anchor pages backups logs work) v r
-        → Did budget₀ rest (undoAll s l₀ (worldOf anchor pages₀ backups logs₀ work₀) number disk (taken all)) (worldOf anchor pages₀ backups logs₀ work₀) v r
+        → Did disk budget rest (undoAll s l (worldOf anchor pages backups logs work) number disk (taken left)) (worldOf anchor pages backups logs work) v r
+        → Did disk budget₀ rest (undoAll s l₀ (worldOf anchor pages₀ backups logs₀ work₀) number disk (taken all)) (worldOf anchor pages₀ backups logs₀ work₀) v r
 
   module _ (ok : Takeable s l₀ disk all pages₀ logs₀ work₀) where
     -- before the first of them
@@ -67,15 +68,15 @@ module _ (s : Sizes) (disk number : ℕ) (l₀ : Logs) (pages₀ logs₀ work₀
           follows = λ anchor backups rest v r did. did;
         }
 
-    module _ {l : Logs} {pages logs work : List ℕ} {budget : ℕ} where
-      -- none is left
-      pub pending-last : Pending l pages logs work budget [] → (anchor backups : List ℕ)
-          → Did budget₀ budget (undoAll s l₀ (worldOf anchor pages₀ backups logs₀ work₀) number disk (taken all)) (worldOf anchor pages₀ backups logs₀ work₀)
-          (worldOf anchor pages backups logs work) (record { finished = true; logs = l })
-      unfolding lastFirst
-      pending-last p anchor backups =
-          p .follows anchor backups budget _ _ (undone-none s number disk l (worldOf anchor pages backups logs work) budget)
+    -- none is left
+    pub pending-last : {tip : Tip} {pages logs work : List ℕ} {budget : ℕ} → Pending (onlyLog disk tip) pages logs work budget [] → (anchor backups : List ℕ)
+        → Did disk budget₀ budget (undoAll s l₀ (worldOf anchor pages₀ backups logs₀ work₀) number disk (taken all)) (worldOf anchor pages₀ backups logs₀ work₀)
+        (worldOf anchor pages backups logs work) (record { finished = true; tip = tip })
+    unfolding lastFirst
+    pending-last {tip} {pages} {logs} {work} {budget} p anchor backups =
+        p .follows anchor backups budget _ _ (undone-none s number disk tip (worldOf anchor pages backups logs work) budget)
 
+    module _ {l : Logs} {pages logs work : List ℕ} {budget : ℕ} where
       -- the last of those that are left
       module _ (rest group : List ℕ) (p : Pending l pages logs work budget (rest ++ group)) where
         abbrev now-read : ℕ → ℕ
@@ -126,9 +127,9 @@ module _ (s : Sizes) (disk number : ℕ) (l₀ : Logs) (pages₀ logs₀ work₀
 
         -- they are cut
         pub pending-cut : (anchor backups : List ℕ) {last : ℕ} {v : World} {part : Progress}
-            → Did budget last (undoAll s l (worldOf anchor pages backups logs work) number disk some) (worldOf anchor pages backups logs work) v part
+            → Did disk budget last (undoAll s l (worldOf anchor pages backups logs work) number disk some) (worldOf anchor pages backups logs work) v part
             → part .finished ≡ false
-            → Did budget₀ last (undoAll s l₀ (worldOf anchor pages₀ backups logs₀ work₀) number disk (taken all)) (worldOf anchor pages₀ backups logs₀ work₀) v part
+            → Did disk budget₀ last (undoAll s l₀ (worldOf anchor pages₀ backups logs₀ work₀) number disk (taken all)) (worldOf anchor pages₀ backups logs₀ work₀) v part
         pending-cut anchor backups {last} {v} {part} did e =
             p .follows anchor backups last v part
             (rw split (undone-cut s number disk l (worldOf anchor pages backups logs work) some (taken rest) did e))
@@ -136,18 +137,18 @@ module _ (s : Sizes) (disk number : ℕ) (l₀ : Logs) (pages₀ logs₀ work₀
         -- they are taken back: the others are left
         module _ {pages′ logs′ work′ : List ℕ} {last : ℕ} {part : Progress} (finished : part .finished ≡ true)
             (did : (anchor backups : List ℕ)
-            → Did budget last (undoAll s l (worldOf anchor pages backups logs work) number disk some)
+            → Did disk budget last (undoAll s l (worldOf anchor pages backups logs work) number disk some)
             (worldOf anchor pages backups logs work) (worldOf anchor pages′ backups logs′ work′) part) where
           abbrev w : World
           w = worldOf [] pages [] logs work
 
-          state : part .logs ≡ undoAll s l w number disk some .logs
+          state : onlyLog disk (part .tip) ≡ undoAll s l w number disk some .logs
           state = did [] [] .state finished
 
-          grown : Longer s disk (updateWords some) l (part .logs)
+          grown : Longer s disk (updateWords some) l (onlyLog disk (part .tip))
           grown = rw state (undo-grown s l w number disk some (p .sized) (p .serving .fills-small) (small (p .serving) .below) short)
 
-          unread : (q : ℕ) → q < endOf l₀ disk → full ≤ q + ringOf s disk → now-read q ≡ reader s (part .logs) disk logs′ work′ q
+          unread : (q : ℕ) → q < endOf l₀ disk → full ≤ q + ringOf s disk → now-read q ≡ reader s (onlyLog disk (part .tip)) disk logs′ work′ q
           unfolding bufferAt
           unread q h k =
               let b = small (p .serving) in
@@ -157,7 +158,7 @@ module _ (s : Sizes) (disk number : ℕ) (l₀ : Logs) (pages₀ logs₀ work₀
               (omega (arith, fits, p .serving .log-words)) (omega (arith, b .buffer)) short q (omega (arith, p .longer)) (omega (arith, p .ends, words)) in
               rw state (sym (rw (ran-whole (did [] [] .ran) finished) at e))
 
-          pub pending-step : Pending (part .logs) pages′ logs′ work′ last rest
+          pub pending-step : Pending (onlyLog disk (part .tip)) pages′ logs′ work′ last rest
           pending-step =
               record {
                 among = λ q m. p .among q (Memᴰ·append-left group m);

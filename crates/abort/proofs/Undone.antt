@@ -13,11 +13,12 @@ use Rattle.model.proofs.Booleans.{true-false}
 use Rattle.model.proofs.Run.{SameLengths, perform-append, run-lengths}
 use Rattle.device.proofs.Memory.{ran-none}
 use Rattle.device.proofs.Ran.{ran-whole, ran-then, ran-cut}
+use Rattle.abort.specs.declared.window.Tip.{Tip}
 use Rattle.abort.specs.declared.record.Progress.{Progress}
-use Rattle.abort.specs.Undo.{Did}
+use Rattle.abort.specs.Undo.{onlyLog, Did}
 
 -- every list keeps its length
-pub did-lengths : {budget rest : ℕ} {added : Appended} {w v : World} {r : Progress} → Did budget rest added w v r → SameLengths v w
+pub did-lengths : {disk budget rest : ℕ} {added : Appended} {w v : World} {r : Progress} → Did disk budget rest added w v r → SameLengths v w
 did-lengths {budget} {added = added} {w = w} did = rw (did .ran .world) (run-lengths budget (added .actions) w)
 
 module _ (s : Sizes) (number disk : ℕ) where
@@ -39,26 +40,27 @@ module _ (s : Sizes) (number disk : ℕ) where
       let e = undo-append (one .logs) (perform (one .actions) w) us vs in
       rw (e, perform-append (one .actions) (some .actions) w, append-assoc (one .actions) (some .actions) (after some (perform (one .actions) w) vs .actions)) refl
 
-  module _ (l : Logs) (w : World) where
-    -- none is left
-    pub undone-none : (budget : ℕ) → Did budget budget (undoAll s l w number disk []) w w (record { finished = true; logs = l })
-    unfolding undoAll
-    undone-none budget = record { ran = ran-none budget w; state = λ _. refl }
+  -- none is left
+  pub undone-none : (tip : Tip) (w : World) (budget : ℕ)
+      → Did disk budget budget (undoAll s (onlyLog disk tip) w number disk []) w w (record { finished = true; tip = tip })
+  unfolding undoAll
+  undone-none tip w budget = record { ran = ran-none budget w; state = λ _. refl }
 
+  module _ (l : Logs) (w : World) where
     -- one
-    pub undone-one : (u : Update) {budget rest : ℕ} {v : World} {r : Progress} → Did budget rest (compensate s l w number disk u) w v r
-        → Did budget rest (undoAll s l w number disk (u ∷ [])) w v r
+    pub undone-one : (u : Update) {budget rest : ℕ} {v : World} {r : Progress} → Did disk budget rest (compensate s l w number disk u) w v r
+        → Did disk budget rest (undoAll s l w number disk (u ∷ [])) w v r
     unfolding undoAll
     undone-one u did = rw append-nil (record { ran = did .ran; state = did .state })
 
-    module _ (us vs : List Update) {budget rest : ℕ} {v : World} {some : Progress} (did : Did budget rest (undoAll s l w number disk us) w v some) where
+    module _ (us vs : List Update) {budget rest : ℕ} {v : World} {some : Progress} (did : Did disk budget rest (undoAll s l w number disk us) w v some) where
       -- some are taken back, and the others follow
-      pub undone-then : some .finished ≡ true → {last : ℕ} {x : World} {r : Progress} → Did rest last (undoAll s (some .logs) v number disk vs) v x r
-          → Did budget last (undoAll s l w number disk (us ++ vs)) w x r
+      pub undone-then : some .finished ≡ true → {last : ℕ} {x : World} {r : Progress} → Did disk rest last (undoAll s (onlyLog disk (some .tip)) v number disk vs) v x r
+          → Did disk budget last (undoAll s l w number disk (us ++ vs)) w x r
       undone-then e next =
           rw (undo-append l w us vs, ran-whole (did .ran) e, ← did .state e)
           (record { ran = ran-then (did .ran) _ e (next .ran); state = next .state })
 
       -- they are cut
-      pub undone-cut : some .finished ≡ false → Did budget rest (undoAll s l w number disk (us ++ vs)) w v some
+      pub undone-cut : some .finished ≡ false → Did disk budget rest (undoAll s l w number disk (us ++ vs)) w v some
       undone-cut e = rw (undo-append l w us vs) (record { ran = rw e (ran-cut (did .ran) _ e); state = λ f. true-false f e })

@@ -3,7 +3,7 @@ use mathlib.Core.Path.{_≡_}
 use mathlib.Core.List.{List}
 use mathlib.Core.Bool.{true}
 use Prim.Native.Nat.{ℕ, _+_, _≤_, _<_}
-use lib.ListN.{length}
+use lib.ListN.{length, replicate}
 use Rattle.model.specs.declared.Sizes.{Sizes}
 use Rattle.model.specs.declared.Logs.{Logs}
 use Rattle.model.specs.Sizes.{slotsIn, widthIn, ringOf, total, logWords, sizesInBounds}
@@ -11,12 +11,18 @@ use Rattle.model.specs.Decode.{readLog, span, pageField, slotField, widthField}
 use Rattle.model.specs.Scan.{Scan, scan, ringThenBuffer, Update, updatesIn, updateWords}
 use Rattle.model.specs.World.{World}
 use Rattle.model.specs.Memory.{bufferAt, workWords, bufferOf}
-use Rattle.model.specs.State.{limit, tailOf, fillOf, endOf}
+use Rattle.model.specs.State.{limit, emptyLogs, tailOf, fillOf, endOf}
 use Rattle.model.specs.Append.{Appended}
 use Rattle.device.specs.Ran.{Ran}
+use Rattle.frame.specs.Home.{withDisk}
 use Rattle.abort.specs.declared.difference.Site.{Site}
+use Rattle.abort.specs.declared.window.Tip.{Tip}
 use Rattle.abort.specs.declared.window.Window.{Window}
 use Rattle.abort.specs.declared.record.Progress.{Progress}
+
+-- An abort reads and writes the log of one disk, of which it has the numbers; for the others stand empty ones.
+unfoldable pub onlyLog : (disk : ℕ) → Tip → Logs
+onlyLog disk t = withDisk (emptyLogs (replicate 8 0)) disk (t .tail) (t .fill)
 
 -- a disk's log: its tail, its end, and where the buffered words lie in the work memory
 unfoldable pub windowOf : Logs → ℕ → Window
@@ -43,10 +49,10 @@ pub record InSlot (s : Sizes) (page slot width : ℕ) : Type 0 where
   pub slot-in : slot < slotsIn s page
   pub width-is : width ≡ widthIn s page
 
--- Actions run as far as a budget goes, and the logs' part of the state after them.
-pub record Did (budget rest : ℕ) (added : Appended) (before after : World) (r : Progress) : Type 0 where
+-- Actions run as far as a budget goes, and where the disk's log ends after them.
+pub record Did (disk budget rest : ℕ) (added : Appended) (before after : World) (r : Progress) : Type 0 where
   pub ran : Ran budget rest (added .actions) before after (r .finished)
-  pub state : r .finished ≡ true → r .logs ≡ added .logs
+  pub state : r .finished ≡ true → onlyLog disk (r .tip) ≡ added .logs
 
 -- a disk's log as it is read, ring then buffer
 abbrev pub reader : Sizes → Logs → ℕ → List ℕ → List ℕ → ℕ → ℕ

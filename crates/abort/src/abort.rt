@@ -3,91 +3,87 @@ use crate::fault::examine;
 use crate::notes::Notes;
 use crate::record::Progress;
 use crate::record::log_close;
-use crate::scope::scope_of;
+use crate::scope::find_scope;
 use crate::undo::undo_all;
-use frame::checks::common_refusal;
-use frame::settle::refuse;
-use frame::settle::refuse_at;
-use frame::settle::settle;
-use frame::stages::When;
-use model::Core;
+use crate::window::Tip;
+use frame::handed::cut;
+use frame::handed::finished;
+use frame::handed::refused;
+use frame::handed::refused_at;
+use frame::lent::lent_refusal;
+use head::places::HEAD_WORDS;
+use head::table::leave;
+use head::table::set_fill;
+use layout::anchor::ANCHOR_WORDS;
+use model::Carried;
 use model::Fault;
-use model::Logs;
-use model::Reply;
-use table::place::is_open;
-use table::place::place_of;
-use table::place::without;
+use model::Handed;
+use model::Sizes;
+use words::saturating_sub;
 ghost use mathlib.Core.Path.{_≡_};
-ghost use mathlib.Core.List.{List, []};
-ghost use mathlib.Core.Bool.{true};
-ghost use Prim.Native.Nat.{ℕ, _<_};
+ghost use mathlib.Core.List.{List};
+ghost use Prim.Native.Nat.{ℕ, _≤_, _<_};
 ghost use lib.ListN.{length};
-ghost use Rattle.model.specs.declared.Fault.the-variants.{NoFault};
-ghost use Rattle.model.specs.Sizes.{total};
+ghost use Rattle.model.specs.Scan.{scan, updatesIn};
 ghost use Rattle.model.specs.World.{worldOf};
 ghost use Rattle.model.specs.Moments.{old, new, oldWorld};
-ghost use Rattle.model.specs.State.{placeOf, isOpen, without, withLog};
-ghost use Rattle.model.specs.Transaction.{diskOf};
-ghost use Rattle.model.specs.Abort.{abortFault};
-ghost use Rattle.model.specs.Call.{abort, Gives};
-ghost use Rattle.frame.specs.Home.{Serves};
-ghost use Rattle.abort.specs.Undo.{Did};
-ghost use Rattle.abort.specs.Scope.{rolledBack, NotedFor};
+ghost use Rattle.model.specs.State.{places, endOf};
+ghost use Rattle.model.specs.Call.{abort};
+ghost use Rattle.model.specs.View.{headWords, Serves};
+ghost use Rattle.model.specs.Fields.{putWords};
+ghost use Rattle.abort.specs.Undo.{onlyLog, Did, reader, logFrom, Undoable};
+ghost use Rattle.abort.specs.Groups.{Noted};
+ghost use Rattle.abort.specs.Scope.{rollingBack, closed, abortRefusal};
+
+// Rows 1, 2 and 9, where the lengths other than the anchor's are right.
+fn abort_refusal(found: u64, anchor: usize) -> u64
+    ensures { λ r. ⌜ r ≡ abortRefusal found anchor ⌝ }
+{
+    if found == 1 {
+        return 1;
+    }
+    if anchor == ANCHOR_WORDS { found } else { 2 }
+}
 
 // The work: every update taken back, then the closing record, as far as the budget goes.
 fn roll_back(
-    core: Core,
+    sizes: Sizes,
+    tip: Tip,
+    disk: u64,
     number: u64,
+    notes: Notes,
     pages: &mut [u64],
     logs: &mut [u64],
     work: &mut [u64],
     budget: &mut u64,
-    notes: Notes,
 ) -> Progress
-    requires { ⌜ Serves core (now logs) (now work) × (isOpen (core .table) number ≡ true) × (length (now pages) ≡ total (core .sizes)) ⌝ }
-    requires { ⌜ (abortFault core (worldOf [] (now pages) [] (now logs) (now work)) number ≡ NoFault) × NotedFor core number (now logs) (now work) notes ⌝ }
-    ensures { λ r. ⌜ ((anchor backups : List ℕ) → Did (now (budget .entry)) (now (budget .exit))
-        (rolledBack core (worldOf anchor (now (pages .entry)) backups (now (logs .entry)) (now (work .entry))) number)
+    requires { ⌜ Undoable sizes (onlyLog disk tip) disk number (notes .from) (now pages) (now logs) (now work) ⌝ }
+    requires { ⌜ Noted number (scan sizes (reader sizes (onlyLog disk tip) disk (now logs) (now work)) (endOf (onlyLog disk tip) disk)) (notes .from) notes ⌝ }
+    ensures { λ r. ⌜ ((anchor backups : List ℕ) → Did disk (now (budget .entry)) (now (budget .exit))
+        (rollingBack sizes (onlyLog disk tip) (worldOf anchor (now (pages .entry)) backups (now (logs .entry)) (now (work .entry))) number disk
+        (updatesIn number (logFrom sizes (onlyLog disk tip) disk (now (logs .entry)) (now (work .entry)) (notes .from))))
         (worldOf anchor (now (pages .entry)) backups (now (logs .entry)) (now (work .entry)))
         (worldOf anchor (now (pages .exit)) backups (now (logs .exit)) (now (work .exit))) r) ⌝ }
 {
-    let at = scope_of(core, number);
-    let sizes = core.sizes;
-    let heads = core.logs;
-    let undone = undo_all(
-        sizes,
-        heads,
-        at.disk,
-        number,
-        notes,
-        pages,
-        logs,
-        work,
-        budget,
-    );
+    let undone = undo_all(sizes, tip, disk, number, notes, pages, logs, work, budget);
     if !undone.finished {
         return undone;
     }
-    let reached = undone.logs;
-    log_close(sizes, reached, at.disk, number, logs, work, budget)
+    let reached = undone.tip;
+    log_close(sizes, reached, disk, number, logs, work, budget)
 }
 
-// The state with the logs that the work leaves, and without the transaction.
-fn closed(core: Core, number: u64, logs: Logs) -> Core
-    requires { ⌜ (placeOf (core .table) number < 16) × (diskOf core number < 8) ⌝ }
-    ensures { λ r. ⌜ r ≡ withLog core logs (without (core .table) number) ⌝ }
+// The place is free; `fill` words are buffered on its disk, and `sum` words stay reserved.
+fn close_place(work: &mut [u64], place: usize, disk: usize, fill: u64, sum: u64)
+    requires { ⌜ (place < places) × (disk < 8) × (headWords ≤ length (now work)) ⌝ }
+    ensures { λ _. ⌜ new work ≡ putWords (closed place disk fill sum) (old work) ⌝ }
 {
-    let place = place_of(&core.table.numbers, number);
-    let table = without(core.table, place);
-    Core {
-        logs,
-        table,
-        ..core
-    }
+    set_fill(work, disk, fill);
+    leave(work, place, disk, sum);
 }
 
 pub fn abort(
-    core: Core,
+    mut carried: Carried,
     number: u64,
     anchor: &[u64],
     pages: &mut [u64],
@@ -95,25 +91,75 @@ pub fn abort(
     logs: &mut [u64],
     work: &mut [u64],
     budget: &mut u64,
-) -> Reply
-    ensures { λ r. ⌜ Gives (abort number (old budget)) core (oldWorld anchor pages backups logs work)
+) -> Handed
+    ensures { λ r. ⌜ Serves (abort number (old budget)) carried (oldWorld anchor pages backups logs work)
         r (new budget) (worldOf (old anchor) (new pages) (old backups) (new logs) (new work)) ⌝ }
 {
-    let refusal = common_refusal(When::Serving, core, anchor, pages, backups, logs, work);
+    let stage = carried.stage;
+    let refusal = lent_refusal(
+        stage,
+        carried.pages,
+        carried.disks,
+        carried.ring,
+        carried.total,
+        anchor.len(),
+        pages.len(),
+        backups.len(),
+        logs.len(),
+        work.len(),
+    );
     if refusal != 0 {
-        return refuse(core, refusal);
+        return refused(carried, refusal);
     }
-    if !is_open(&core.table.numbers, number) {
-        return refuse(core, 9);
+    let tails = carried.tails;
+    let found = find_scope(
+        work,
+        carried.pages,
+        carried.disks,
+        carried.ring,
+        carried.total,
+        tails,
+        number,
+    );
+    let row = abort_refusal(found.refusal, anchor.len());
+    if row != 0 {
+        return refused(carried, row);
     }
-    let found = examine(core, number, logs, work);
-    let fault = found.fault;
+    let entry = found.entry;
+    let scope = found.scope;
+    let tip = Tip {
+        tail: entry.tail,
+        fill: entry.fill,
+    };
+    let seen = examine(found.sizes, tip, scope, number, logs, &work[HEAD_WORDS..]);
+    let fault = seen.fault;
     if let Fault::BadRecord { disk, position } = fault {
-        return refuse_at(core, 7, disk, position);
+        return refused_at(carried, 7, disk, position);
     }
-    let allowance = *budget;
-    let done = roll_back(core, number, pages, logs, work, budget, found.notes);
-    let after = done.logs;
-    let next = closed(core, number, after);
-    settle(done.finished, allowance, *budget, 0, next)
+    let before = *budget;
+    let done = roll_back(
+        found.sizes,
+        tip,
+        scope.disk,
+        number,
+        seen.notes,
+        pages,
+        logs,
+        &mut work[HEAD_WORDS..],
+        budget,
+    );
+    if !done.finished {
+        return cut(saturating_sub(before, *budget));
+    }
+    let reached = done.tip;
+    let disk = scope.disk as usize;
+    close_place(
+        work,
+        entry.place,
+        disk,
+        reached.fill,
+        entry.sum - entry.reserved,
+    );
+    carried.tails[disk] = reached.tail;
+    finished(carried, saturating_sub(before, *budget), 0)
 }

@@ -1,9 +1,9 @@
 // An update, taken out of the log: the slot that it changed, and its difference.
+use crate::window::Tip;
 use crate::window::window_of;
 use log::read::Extent;
 use log::read::extent_of;
 use log::read::read_word;
-use model::Logs;
 use model::Sizes;
 ghost use mathlib.Core.Path.{_≡_};
 ghost use Prim.Native.Nat.{ℕ, _+_, _≤_, _<_};
@@ -12,7 +12,7 @@ ghost use lib.Seq.{sets};
 ghost use Rattle.model.specs.Decode.{readLog, span};
 ghost use Rattle.model.specs.State.{endOf};
 ghost use Rattle.log.specs.Reading.{LiesAt, Readable};
-ghost use Rattle.abort.specs.Undo.{Serving, reader, siteAt};
+ghost use Rattle.abort.specs.Undo.{onlyLog, Serving, reader, siteAt};
 
 // Where an update's record stands, the slot that it changed, and the slot's width.
 pub struct Site {
@@ -23,18 +23,11 @@ pub struct Site {
 }
 
 // The site of the update at a position, by its first word.
-pub fn site_at(
-    sizes: Sizes,
-    heads: Logs,
-    disk: u64,
-    position: u64,
-    logs: &[u64],
-    work: &[u64],
-) -> Site
-    requires { ⌜ Serving sizes heads disk (now logs) (now work) × (position < endOf heads disk) ⌝ }
-    ensures { λ r. ⌜ r ≡ siteAt (reader sizes heads disk (now (logs .entry)) (now (work .entry))) position ⌝ }
+pub fn site_at(sizes: Sizes, tip: Tip, disk: u64, position: u64, logs: &[u64], work: &[u64]) -> Site
+    requires { ⌜ Serving sizes (onlyLog disk tip) disk (now logs) (now work) × (position < endOf (onlyLog disk tip) disk) ⌝ }
+    ensures { λ r. ⌜ r ≡ siteAt (reader sizes (onlyLog disk tip) disk (now (logs .entry)) (now (work .entry))) position ⌝ }
 {
-    let log = window_of(heads, disk);
+    let log = window_of(tip, disk);
     let start = log.start as usize;
     let stop = log.stop as usize;
     let extent = extent_of(sizes, disk, log.tail, log.end);
@@ -81,18 +74,18 @@ fn copy_words_of_log(
 // The difference of the update at a position, in the first words of what is handed back.
 pub fn difference_at(
     sizes: Sizes,
-    heads: Logs,
+    tip: Tip,
     disk: u64,
     position: u64,
     width: u64,
     logs: &[u64],
     work: &[u64],
 ) -> [u64; 32]
-    requires { ⌜ Serving sizes heads disk (now logs) (now work) ⌝ }
-    requires { ⌜ (position + 3 + width ≤ endOf heads disk) × (width ≤ 32) ⌝ }
-    ensures { λ r. ⌜ take width r ≡ span (reader sizes heads disk (now (logs .entry)) (now (work .entry))) (position + 3) width ⌝ }
+    requires { ⌜ Serving sizes (onlyLog disk tip) disk (now logs) (now work) ⌝ }
+    requires { ⌜ (position + 3 + width ≤ endOf (onlyLog disk tip) disk) × (width ≤ 32) ⌝ }
+    ensures { λ r. ⌜ take width r ≡ span (reader sizes (onlyLog disk tip) disk (now (logs .entry)) (now (work .entry))) (position + 3) width ⌝ }
 {
-    let log = window_of(heads, disk);
+    let log = window_of(tip, disk);
     let start = log.start as usize;
     let stop = log.stop as usize;
     let extent = extent_of(sizes, disk, log.tail, log.end);

@@ -1,19 +1,14 @@
 // No. 7: what an abort finds wrong in the log that it reads.
 use crate::notes::Notes;
 use crate::reading::survey_from;
-use crate::scope::scope_of;
-use model::Core;
+use crate::scope::Scope;
+use crate::window::Tip;
 use model::Fault;
-ghost use mathlib.Core.Path.{_≡_};
-ghost use mathlib.Core.List.{List};
-ghost use mathlib.Core.Bool.{true};
-ghost use Prim.Native.Nat.{ℕ};
-ghost use Rattle.model.specs.declared.Fault.the-variants.{NoFault};
-ghost use Rattle.model.specs.World.{worldOf};
-ghost use Rattle.model.specs.State.{isOpen};
-ghost use Rattle.model.specs.Abort.{abortFault};
-ghost use Rattle.frame.specs.Home.{Serves};
-ghost use Rattle.abort.specs.Scope.{NotedFor};
+use model::Sizes;
+ghost use Prim.Native.Nat.{_+_, _≤_};
+ghost use Rattle.model.specs.State.{endOf};
+ghost use Rattle.abort.specs.Undo.{onlyLog, Serving};
+ghost use Rattle.abort.specs.Scope.{Examines};
 
 // The fault, and where the updates are read from if there is none.
 pub struct Examined {
@@ -22,23 +17,29 @@ pub struct Examined {
 }
 
 // The first malformed record, or more words of updates than are reserved for them.
-pub fn examine(core: Core, number: u64, logs: &[u64], work: &[u64]) -> Examined
-    requires { ⌜ Serves core (now logs) (now work) × (isOpen (core .table) number ≡ true) ⌝ }
-    ensures { λ r. ⌜ ((anchor pages backups : List ℕ) → r .fault ≡ abortFault core (worldOf anchor pages backups (now (logs .entry)) (now (work .entry))) number) ⌝ }
-    ensures { λ r. ⌜ (r .fault ≡ NoFault → NotedFor core number (now (logs .entry)) (now (work .entry)) (r .notes)) ⌝ }
+pub fn examine(
+    sizes: Sizes,
+    tip: Tip,
+    scope: Scope,
+    number: u64,
+    logs: &[u64],
+    work: &[u64],
+) -> Examined
+    requires { ⌜ Serving sizes (onlyLog (scope .disk) tip) (scope .disk) (now logs) (now work) ⌝ }
+    requires { ⌜ endOf (onlyLog (scope .disk) tip) (scope .disk) ≤ scope .from + 65536 ⌝ }
+    ensures { λ r. ⌜ Examines sizes (onlyLog (scope .disk) tip) scope number (now (logs .entry)) (now (work .entry)) r ⌝ }
 {
-    let at = scope_of(core, number);
-    let found = survey_from(core.sizes, core.logs, at.disk, number, at.from, logs, work);
+    let found = survey_from(sizes, tip, scope.disk, number, scope.from, logs, work);
     let notes = found.notes;
     let malformed = found.fault;
     if let Fault::BadRecord { disk, position } = malformed {
         let fault = Fault::BadRecord { disk, position };
         return Examined { fault, notes };
     }
-    if at.words < found.words {
+    if scope.words < found.words {
         let fault = Fault::BadRecord {
-            disk: at.disk,
-            position: at.first,
+            disk: scope.disk,
+            position: scope.first,
         };
         return Examined { fault, notes };
     }

@@ -1,12 +1,12 @@
 // The log of a disk, ring then buffer: what is found in it, and the positions of a transaction's updates.
 use crate::notes::Notes;
+use crate::window::Tip;
 use crate::window::window_of;
 use log::read::extent_of;
 use log::updates::Group;
 use log::updates::next_updates;
 use log::updates::survey_log;
 use model::Fault;
-use model::Logs;
 use model::Sizes;
 ghost use Prim.Native.Nat.{_+_, _≤_};
 ghost use lib.ListN.{length};
@@ -14,7 +14,7 @@ ghost use Rattle.model.specs.Scan.{scan};
 ghost use Rattle.model.specs.State.{endOf};
 ghost use Rattle.log.specs.Reading.{positionsIn};
 ghost use Rattle.log.specs.Front.{Gathered};
-ghost use Rattle.abort.specs.Undo.{Serving, reader};
+ghost use Rattle.abort.specs.Undo.{onlyLog, Serving, reader};
 ghost use Rattle.abort.specs.Groups.{FoundFrom};
 
 // The first malformed record, the words of a transaction's updates, and where these are read from.
@@ -27,17 +27,17 @@ pub struct Found {
 // Reads the log once from a position on.
 pub fn survey_from(
     sizes: Sizes,
-    heads: Logs,
+    tip: Tip,
     disk: u64,
     number: u64,
     from: u64,
     logs: &[u64],
     work: &[u64],
 ) -> Found
-    requires { ⌜ Serving sizes heads disk (now logs) (now work) × (endOf heads disk ≤ from + 65536) ⌝ }
-    ensures { λ r. ⌜ FoundFrom sizes heads disk number from (now (logs .entry)) (now (work .entry)) r ⌝ }
+    requires { ⌜ Serving sizes (onlyLog disk tip) disk (now logs) (now work) × (endOf (onlyLog disk tip) disk ≤ from + 65536) ⌝ }
+    ensures { λ r. ⌜ FoundFrom sizes (onlyLog disk tip) disk number from (now (logs .entry)) (now (work .entry)) r ⌝ }
 {
-    let log = window_of(heads, disk);
+    let log = window_of(tip, disk);
     let start = log.start as usize;
     let stop = log.stop as usize;
     let extent = extent_of(sizes, disk, log.tail, log.end);
@@ -61,7 +61,7 @@ pub fn survey_from(
 // The positions of a transaction's next n updates, from a position on, in the log up to an end.
 pub fn group_from(
     sizes: Sizes,
-    heads: Logs,
+    tip: Tip,
     disk: u64,
     number: u64,
     from: u64,
@@ -70,11 +70,11 @@ pub fn group_from(
     logs: &[u64],
     work: &[u64],
 ) -> Group
-    requires { ⌜ Serving sizes heads disk (now logs) (now work) × (end ≤ endOf heads disk) × (n ≤ 128) ⌝ }
-    requires { ⌜ n ≤ length (positionsIn number (scan sizes (reader sizes heads disk (now logs) (now work)) end from)) ⌝ }
-    ensures { λ r. ⌜ Gathered number n (scan sizes (reader sizes heads disk (now (logs .entry)) (now (work .entry))) end from) r ⌝ }
+    requires { ⌜ Serving sizes (onlyLog disk tip) disk (now logs) (now work) × (end ≤ endOf (onlyLog disk tip) disk) × (n ≤ 128) ⌝ }
+    requires { ⌜ n ≤ length (positionsIn number (scan sizes (reader sizes (onlyLog disk tip) disk (now logs) (now work)) end from)) ⌝ }
+    ensures { λ r. ⌜ Gathered number n (scan sizes (reader sizes (onlyLog disk tip) disk (now (logs .entry)) (now (work .entry))) end from) r ⌝ }
 {
-    let log = window_of(heads, disk);
+    let log = window_of(tip, disk);
     let start = log.start as usize;
     let stop = log.stop as usize;
     let extent = extent_of(sizes, disk, log.tail, end);

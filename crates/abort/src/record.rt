@@ -1,6 +1,6 @@
-// A record appended for a disk of a state, and the logs' part of the state after it.
-use frame::home::home_of;
-use frame::home::with_disk;
+// A record appended to a disk's log, and where the log ends after it.
+use crate::window::Tip;
+use frame::home::home_at;
 use layout::memory::page_copy;
 use log::kinds::ABORT;
 use log::kinds::COMPENSATION;
@@ -8,40 +8,40 @@ use log::write::Head;
 use log::write::Logged;
 use log::write::append_change;
 use log::write::append_close;
-use model::Logs;
 use model::Sizes;
 ghost use mathlib.Core.Path.{_≡_};
 ghost use mathlib.Core.List.{List};
-ghost use Prim.Native.Nat.{ℕ, _<_};
+ghost use Prim.Native.Nat.{ℕ};
 ghost use lib.ListN.{length};
 ghost use Rattle.model.specs.Record.{change, close, encode, compensationKind, abortKind};
 ghost use Rattle.model.specs.World.{worldOf};
 ghost use Rattle.model.specs.Memory.{copyOf};
 ghost use Rattle.model.specs.Append.{append};
-ghost use Rattle.frame.specs.Home.{withDisk};
-ghost use Rattle.abort.specs.Undo.{Serving, InSlot, Did};
+ghost use Rattle.abort.specs.Undo.{onlyLog, Serving, InSlot, Did};
 
-// How far an abort came: whether all its stores were made, and the logs' part of the state.
+// How far an abort came: whether all its stores were made, and where its disk's log ends.
 pub struct Progress {
     pub finished: bool,
-    pub logs: Logs,
+    pub tip: Tip,
 }
 
-// The logs of a state after an append on a disk.
-fn advanced(heads: Logs, disk: u64, added: Logged) -> Progress
-    requires { ⌜ disk < 8 ⌝ }
-    ensures { λ r. ⌜ (r .finished ≡ added .finished) × (r .logs ≡ withDisk heads disk (added .tail) (added .fill)) ⌝ }
+// After an append.
+fn advanced(added: Logged) -> Progress
+    ensures { λ r. ⌜ (r .finished ≡ added .finished) × (r .tip .tail ≡ added .tail) × (r .tip .fill ≡ added .fill) ⌝ }
 {
     Progress {
         finished: added.finished,
-        logs: with_disk(heads, disk, added.tail, added.fill),
+        tip: Tip {
+            tail: added.tail,
+            fill: added.fill,
+        },
     }
 }
 
 // Appends the compensation of an update, with the page's present copy number.
 pub fn log_compensation(
     sizes: Sizes,
-    heads: Logs,
+    tip: Tip,
     disk: u64,
     number: u64,
     page: u64,
@@ -51,13 +51,13 @@ pub fn log_compensation(
     work: &mut [u64],
     budget: &mut u64,
 ) -> Progress
-    requires { ⌜ Serving sizes heads disk (now logs) (now work) ⌝ }
+    requires { ⌜ Serving sizes (onlyLog disk tip) disk (now logs) (now work) ⌝ }
     requires { ⌜ InSlot sizes page slot (length (now difference)) ⌝ }
-    ensures { λ r. ⌜ ((anchor pages backups : List ℕ) → Did (now (budget .entry)) (now (budget .exit))
-        (append sizes heads (now (work .entry)) disk (encode (change compensationKind page slot number (copyOf sizes (now (work .entry)) page) (now (difference .entry)))))
+    ensures { λ r. ⌜ ((anchor pages backups : List ℕ) → Did disk (now (budget .entry)) (now (budget .exit))
+        (append sizes (onlyLog disk tip) (now (work .entry)) disk (encode (change compensationKind page slot number (copyOf sizes (now (work .entry)) page) (now (difference .entry)))))
         (worldOf anchor pages backups (now (logs .entry)) (now (work .entry))) (worldOf anchor pages backups (now (logs .exit)) (now (work .exit))) r) ⌝ }
 {
-    let home = home_of(sizes, heads, disk);
+    let home = home_at(sizes.ring, disk, tip.tail, tip.fill);
     let head = Head {
         kind: COMPENSATION,
         page,
@@ -66,25 +66,25 @@ pub fn log_compensation(
         copy: page_copy(sizes.disks, work, page),
     };
     let added = append_change(logs, work, home, head, difference, budget);
-    advanced(heads, disk, added)
+    advanced(added)
 }
 
 // Appends the closing record of an abort.
 pub fn log_close(
     sizes: Sizes,
-    heads: Logs,
+    tip: Tip,
     disk: u64,
     number: u64,
     logs: &mut [u64],
     work: &mut [u64],
     budget: &mut u64,
 ) -> Progress
-    requires { ⌜ Serving sizes heads disk (now logs) (now work) ⌝ }
-    ensures { λ r. ⌜ ((anchor pages backups : List ℕ) → Did (now (budget .entry)) (now (budget .exit))
-        (append sizes heads (now (work .entry)) disk (encode (close abortKind number)))
+    requires { ⌜ Serving sizes (onlyLog disk tip) disk (now logs) (now work) ⌝ }
+    ensures { λ r. ⌜ ((anchor pages backups : List ℕ) → Did disk (now (budget .entry)) (now (budget .exit))
+        (append sizes (onlyLog disk tip) (now (work .entry)) disk (encode (close abortKind number)))
         (worldOf anchor pages backups (now (logs .entry)) (now (work .entry))) (worldOf anchor pages backups (now (logs .exit)) (now (work .exit))) r) ⌝ }
 {
-    let home = home_of(sizes, heads, disk);
+    let home = home_at(sizes.ring, disk, tip.tail, tip.fill);
     let added = append_close(logs, work, home, ABORT, number, budget);
-    advanced(heads, disk, added)
+    advanced(added)
 }

@@ -1,17 +1,21 @@
-// What an abort reads of a transaction's entry in the table.
-use model::Core;
-use model::Logs;
-use model::Table;
+// What an abort reads of the head: its transaction's entry, the log that it reads, and the sizes; all that row 1 tests of them.
+use frame::entry::Entry;
+use frame::entry::find_entry;
+use frame::sizes::known_sizes;
+use head::places::FIRSTS_AT;
+use model::Sizes;
 use table::place::CLOSE_WORDS;
-use table::place::has_update;
-use table::place::place_of;
+use words::saturating_sub;
 ghost use mathlib.Core.Path.{_≡_};
-ghost use Prim.Native.Nat.{ℕ, _≤_, _<_};
+ghost use mathlib.Core.Bool.{true, not, _||_};
+ghost use Prim.Native.Nat.{_+_, _-_, _≤_};
+ghost use lib.Dec.{leb, ltb};
 ghost use lib.ListN.{length};
-ghost use Rattle.model.specs.declared.Core.{Core};
-ghost use Rattle.model.specs.State.{limit, endOf, placeOf, diskAtPlace, reservedAt};
-ghost use Rattle.model.specs.Transaction.{diskOf};
-ghost use Rattle.abort.specs.Scope.{scopeOf};
+ghost use Rattle.model.specs.declared.Carried.{Carried};
+ghost use Rattle.model.specs.Moments.{old};
+ghost use Rattle.model.specs.State.{limit};
+ghost use Rattle.model.specs.View.{headWords, ownWork, coreOf};
+ghost use Rattle.abort.specs.Scope.{OfState, scopeIn, Read};
 
 // The disk, where the log is read from, the first position, and how many words of updates are reserved.
 pub struct Scope {
@@ -21,41 +25,103 @@ pub struct Scope {
     pub words: u64,
 }
 
-// Of the transaction at a place. One with no update has nothing to read.
-// That the arrays are as long as their types say is told here, where it is near: a caller's proof uses it.
-fn scope_at(table: Table, logs: Logs, place: usize) -> Scope
-    requires { ⌜ (place < 16) × (2 ≤ reservedAt table place) ⌝ }
-    requires { ⌜ (diskAtPlace table place < 8) × (endOf logs (diskAtPlace table place) ≤ limit) ⌝ }
-    ensures { λ r. ⌜ ((c : Core) (number : ℕ) → c .table ≡ table → c .logs ≡ logs → place ≡ placeOf table number → r ≡ scopeOf c number) ⌝ }
-    ensures { λ _. ⌜ (length (logs .starts) ≡ 8) × (length (logs .tails) ≡ 8) × (length (logs .fills) ≡ 8) ⌝ }
+// The number of the row that refuses a transaction, 0 where none does; then its entry, what of its log is read, and the sizes.
+pub struct Target {
+    pub refusal: u64,
+    pub entry: Entry,
+    pub scope: Scope,
+    pub sizes: Sizes,
+}
+
+fn not_found(refusal: u64, entry: Entry) -> Target
+    ensures { λ r. ⌜ r .refusal ≡ refusal ⌝ }
 {
-    let disk = table.disks[place];
-    let first = table.firsts[place];
-    let words = table.reserved[place] - CLOSE_WORDS;
-    let d = disk as usize;
-    let end = logs.tails[d] + logs.fills[d];
-    if has_update(table, place) {
+    Target {
+        refusal,
+        entry,
+        scope: Scope {
+            disk: 0,
+            from: 0,
+            first: 0,
+            words: 0,
+        },
+        sizes: Sizes {
+            pages: 0,
+            disks: 0,
+            ring: 0,
+            slots: [0u8; 64],
+            widths: [0u8; 64],
+        },
+    }
+}
+
+// The log from the first position on and the reserved words are no longer than the ring.
+fn log_fits(end: u64, first: u64, reserved: u64, ring: u64) -> bool
+    requires { ⌜ (end ≤ limit) × (reserved ≤ limit) ⌝ }
+    ensures { λ r. ⌜ r ≡ (not (ltb 2 reserved) || leb (end - first + reserved) ring) ⌝ }
+{
+    if reserved <= CLOSE_WORDS {
+        return true;
+    }
+    saturating_sub(end, first) + reserved <= ring
+}
+
+// One with no update has nothing to read.
+fn scope_at(entry: Entry, first: u64) -> Scope
+    requires { ⌜ (2 ≤ entry .reserved) × (entry .tail + entry .fill ≤ limit) ⌝ }
+    ensures { λ r. ⌜ r ≡ scopeIn entry first ⌝ }
+{
+    let disk = entry.disk;
+    let words = entry.reserved - CLOSE_WORDS;
+    if words == 0 {
+        let from = entry.tail + entry.fill;
         return Scope {
             disk,
-            from: first,
+            from,
             first,
             words,
         };
     }
     Scope {
         disk,
-        from: end,
+        from: first,
         first,
         words,
     }
 }
 
-pub fn scope_of(core: Core, number: u64) -> Scope
-    requires { ⌜ (placeOf (core .table) number < 16) × (2 ≤ reservedAt (core .table) (placeOf (core .table) number)) ⌝ }
-    requires { ⌜ (diskOf core number < 8) × (endOf (core .logs) (diskOf core number) ≤ limit) ⌝ }
-    ensures { λ r. ⌜ r ≡ scopeOf core number ⌝ }
-    ensures { λ _. ⌜ (length (core .logs .starts) ≡ 8) × (length (core .logs .tails) ≡ 8) × (length (core .logs .fills) ≡ 8) ⌝ }
+// Row 9, and what row 1 asks of a transaction that is open. P, D, W, T and the tails are the state's.
+pub fn find_scope(
+    work: &[u64],
+    pages: u64,
+    disks: u64,
+    ring: u64,
+    total: u64,
+    tails: [u64; 8],
+    number: u64,
+) -> Target
+    requires { ⌜ (disks ≤ 8) × (headWords ≤ length (now work)) × OfState (now work) disks tails ⌝ }
+    ensures { λ r. ⌜ ((h : Carried) → ownWork h (old work) ≡ true → h .pages ≡ pages → h .disks ≡ disks → h .ring ≡ ring → h .total ≡ total
+        → h .tails ≡ tails → Read (coreOf h (old work)) number r) ⌝ }
 {
-    let place = place_of(&core.table.numbers, number);
-    scope_at(core.table, core.logs, place)
+    let entry = find_entry(work, disks, &tails, number);
+    if entry.refusal != 0 {
+        return not_found(entry.refusal, entry);
+    }
+    let first = work[FIRSTS_AT + entry.place];
+    if !log_fits(entry.tail + entry.fill, first, entry.reserved, ring) {
+        return not_found(1, entry);
+    }
+    let known = known_sizes(work, pages, disks, ring, total);
+    if !known.fits {
+        return not_found(1, entry);
+    }
+    let scope = scope_at(entry, first);
+    let sizes = known.sizes;
+    Target {
+        refusal: 0,
+        entry,
+        scope,
+        sizes,
+    }
 }

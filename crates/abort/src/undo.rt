@@ -6,9 +6,9 @@ use crate::notes::Notes;
 use crate::reading::group_from;
 use crate::record::Progress;
 use crate::record::log_compensation;
+use crate::window::Tip;
 use layout::places::slot_base;
 use log::updates::Group;
-use model::Logs;
 use model::Sizes;
 use words::xor_in;
 ghost use mathlib.Core.Path.{_≡_};
@@ -19,13 +19,13 @@ ghost use Rattle.model.specs.Scan.{scan, updatesIn};
 ghost use Rattle.model.specs.World.{worldOf};
 ghost use Rattle.model.specs.State.{endOf};
 ghost use Rattle.model.specs.Abort.{compensate, undoAll};
-ghost use Rattle.abort.specs.Undo.{Did, reader, logFrom, updateAt, updateRead, Compensable, Undoable};
+ghost use Rattle.abort.specs.Undo.{onlyLog, Did, reader, logFrom, updateAt, updateRead, Compensable, Undoable};
 ghost use Rattle.abort.specs.Groups.{Noted, lastFirst, Takeable};
 
 // Takes back the update at a site: its compensation is appended, and the slot changed back.
 fn undo_one(
     sizes: Sizes,
-    heads: Logs,
+    tip: Tip,
     disk: u64,
     number: u64,
     site: Site,
@@ -34,18 +34,18 @@ fn undo_one(
     work: &mut [u64],
     budget: &mut u64,
 ) -> Progress
-    requires { ⌜ Compensable sizes heads disk site (now pages) (now logs) (now work) ⌝ }
-    ensures { λ r. ⌜ ((anchor backups : List ℕ) → Did (now (budget .entry)) (now (budget .exit))
-        (compensate sizes heads (worldOf anchor (now (pages .entry)) backups (now (logs .entry)) (now (work .entry))) number disk
-        (updateAt sizes heads disk (now (logs .entry)) (now (work .entry)) site))
+    requires { ⌜ Compensable sizes (onlyLog disk tip) disk site (now pages) (now logs) (now work) ⌝ }
+    ensures { λ r. ⌜ ((anchor backups : List ℕ) → Did disk (now (budget .entry)) (now (budget .exit))
+        (compensate sizes (onlyLog disk tip) (worldOf anchor (now (pages .entry)) backups (now (logs .entry)) (now (work .entry))) number disk
+        (updateAt sizes (onlyLog disk tip) disk (now (logs .entry)) (now (work .entry)) site))
         (worldOf anchor (now (pages .entry)) backups (now (logs .entry)) (now (work .entry)))
         (worldOf anchor (now (pages .exit)) backups (now (logs .exit)) (now (work .exit))) r) ⌝ }
 {
-    let words = difference_at(sizes, heads, disk, site.position, site.width, logs, work);
+    let words = difference_at(sizes, tip, disk, site.position, site.width, logs, work);
     let n = site.width as usize;
     let one = log_compensation(
         sizes,
-        heads,
+        tip,
         disk,
         number,
         site.page,
@@ -66,7 +66,7 @@ fn undo_one(
 // Takes back the updates of a group, the last first, as far as the budget goes.
 fn undo_group(
     sizes: Sizes,
-    heads: Logs,
+    tip: Tip,
     disk: u64,
     number: u64,
     group: Group,
@@ -75,15 +75,15 @@ fn undo_group(
     work: &mut [u64],
     budget: &mut u64,
 ) -> Progress
-    requires { ⌜ (group .count ≤ 128) × Takeable sizes heads disk (take (group .count) (group .at)) (now pages) (now logs) (now work) ⌝ }
-    ensures { λ r. ⌜ ((anchor backups : List ℕ) → Did (now (budget .entry)) (now (budget .exit))
-        (undoAll sizes heads (worldOf anchor (now (pages .entry)) backups (now (logs .entry)) (now (work .entry))) number disk
-        (lastFirst (updateRead (reader sizes heads disk (now (logs .entry)) (now (work .entry)))) (take (group .count) (group .at))))
+    requires { ⌜ (group .count ≤ 128) × Takeable sizes (onlyLog disk tip) disk (take (group .count) (group .at)) (now pages) (now logs) (now work) ⌝ }
+    ensures { λ r. ⌜ ((anchor backups : List ℕ) → Did disk (now (budget .entry)) (now (budget .exit))
+        (undoAll sizes (onlyLog disk tip) (worldOf anchor (now (pages .entry)) backups (now (logs .entry)) (now (work .entry))) number disk
+        (lastFirst (updateRead (reader sizes (onlyLog disk tip) disk (now (logs .entry)) (now (work .entry)))) (take (group .count) (group .at))))
         (worldOf anchor (now (pages .entry)) backups (now (logs .entry)) (now (work .entry)))
         (worldOf anchor (now (pages .exit)) backups (now (logs .exit)) (now (work .exit))) r) ⌝ }
 {
     let at = group.at;
-    let mut after = heads;
+    let mut after = tip;
     let mut n = group.count;
     while 0 < n {
         n -= 1;
@@ -92,11 +92,11 @@ fn undo_group(
         if !one.finished {
             return one;
         }
-        after = one.logs;
+        after = one.tip;
     }
     Progress {
         finished: true,
-        logs: after,
+        tip: after,
     }
 }
 
@@ -114,7 +114,7 @@ fn smaller(a: u64, b: u64) -> u64
 // first, each read once from where it begins.
 pub fn undo_all(
     sizes: Sizes,
-    heads: Logs,
+    tip: Tip,
     disk: u64,
     number: u64,
     notes: Notes,
@@ -123,17 +123,16 @@ pub fn undo_all(
     work: &mut [u64],
     budget: &mut u64,
 ) -> Progress
-    requires { ⌜ Undoable sizes heads disk number (notes .from) (now pages) (now logs) (now work) ⌝ }
-    requires { ⌜ Noted number (scan sizes (reader sizes heads disk (now logs) (now work)) (endOf heads disk)) (notes .from) notes ⌝ }
-    ensures { λ r. ⌜ ((anchor backups : List ℕ) → Did (now (budget .entry)) (now (budget .exit))
-        (undoAll sizes heads (worldOf anchor (now (pages .entry)) backups (now (logs .entry)) (now (work .entry))) number disk
-        (updatesIn number (logFrom sizes heads disk (now (logs .entry)) (now (work .entry)) (notes .from))))
+    requires { ⌜ Undoable sizes (onlyLog disk tip) disk number (notes .from) (now pages) (now logs) (now work) ⌝ }
+    requires { ⌜ Noted number (scan sizes (reader sizes (onlyLog disk tip) disk (now logs) (now work)) (endOf (onlyLog disk tip) disk)) (notes .from) notes ⌝ }
+    ensures { λ r. ⌜ ((anchor backups : List ℕ) → Did disk (now (budget .entry)) (now (budget .exit))
+        (undoAll sizes (onlyLog disk tip) (worldOf anchor (now (pages .entry)) backups (now (logs .entry)) (now (work .entry))) number disk
+        (updatesIn number (logFrom sizes (onlyLog disk tip) disk (now (logs .entry)) (now (work .entry)) (notes .from))))
         (worldOf anchor (now (pages .entry)) backups (now (logs .entry)) (now (work .entry)))
         (worldOf anchor (now (pages .exit)) backups (now (logs .exit)) (now (work .exit))) r) ⌝ }
 {
-    let d = disk as usize;
-    let end = heads.tails[d] + heads.fills[d];
-    let mut after = heads;
+    let end = tip.tail + tip.fill;
+    let mut after = tip;
     let mut k = (notes.count + 127) / 128;
     while 0 < k {
         k -= 1;
@@ -144,10 +143,10 @@ pub fn undo_all(
         if !part.finished {
             return part;
         }
-        after = part.logs;
+        after = part.tip;
     }
     Progress {
         finished: true,
-        logs: after,
+        tip: after,
     }
 }

@@ -10,12 +10,13 @@ use Rattle.model.specs.World.{World}
 use Rattle.model.specs.Refusal.{Row, row, verdict, rejected}
 use Rattle.model.specs.Causes.{whenShut, whenServing, anchorWrong}
 use Rattle.model.specs.View.{ownWork, coreOf, bodyOf}
+use Rattle.frame.specs.Checks.{commonRows}
 use Rattle.frame.specs.Lent.{lentRefusal}
-use Rattle.frame.proofs.LentChecks.{lentRows, LentReady, first-refused, first-passed, first-ready, first-open, first-own}
+use Rattle.frame.proofs.LentChecks.{LentReady, first-refused, first-passed, first-ready, first-open, first-own}
 
 -- a call's rows: 1, 2 and 5, and the rest; row 1 with the test that the call makes of a state where the lengths are right
 abbrev pub viewRows : (test : Bool) → Core → World → List Row → List Row
-viewRows test c w rest = lentRows whenServing test c w rest
+viewRows = commonRows whenServing
 
 -- What is known where the first checks answer 0.
 abbrev pub Ready : (h : Carried) (w : World) → Type 0

@@ -23,14 +23,10 @@ use Rattle.model.specs.View.{headWords, ownWork, coreOf, bodyOf}
 use Rattle.model.proofs.Booleans.{all-four}
 use Rattle.model.proofs.Store.Rows.{not-shut}
 use Rattle.layout.specs.Raw.{lengthsAre}
+use Rattle.frame.specs.Checks.{commonRows}
 use Rattle.frame.specs.Fits.{countsWithin}
 use Rattle.frame.specs.Lent.{lentRefusal}
 use Rattle.frame.proofs.Fitting.{Counted, counted}
-
--- a call's rows: 1, 2 and 5, and the rest; row 1 with the test that the call makes of a state where the lengths are right
-abbrev pub lentRows : (Stage → Bool) → (test : Bool) → Core → World → List Row → List Row
-lentRows allowed test c w rest =
-    row 1 (stageForbids allowed (fitsOn test c w) c) ∷ row 2 (anchorWrong (w .anchor)) ∷ row 5 (lengthsWrong (c .sizes) (c .bases .total) w) ∷ rest
 
 by-tests : (allowed counts right anchor test : Bool) (rest : List Row)
     → verdict (row 1 (not (allowed && (counts && (not right || test)))) ∷ row 2 (not anchor) ∷ row 5 (not right) ∷ rest)
@@ -56,7 +52,7 @@ module _ (allowed : Stage → Bool) (h : Carried) (w : World) {r : ℕ}
     (answer : r ≡ lentRefusal (allowed (h .stage)) (h .pages) (h .disks) (h .ring) (h .total) (length (w .anchor)) (length (w .pages)) (length (w .backups)) (length (w .logs)) (length (w .work)))
   where
     decides : (test : Bool) (rest : List Row)
-        → verdict (lentRows allowed test (coreOf h (w .work)) (bodyOf w) rest)
+        → verdict (commonRows allowed test (coreOf h (w .work)) (bodyOf w) rest)
         ≡ cond (eqb r 0) (verdict (row 1 (not test) ∷ row 2 (anchorWrong (w .anchor)) ∷ rest)) (rejected r 0 0)
     unfolding lentRefusal countsWithin lengthsAre stageForbids fitsOn countsFit countsInBounds anchorWrong lengthsWrong lengthsRight logWords diskAt workWords ownerAt copyAt bufferAt coreOf bodyOf
     decides test rest =
@@ -67,13 +63,13 @@ module _ (allowed : Stage → Bool) (h : Carried) (w : World) {r : ℕ}
 
     -- they refuse
     pub first-refused : (r ≡ 0 → ⊥) → (test : Bool) (rest : List Row)
-        → verdict (lentRows allowed test (coreOf h (w .work)) (bodyOf w) rest) ≡ rejected r 0 0
+        → verdict (commonRows allowed test (coreOf h (w .work)) (bodyOf w) rest) ≡ rejected r 0 0
     first-refused some test rest = decides test rest ∙ rw (ne-eqb r 0 some) refl
 
     module _ (none : r ≡ 0) where
       -- they do not, and the call's test and the anchor are next
       pub first-passed : (test : Bool) (rest : List Row)
-          → verdict (lentRows allowed test (coreOf h (w .work)) (bodyOf w) rest) ≡ verdict (row 1 (not test) ∷ row 2 (anchorWrong (w .anchor)) ∷ rest)
+          → verdict (commonRows allowed test (coreOf h (w .work)) (bodyOf w) rest) ≡ verdict (row 1 (not test) ∷ row 2 (anchorWrong (w .anchor)) ∷ rest)
       first-passed test rest = decides test rest ∙ rw (eq-eqb r 0 none) refl
 
       pub first-ready : LentReady allowed h w

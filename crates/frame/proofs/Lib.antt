@@ -2,6 +2,7 @@
 -- it is lent; a checkpoint made current.
 pub mod Fitting
 pub mod Entries
+pub mod KnownSizes
 pub mod Passing
 pub mod PagesRight
 pub mod ReplayRight

@@ -7,3 +7,4 @@ pub mod Settle
 pub mod Switch
 pub mod Entry
 pub mod Pages
+pub mod Sizes

@@ -12,11 +12,18 @@ ghost use Rattle.frame.specs.Handed.{refusedTo, finishedTo, cutTo};
 pub fn refused(carried: Carried, number: u64) -> Handed
     ensures { λ r. ⌜ r ≡ refusedTo carried number 0 0 ⌝ }
 {
+    refused_at(carried, number, 0, 0)
+}
+
+// One that says where.
+pub fn refused_at(carried: Carried, number: u64, first: u64, second: u64) -> Handed
+    ensures { λ r. ⌜ r ≡ refusedTo carried number first second ⌝ }
+{
     Handed {
         answer: Answer::Refused {
             number,
-            first: 0,
-            second: 0,
+            first,
+            second,
         },
         carried,
     }

@@ -9,6 +9,7 @@ pub mod lent;
 pub mod pages;
 pub mod replaying;
 pub mod settle;
+pub mod sizes;
 pub mod stages;
 pub mod states;
 pub mod switch;

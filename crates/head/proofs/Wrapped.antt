@@ -20,7 +20,6 @@ use Rattle.model.specs.Refusal.{Row, row, accepted, rejected, verdict, Result}
 use Rattle.model.specs.Causes.{whenShut, whenReplaying, whenOpen, whenCopying, whenServing, stageForbids, anchorWrong, lengthsWrong}
 use Rattle.model.specs.Reads.{countsFit, fitsOn}
 use Rattle.model.specs.Format.{formatRows}
-use Rattle.model.specs.Abort.{abortRows}
 use Rattle.model.specs.Checkpoint.{checkpointBeginRows, checkpointStepRows, checkpointEndRows}
 use Rattle.model.specs.Restart.{restartBeginRows, restartStepRows, restartEndRows}
 use Rattle.model.specs.Answers.{stagesOf}
@@ -42,7 +41,7 @@ takesState begin = false
 takesState (update number page slot value budget) = false
 takesState (look q) = false
 takesState (commit number budget) = false
-takesState (abort number budget) = true
+takesState (abort number budget) = false
 takesState checkpointBegin = true
 takesState (checkpointStep budget) = true
 takesState (checkpointEnd budget) = true
@@ -80,13 +79,13 @@ shut-front c w rest e = rw e refl
 
 unsound-refused : (k : Call) → takesState k ≡ true → (c : Core) (w : World) → whenShut (c .stage) ≡ false → sound c ≡ false
     → verdict (rowsOf k c w) ≡ rejected (frontNumber (stagesOf k) c w) 0 0
-unfolding formatRows abortRows checkpointBeginRows checkpointStepRows checkpointEndRows restartBeginRows restartStepRows restartEndRows
+unfolding formatRows checkpointBeginRows checkpointStepRows checkpointEndRows restartBeginRows restartStepRows restartEndRows
 unsound-refused (format s budget) t c w stage e = shut-front c w _ stage
 unsound-refused begin t c w stage e = true-false refl (sym t)
 unsound-refused (update number page slot value budget) t c w stage e = true-false refl (sym t)
 unsound-refused (look q) t c w stage e = true-false refl (sym t)
 unsound-refused (commit number budget) t c w stage e = true-false refl (sym t)
-unsound-refused (abort number budget) t c w stage e = unsound-front whenServing c w _ e
+unsound-refused (abort number budget) t c w stage e = true-false refl (sym t)
 unsound-refused checkpointBegin t c w stage e = unsound-front whenOpen c w _ e
 unsound-refused (checkpointStep budget) t c w stage e = unsound-front whenCopying c w _ e
 unsound-refused (checkpointEnd budget) t c w stage e = unsound-front whenCopying c w _ e

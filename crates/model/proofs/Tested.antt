@@ -1,19 +1,19 @@
 -- What a call tests of a state before it reads it (specs/Reads.antt): every state that passes the whole test passes these.
 use mathlib.Core.Path.{_≡_, refl}
 use mathlib.Core.Bool.{Bool, true, false, not, _&&_, _||_}
-use Prim.Native.Nat.{ℕ, _+_, _<_}
+use Prim.Native.Nat.{ℕ, _+_, _-_, _≤_, _<_}
 use native.Mathlib.Omega.{arith}
-use lib.Dec.{leb}
-use borrow.Author.Tests.{leb-false, le-leb, lt-ltb, not-false}
+use lib.Dec.{leb, eqb}
+use borrow.Author.Tests.{leb-false, le-leb, lt-ltb, eq-eqb, not-false}
 use Rattle.model.specs.declared.Stage.{Stage}
 use Rattle.model.specs.declared.Stage.the-variants.{Shut, Replaying, Open, Copying}
 use Rattle.model.specs.declared.Core.{Core}
-use Rattle.model.specs.Sizes.{pageWords, usedEntry, sizesInBounds}
+use Rattle.model.specs.Sizes.{pageWords, ringOf, usedEntry, sizesInBounds}
 use Rattle.model.specs.World.{World}
 use Rattle.model.specs.Memory.{lengthsRight}
-use Rattle.model.specs.State.{placeOf, isOpen, baseOf, basesRight, servingSound, checkpointSound, soundIn, sound}
+use Rattle.model.specs.State.{placeOf, isOpen, endOf, firstAt, reservedAt, hasUpdate, baseOf, basesRight, servingSound, checkpointSound, soundIn, sound}
 use Rattle.model.specs.Causes.{whenShut, whenReplaying, whenOpen, whenCopying, whenServing, stageForbids, lengthsWrong, slotMissing}
-use Rattle.model.specs.Reads.{countsFit, slotFits, placeFits, homeFits, fitsOn, updateFits}
+use Rattle.model.specs.Reads.{countsFit, slotFits, placeFits, homeFits, scopeFits, sizesFit, abortFits, fitsOn, updateFits}
 use Rattle.model.specs.Call.{Call, format, begin, update, look, read, commit, abort, checkpointBegin, checkpointStep, checkpointEnd, restartBegin, restartStep, restartRun, restartEnd, newState}
 use Rattle.model.specs.Transaction.{diskOf}
 use Rattle.model.specs.Answers.{stagesOf, fitsCall}
@@ -22,6 +22,7 @@ use Rattle.model.proofs.Lengths.{counts-right}
 use Rattle.model.proofs.Bounds.{Bounded, bounded, used-right, total-max}
 use Rattle.model.proofs.KeptBases.{total-kept, base-kept}
 use Rattle.model.proofs.Geometry.{page-end}
+use Rattle.model.proofs.Growth.{kept-le}
 use Rattle.model.proofs.Store.Rows.{not-shut, serving-sound, sizes-sound, bases-sound, disk-sound}
 use Rattle.model.proofs.Sound.Test.{replay-bounds}
 use Rattle.model.proofs.Store.Accepted.{open-entry, open-below}
@@ -69,22 +70,58 @@ module _ (c : Core) (ok : servingSound c ≡ true) where
           (le-leb (baseOf c page + pageWords (c .sizes) page) (c .bases .total)
           (omega (arith, total-kept c (bases-sound c ok), page-end (c .sizes) page below)))
 
+  module _ (number : ℕ) (opened : isOpen (c .table) number ≡ true) where
+    place-passes : placeFits (placeOf (c .table) number) c ≡ true
+    unfolding placeFits diskOf
+    place-passes =
+        let mine = open-entry c number ok opened in
+        let disk = disk-sound c (diskOf c number) ok (open-below c number ok opened) in
+        rw (
+          lt-ltb _ _ (open-below c number ok opened),
+          le-leb _ _ (disk .fill),
+          le-leb _ _ (mine .sound .reserved),
+          le-leb _ _ (mine .on),
+          le-leb _ _ (disk .limit),
+        )
+
+    scope-passes : scopeFits (placeOf (c .table) number) c ≡ true
+    unfolding scopeFits diskOf
+    scope-passes = go (hasUpdate (c .table) (placeOf (c .table) number)) refl
+      where
+        place : ℕ
+        place = placeOf (c .table) number
+
+        go : (b : Bool) → hasUpdate (c .table) place ≡ b
+            → (not b || leb (endOf (c .logs) (diskOf c number) - firstAt (c .table) place + reservedAt (c .table) place) (ringOf (c .sizes) (diskOf c number))) ≡ true
+        go false e = refl
+        go true e =
+            let mine = open-entry c number ok opened in
+            let disk = disk-sound c (diskOf c number) ok (open-below c number ok opened) in
+            let first = mine .sound .first e in
+            let near : endOf (c .logs) (diskOf c number) - firstAt (c .table) place + reservedAt (c .table) place ≤ ringOf (c .sizes) (diskOf c number) =
+            omega (arith, first .0, first .1, mine .on, disk .room, disk .ordered, kept-le (c .logs) (diskOf c number)) in
+            le-leb _ _ near
+
+  sizes-pass : sizesFit c ≡ true
+  unfolding sizesFit
+  sizes-pass = rw (sizes-sound c ok, eq-eqb _ _ (total-kept c (bases-sound c ok))) refl
+
   pub home-passes : (number : ℕ) → homeFits number c ≡ true
-  unfolding homeFits placeFits diskOf
+  unfolding homeFits
   home-passes number = go (isOpen (c .table) number) refl
     where
       go : (b : Bool) → isOpen (c .table) number ≡ b → (not b || placeFits (placeOf (c .table) number) c) ≡ true
       go false e = refl
-      go true e =
-          let mine = open-entry c number ok e in
-          let disk = disk-sound c (diskOf c number) ok (open-below c number ok e) in
-          rw (
-            lt-ltb _ _ (open-below c number ok e),
-            le-leb _ _ (disk .fill),
-            le-leb _ _ (mine .sound .reserved),
-            le-leb _ _ (mine .on),
-            le-leb _ _ (disk .limit),
-          )
+      go true e = place-passes number e
+
+  pub abort-reads-pass : (number : ℕ) → abortFits number c ≡ true
+  unfolding abortFits
+  abort-reads-pass number = go (isOpen (c .table) number) refl
+    where
+      go : (b : Bool) → isOpen (c .table) number ≡ b
+          → (not b || placeFits (placeOf (c .table) number) c && scopeFits (placeOf (c .table) number) c && sizesFit c) ≡ true
+      go false e = refl
+      go true e = rw (place-passes number e, scope-passes number e, sizes-pass) refl
 
 -- A state that passes the whole test, in a stage that the call is for, passes what the call tests, on whatever slices.
 pub reads-pass : (k : Call) (c : Core) (w : World) → sound c ≡ true → stagesOf k (c .stage) ≡ true → fitsCall k c w ≡ true
@@ -96,7 +133,7 @@ reads-pass (update number page slot value budget) c w ok stage =
     fits-passes whenServing refl _ c w ok stage (rw (slot-passes c good page slot, home-passes c good number))
 reads-pass (look (read reader page slot)) c w ok stage = fits-passes whenServing refl _ c w ok stage (slot-passes c (serving-sound c stage ok) page slot)
 reads-pass (commit number budget) c w ok stage = fits-passes whenServing refl _ c w ok stage (home-passes c (serving-sound c stage ok) number)
-reads-pass (abort number budget) c w ok stage = fits-passes whenServing refl _ c w ok stage ok
+reads-pass (abort number budget) c w ok stage = fits-passes whenServing refl _ c w ok stage (abort-reads-pass c (serving-sound c stage ok) number)
 reads-pass checkpointBegin c w ok stage = fits-passes whenOpen refl _ c w ok stage ok
 reads-pass (checkpointStep budget) c w ok stage = fits-passes whenCopying refl _ c w ok stage ok
 reads-pass (checkpointEnd budget) c w ok stage = fits-passes whenCopying refl _ c w ok stage ok

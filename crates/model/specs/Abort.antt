@@ -16,10 +16,10 @@ use Rattle.model.specs.Decode.{readLog}
 use Rattle.model.specs.Scan.{Scan, end, ringThenBuffer, faultIn, Update, updatesIn, updateWords}
 use Rattle.model.specs.World.{World, Action, write, pages, each, perform}
 use Rattle.model.specs.Memory.{bufferOf, copyOf}
-use Rattle.model.specs.State.{sound, withLog, tailOf, fillOf, endOf, placeOf, isOpen, firstAt, reservedAt, hasUpdate, without}
+use Rattle.model.specs.State.{withLog, tailOf, fillOf, endOf, placeOf, isOpen, firstAt, reservedAt, hasUpdate, without}
 use Rattle.model.specs.Refusal.{Row, row, Task}
 use Rattle.model.specs.Causes.{whenServing, stageForbids, anchorWrong, lengthsWrong, notOpen, faultRow}
-use Rattle.model.specs.Reads.{fitsOn}
+use Rattle.model.specs.Reads.{fitsOn, abortFits}
 use Rattle.model.specs.Append.{Appended, append}
 use Rattle.model.specs.Transaction.{diskOf}
 
@@ -60,7 +60,7 @@ abortFault c w number =
 
 unfoldable pub abortRows : Core → World → ℕ → List Row
 abortRows c w number =
-    row 1 (stageForbids whenServing (fitsOn (sound c) c w) c) ∷ row 2 (anchorWrong (w .anchor)) ∷ row 5 (lengthsWrong (c .sizes) (c .bases .total) w)
+    row 1 (stageForbids whenServing (fitsOn (abortFits number c) c w) c) ∷ row 2 (anchorWrong (w .anchor)) ∷ row 5 (lengthsWrong (c .sizes) (c .bases .total) w)
     ∷ faultRow (abortFault c w number) ∷ row 9 (notOpen c number) ∷ []
 
 -- a difference XORed into the page memory at a place

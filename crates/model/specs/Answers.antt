@@ -16,7 +16,7 @@ use Rattle.model.specs.Anchor.{sizesOn, startOn}
 use Rattle.model.specs.World.{World, stores}
 use Rattle.model.specs.State.{newCore, sound, isOpen}
 use Rattle.model.specs.Refusal.{Row, numberOf, storesOf, firstOf, secondOf}
-use Rattle.model.specs.Reads.{countsFit, slotFits, homeFits, updateFits, fitsOn}
+use Rattle.model.specs.Reads.{countsFit, slotFits, homeFits, updateFits, abortFits, fitsOn}
 use Rattle.model.specs.Causes.{whenShut, whenReplaying, whenOpen, whenCopying, whenServing, stageForbids, wrongTail, faultFrom}
 use Rattle.model.specs.Abort.{abortFault}
 use Rattle.model.specs.Restart.{stepFault}
@@ -57,7 +57,7 @@ fitsCall begin c w = countsFit c
 fitsCall (update number page slot value budget) c w = fitsOn (updateFits number page slot c) c w
 fitsCall (look q) c w = fitsLook q c w
 fitsCall (commit number budget) c w = fitsOn (homeFits number c) c w
-fitsCall (abort number budget) c w = fitsOn (sound c) c w
+fitsCall (abort number budget) c w = fitsOn (abortFits number c) c w
 fitsCall checkpointBegin c w = fitsOn (sound c) c w
 fitsCall (checkpointStep budget) c w = fitsOn (sound c) c w
 fitsCall (checkpointEnd budget) c w = fitsOn (sound c) c w

@@ -3,9 +3,6 @@ use crate::Called;
 use crate::State;
 use crate::carried_of;
 use crate::hand_back;
-use crate::whole::kept;
-use crate::whole::loaded;
-use head::own::body_start;
 use model::Answer;
 ghost use mathlib.Core.Path.{_≡_};
 ghost use mathlib.Core.Bool.{true};
@@ -160,17 +157,7 @@ pub fn abort(
         (handedOf r) (new budget) (worldOf (old anchor) (new pages) (old backups) (new logs) (new work)) ⌝ }
     ensures { λ r. ⌜ (sound (coreOf (state .carried) (old work)) ≡ true → sound (coreOf (r .state .carried) (new work)) ≡ true) ⌝ }
 {
-    let core = loaded(state, work);
-    let from = body_start(work.len());
-    let reply = abort::abort::abort(
-        core,
-        number,
-        anchor,
-        pages,
-        backups,
-        logs,
-        &mut work[from..],
-        budget,
-    );
-    kept(reply, work)
+    let carried = carried_of(state);
+    let handed = abort::abort::abort(carried, number, anchor, pages, backups, logs, work, budget);
+    hand_back(handed)
 }

@@ -8,9 +8,10 @@ use lib.ListN.{take}
 use lib.Seq.{take-all}
 use borrow.Author.Tests.{not-true, not-false}
 use Rattle.model.specs.Scan.{scan}
-use Rattle.model.specs.State.{tailOf, fillOf, endOf}
+use Rattle.model.specs.State.{endOf}
 use Rattle.log.specs.Reading.{positionsIn}
-use Rattle.abort.specs.Undo.{reader}
+use Rattle.abort.specs.Undo.{onlyLog, reader}
+use Rattle.abort.proofs.Tips.{tip-sized, tip-end}
 use Rattle.abort.proofs.Disks.{small}
 use Rattle.abort.proofs.Undone.{did-lengths}
 use Rattle.abort.proofs.Pending.{Pending, pending-start, pending-last}
@@ -20,40 +21,34 @@ use Rattle.abort.proofs.undo.undo_all.Statement.{statement}
 use Rattle.abort.proofs.undo.undo_all.Tie as tie
 
 abbrev Inv-loop : tie.InvT-loop
-Inv-loop sizes disk number pages₀ logs₀ work₀ budget₀ notes d end after₀ k₀ pages logs work budget after k =
+Inv-loop sizes disk number pages₀ logs₀ work₀ budget₀ notes end after₀ k₀ pages logs work budget after k =
     (k ≤ k₀)
-    × Pending sizes disk number after₀ pages₀ logs₀ work₀ budget₀
-    (positionsIn number (scan sizes (reader sizes after₀ disk logs₀ work₀) (endOf after₀ disk) (notes .from))) after pages logs work budget
-    (take (128 * k) (positionsIn number (scan sizes (reader sizes after₀ disk logs₀ work₀) (endOf after₀ disk) (notes .from))))
+    × Pending sizes disk number (onlyLog disk after₀) pages₀ logs₀ work₀ budget₀
+    (positionsIn number (scan sizes (reader sizes (onlyLog disk after₀) disk logs₀ work₀) (endOf (onlyLog disk after₀) disk) (notes .from))) (onlyLog disk after) pages logs work budget
+    (take (128 * k) (positionsIn number (scan sizes (reader sizes (onlyLog disk after₀) disk logs₀ work₀) (endOf (onlyLog disk after₀) disk) (notes .from))))
 
 abbrev μ-loop : tie.MeasureT-loop
-μ-loop sizes disk number pages₀ logs₀ work₀ budget₀ notes d end after₀ k₀ pages logs work budget after k = k
-
-mul-end : tie.Need-mul-end Inv-loop μ-loop
-mul-end c = let b = small (c .before .before .before .pre .0 .serving) in omega (arith, b .below)
-
-mul-end-2 : tie.Need-mul-end-2 Inv-loop μ-loop
-mul-end-2 c = let b = small (c .before .before .before .before .pre .0 .serving) in omega (arith, b .below)
+μ-loop sizes disk number pages₀ logs₀ work₀ budget₀ notes end after₀ k₀ pages logs work budget after k = k
 
 add-end : tie.Need-add-end Inv-loop μ-loop
-unfolding endOf tailOf fillOf
-add-end c = omega (arith, c .before .before .before .before .before .pre .0 .serving .end-small)
+add-end c =
+    let pre = c .before .before .before .before .pre in
+    omega (arith, tip-end _ (c .before .before .before .before .args .tip) (small (pre .0 .serving) .below), pre .0 .serving .end-small)
 
 add-k : tie.Need-add-k Inv-loop μ-loop
-add-k c = let pre = c .before .before .before .before .before .pre in omega (arith, pre .1 .all, all-few _ _ _ _ _ _ _ _ (pre .0))
+add-k c = let pre = c .before .before .before .before .pre in omega (arith, pre .1 .all, all-few _ _ _ _ _ _ _ _ (pre .0))
 
 loop-holds : tie.Need-loop-holds Inv-loop μ-loop
-unfolding endOf tailOf fillOf
 loop-holds c =
-    let pre = c .before .before .before .before .before .pre in (
+    let pre = c .before .before .before .before .pre in (
       omega arith,
       rw (take-all _ _ (all-held _ _ _ _ _ _ _ _ (pre .0) (pre .1)))
-          (pending-start _ _ _ _ _ _ _ _ _ (all-takeable _ _ _ _ _ _ _ _ (pre .0)) (record { starts = search needs; tails = search needs; fills = search needs })),
+          (pending-start _ _ _ _ _ _ _ _ _ (all-takeable _ _ _ _ _ _ _ _ (pre .0)) (tip-sized _ _)),
     )
 
 mul-smaller : tie.Need-mul-smaller Inv-loop μ-loop
 mul-smaller c =
-    let start = c .before .before .before .before .before .before .before in
+    let start = c .before .before .before .before .before .before in
     let ok = start .pre .0 in
     let noted = start .pre .1 in
     let turn = c .before .loop in
@@ -63,7 +58,7 @@ mul-smaller c =
 
 sub-smaller : tie.Need-sub-smaller Inv-loop μ-loop
 sub-smaller c =
-    let start = c .before .before .before .before .before .before .before in
+    let start = c .before .before .before .before .before .before in
     let ok = start .pre .0 in
     let noted = start .pre .1 in
     let turn = c .before .loop in
@@ -72,7 +67,7 @@ sub-smaller c =
 
 mul-p : tie.Need-mul-p Inv-loop μ-loop
 mul-p c =
-    let start = c .before .before .before .before .before .before .before .before in
+    let start = c .before .before .before .before .before .before .before in
     let ok = start .pre .0 in
     let noted = start .pre .1 in
     let turn = c .before .before .loop in
@@ -82,7 +77,7 @@ mul-p c =
 
 element-copy-out-p : tie.Need-element-copy-out-p Inv-loop μ-loop
 element-copy-out-p c =
-    let start = c .before .before .before .before .before .before .before .before in
+    let start = c .before .before .before .before .before .before .before in
     let ok = start .pre .0 in
     let noted = start .pre .1 in
     let turn = c .before .before .loop in
@@ -91,52 +86,52 @@ element-copy-out-p c =
     omega (arith, few, noted .all, turn .inv .0, some)
 
 group-from-requires : tie.Need-group-from-requires Inv-loop μ-loop
-unfolding endOf tailOf fillOf
 group-from-requires c κs =
-    let start = c .before .before .before .before .before .before .before .before .before .before .before in
+    let start = c .before .before .before .before .before .before .before .before .before .before in
     let ok = start .pre .0 in
     let noted = start .pre .1 in
     let turn = c .before .before .before .before .before .loop in
     let some = c .before .before .before .before .loop-test .taken in
     let size = c .before .before .before .smaller .ensures in
+    let ends = tip-end _ (start .args .tip) (small (ok .serving) .below) in
     let p = turn .inv .1 in (
-      (p .serving, p .longer, omega (arith, size)),
-      omega (arith, size, here-many _ _ _ _ _ _ _ _ ok (turn .k) (omega (arith, some)) p noted (turn .inv .0)),
+      (p .serving, omega (arith, ends, p .longer), omega (arith, size)),
+      rw (← ends) (omega (arith, size, here-many _ _ _ _ _ _ _ _ ok (turn .k) (omega (arith, some)) p noted (turn .inv .0))),
     )
 
 undo-group-requires : tie.Need-undo-group-requires Inv-loop μ-loop
-unfolding endOf tailOf fillOf
 undo-group-requires c κs =
-    let start = c .before .before .before .before .before .before .before .before .before .before .before .before .before .before .before .before in
+    let start = c .before .before .before .before .before .before .before .before .before .before .before .before .before .before .before in
     let ok = start .pre .0 in
     let noted = start .pre .1 in
     let turn = c .before .before .before .before .before .before .before .before .before .before .loop in
     let some = c .before .before .before .before .before .before .before .before .before .loop-test .taken in
-    let got = c .before .before .before .before .group-from .ensures in
+    let ends = tip-end _ (start .args .tip) (small (ok .serving) .below) in
+    let got = rw (← ends) at (c .before .before .before .before .group-from .ensures) in
     let size = c .before .before .before .before .before .before .before .before .smaller .ensures in
     (omega (arith, got .many, size), group-takeable _ _ _ _ _ _ _ _ ok (turn .k) (omega (arith, some)) (turn .inv .1) noted (turn .inv .0) size got)
 
 same-length : tie.Need-same-length Inv-loop μ-loop
 same-length c =
-    did-lengths (c .before .before .before .before .before .before .before .before .undo-group .ensures [] []) .pages ∙ c .before .before .before .before .before .before .before .before .before .before .before .before .before .before .before .before .before .before .before .loop .inv .1 .page-words ∙ sym (c .before .before .before .before .before .before .before .before .before .before .before .before .before .before .before .before .before .before .before .before .before .before .before .before .before .pre .0 .page-words)
+    did-lengths (c .before .before .before .before .before .before .before .before .undo-group .ensures [] []) .pages ∙ c .before .before .before .before .before .before .before .before .before .before .before .before .before .before .before .before .before .before .before .loop .inv .1 .page-words ∙ sym (c .before .before .before .before .before .before .before .before .before .before .before .before .before .before .before .before .before .before .before .before .before .before .before .before .pre .0 .page-words)
 
 same-length-2 : tie.Need-same-length-2 Inv-loop μ-loop
 same-length-2 c =
-    did-lengths (c .before .before .before .before .before .before .before .before .undo-group .ensures [] []) .logs ∙ c .before .before .before .before .before .before .before .before .before .before .before .before .before .before .before .before .before .before .before .loop .inv .1 .serving .log-words ∙ sym (c .before .before .before .before .before .before .before .before .before .before .before .before .before .before .before .before .before .before .before .before .before .before .before .before .before .pre .0 .serving .log-words)
+    did-lengths (c .before .before .before .before .before .before .before .before .undo-group .ensures [] []) .logs ∙ c .before .before .before .before .before .before .before .before .before .before .before .before .before .before .before .before .before .before .before .loop .inv .1 .serving .log-words ∙ sym (c .before .before .before .before .before .before .before .before .before .before .before .before .before .before .before .before .before .before .before .before .before .before .before .before .pre .0 .serving .log-words)
 
 same-length-3 : tie.Need-same-length-3 Inv-loop μ-loop
 same-length-3 c =
-    did-lengths (c .before .before .before .before .before .before .before .before .undo-group .ensures [] []) .work ∙ c .before .before .before .before .before .before .before .before .before .before .before .before .before .before .before .before .before .before .before .loop .inv .1 .serving .work-words ∙ sym (c .before .before .before .before .before .before .before .before .before .before .before .before .before .before .before .before .before .before .before .before .before .before .before .before .before .pre .0 .serving .work-words)
+    did-lengths (c .before .before .before .before .before .before .before .before .undo-group .ensures [] []) .work ∙ c .before .before .before .before .before .before .before .before .before .before .before .before .before .before .before .before .before .before .before .loop .inv .1 .serving .work-words ∙ sym (c .before .before .before .before .before .before .before .before .before .before .before .before .before .before .before .before .before .before .before .before .before .before .before .before .pre .0 .serving .work-words)
 
 returns : tie.Need-returns Inv-loop μ-loop
-unfolding endOf tailOf fillOf
 returns c =
-    let start = c .before .before .before .before .before .before .before .before .before .before .before .before .before .before .before .before .before .before .before .before .before .before .before .before .before in
+    let start = c .before .before .before .before .before .before .before .before .before .before .before .before .before .before .before .before .before .before .before .before .before .before .before .before in
     let ok = start .pre .0 in
     let noted = start .pre .1 in
     let turn = c .before .before .before .before .before .before .before .before .before .before .before .before .before .before .before .before .before .before .before .loop in
     let some = c .before .before .before .before .before .before .before .before .before .before .before .before .before .before .before .before .before .before .loop-test .taken in
-    let got = c .before .before .before .before .before .before .before .before .before .before .before .before .before .group-from .ensures in
+    let ends = tip-end _ (start .args .tip) (small (ok .serving) .below) in
+    let got = rw (← ends) at (c .before .before .before .before .before .before .before .before .before .before .before .before .before .group-from .ensures) in
     let size = c .before .before .before .before .before .before .before .before .before .before .before .before .before .before .before .before .before .smaller .ensures in
     λ anchor backups.
     group-cut _ _ _ _ _ _ _ _ ok (turn .k) (omega (arith, some)) (turn .inv .1) noted (turn .inv .0) size got anchor backups
@@ -146,31 +141,31 @@ loop-less : tie.Need-loop-less Inv-loop μ-loop
 loop-less c = let some = c .before .before .before .before .before .before .before .before .before .before .before .before .before .before .before .before .before .before .before .loop-test .taken in omega arith
 
 loop-again : tie.Need-loop-again Inv-loop μ-loop
-unfolding endOf tailOf fillOf
 loop-again c =
-    let start = c .before .before .before .before .before .before .before .before .before .before .before .before .before .before .before .before .before .before .before .before .before .before .before .before .before .before in
+    let start = c .before .before .before .before .before .before .before .before .before .before .before .before .before .before .before .before .before .before .before .before .before .before .before .before .before in
     let ok = start .pre .0 in
     let noted = start .pre .1 in
     let turn = c .before .before .before .before .before .before .before .before .before .before .before .before .before .before .before .before .before .before .before .before .loop in
     let some = c .before .before .before .before .before .before .before .before .before .before .before .before .before .before .before .before .before .before .before .loop-test .taken in
-    let got = c .before .before .before .before .before .before .before .before .before .before .before .before .before .before .group-from .ensures in
+    let ends = tip-end _ (start .args .tip) (small (ok .serving) .below) in
+    let got = rw (← ends) at (c .before .before .before .before .before .before .before .before .before .before .before .before .before .before .group-from .ensures) in
     let size = c .before .before .before .before .before .before .before .before .before .before .before .before .before .before .before .before .before .before .smaller .ensures in (
       omega (arith, turn .inv .0),
       group-step _ _ _ _ _ _ _ _ ok (turn .k) (omega (arith, some)) (turn .inv .1) noted (turn .inv .0) size got (not-false _ (c .before .if1 .left)) (c .before .before .before .before .before .before .before .before .before .undo-group .ensures),
     )
 
 same-length-4 : tie.Need-same-length-4 Inv-loop μ-loop
-same-length-4 c = c .before .loop .inv .1 .page-words ∙ sym (c .before .before .before .before .before .before .before .pre .0 .page-words)
+same-length-4 c = c .before .loop .inv .1 .page-words ∙ sym (c .before .before .before .before .before .before .pre .0 .page-words)
 
 same-length-5 : tie.Need-same-length-5 Inv-loop μ-loop
-same-length-5 c = c .before .loop .inv .1 .serving .log-words ∙ sym (c .before .before .before .before .before .before .before .pre .0 .serving .log-words)
+same-length-5 c = c .before .loop .inv .1 .serving .log-words ∙ sym (c .before .before .before .before .before .before .pre .0 .serving .log-words)
 
 same-length-6 : tie.Need-same-length-6 Inv-loop μ-loop
-same-length-6 c = c .before .loop .inv .1 .serving .work-words ∙ sym (c .before .before .before .before .before .before .before .pre .0 .serving .work-words)
+same-length-6 c = c .before .loop .inv .1 .serving .work-words ∙ sym (c .before .before .before .before .before .before .pre .0 .serving .work-words)
 
 returns-2 : tie.Need-returns-2 Inv-loop μ-loop
 returns-2 c =
-    let ok = c .before .before .before .before .before .before .before .pre .0 in
+    let ok = c .before .before .before .before .before .before .pre .0 in
     let turn = c .before .loop in
     let none : turn .k ≡ 0 = omega arith in
     λ anchor backups.
@@ -183,10 +178,6 @@ undo-all-spec =
     (tie.spec
     Inv-loop
     μ-loop
-    mul-end
-    (λ c. small (c .before .before .before .pre .0 .serving) .below)
-    mul-end-2
-    (λ c. small (c .before .before .before .before .pre .0 .serving) .below)
     add-end
     add-k
     loop-holds

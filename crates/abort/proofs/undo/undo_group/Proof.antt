@@ -6,6 +6,8 @@ use Prim.Native.Nat.{_≤_}
 use native.Mathlib.Omega.{arith}
 use lib.ListN.{length, take}
 use borrow.Author.Tests.{not-true, not-false}
+use Rattle.abort.specs.Undo.{onlyLog}
+use Rattle.abort.proofs.Tips.{tip-sized}
 use Rattle.abort.proofs.Undone.{did-lengths}
 use Rattle.abort.proofs.Pending.{Pending, pending-start, pending-last}
 use Rattle.abort.proofs.OneLeft.{one-there, one-compensable, one-cut, one-step}
@@ -16,7 +18,7 @@ use Rattle.abort.proofs.undo.undo_group.Tie as tie
 abbrev Inv-loop : tie.InvT-loop
 Inv-loop sizes disk number pages₀ logs₀ work₀ budget₀ at after₀ n₀ pages logs work budget after n =
     (n ≤ 128) × (length at ≡ 128)
-    × Pending sizes disk number after₀ pages₀ logs₀ work₀ budget₀ (take n₀ at) after pages logs work budget (take n at)
+    × Pending sizes disk number (onlyLog disk after₀) pages₀ logs₀ work₀ budget₀ (take n₀ at) (onlyLog disk after) pages logs work budget (take n at)
 
 abbrev μ-loop : tie.MeasureT-loop
 μ-loop sizes disk number pages₀ logs₀ work₀ budget₀ at after₀ n₀ pages logs work budget after n = n
@@ -24,7 +26,7 @@ abbrev μ-loop : tie.MeasureT-loop
 loop-holds : tie.Need-loop-holds Inv-loop μ-loop
 loop-holds c =
     let pre = c .before .before .before .before .pre in
-    (pre .0, search needs, pending-start _ _ _ _ _ _ _ _ _ (pre .1) (record { starts = search needs; tails = search needs; fills = search needs }))
+    (pre .0, search needs, pending-start _ _ _ _ _ _ _ _ _ (pre .1) (tip-sized _ _))
 
 mul-site-at : tie.Need-mul-site-at Inv-loop μ-loop
 mul-site-at c = let few = c .before .loop .inv .0 in omega arith

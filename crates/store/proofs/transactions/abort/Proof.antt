@@ -1,25 +1,16 @@
--- `store::transactions::abort` meets its contract: what the call gives on the whole state, kept. Assumes nothing.
-use mathlib.Core.Path.{refl}
+-- `store::transactions::abort` meets its contract: what the call gives, handed back. Assumes nothing.
 use Rattle.model.specs.World.{worldOf}
 use Rattle.model.specs.Call.{abort}
-use Rattle.store.proofs.Served.{lent-room, lent-served}
+use Rattle.store.proofs.Handing.{handed-on}
 use borrow.Author.Needs.{needs}
 use Rattle.store.proofs.transactions.abort.Statement.{statement}
 use Rattle.store.proofs.transactions.abort.Tie as tie
 
-room : tie.Need-kept-requires
-room c κs =
-    let x = c .before .before .before .before .before .before .before .before .before .before .before .before .before .before .before .before .before .before .before .before .args in
-    lent-room (abort (x .number) (x .budget .now)) refl (x .state .carried) (worldOf (x .anchor .now) (x .pages .now) (x .backups .now) (x .logs .now) (x .work .now))
-    (c .before .before .before .before .before .before .before .before .before .before .before .before .before .loaded .ensures) (c .before .before .before .before .before .before .before .before .before .before .before .before .body-start .ensures) _ _ _
-    (c .before .before .before .before .before .before .before .abort .ensures)
-
 returns : tie.Need-returns
 returns c =
-    let x = c .before .before .before .before .before .before .before .before .before .before .before .before .before .before .before .before .before .before .before .before .before .before .before .args in
-    lent-served (abort (x .number) (x .budget .now)) refl (x .state .carried) (worldOf (x .anchor .now) (x .pages .now) (x .backups .now) (x .logs .now) (x .work .now))
-    (c .before .before .before .before .before .before .before .before .before .before .before .before .before .before .before .before .loaded .ensures) (c .before .before .before .before .before .before .before .before .before .before .before .before .before .before .before .body-start .ensures) _ _ _
-    (c .before .before .before .before .before .before .before .before .before .before .abort .ensures) (c .before .before .kept .ensures)
+    let x = c .before .before .before .before .before .before .before .before .before .before .before .before .before .before .before .before .before .before .args in
+    handed-on (abort (x .number) (x .budget .now)) (x .state .carried) (worldOf (x .anchor .now) (x .pages .now) (x .backups .now) (x .logs .now) (x .work .now)) _ _ _
+    (c .before .before .before .before .before .before .before .before .before .before .before .before .carried-of .ensures) (c .before .before .before .before .before .before .before .abort .ensures) (c .hand-back .ensures)
 
 pub abort-spec : {M : Type 1} → statement M
 abort-spec =
@@ -27,12 +18,7 @@ abort-spec =
     (tie.spec
     (λ c κs. search needs)
     (λ c κs. search needs)
-    (λ c. search needs)
-    (λ c. search needs)
-    (λ c. search needs)
-    (λ c. search needs)
     (λ c κs. search needs)
-    room
     (λ c. search needs)
     (λ c. search needs)
     (λ c. search needs)
