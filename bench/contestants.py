@@ -22,8 +22,9 @@ LONGER = {"C": 10}  # times as many transactions, so that a run is long enough t
 LOGGING = ["proved", "C"]  # these have the same devices, and so must agree in every count
 
 
-def stdin_of(sizes, transactions, restarts):
-    return f"{sizes['pages']} {sizes['slots']} {sizes['width']} {sizes['disks']} {sizes['ring']} {transactions} {restarts}\n"
+def stdin_of(sizes, transactions, restarts, steps=0):
+    """What a contestant reads; `steps` says to the proved store that it restarts by single steps."""
+    return f"{sizes['pages']} {sizes['slots']} {sizes['width']} {sizes['disks']} {sizes['ring']} {transactions} {restarts} {steps}\n"
 
 
 def parsed(text):
@@ -145,10 +146,10 @@ def instructions(name, n=2_000):
     return (count(n) - count(0)) / n
 
 
-def restart_instructions(name, n, most=11):
+def restart_instructions(name, n, most=11, steps=0):
     """Instructions for a restarted record: many restarts less one."""
-    one, _ = counted(COMMANDS[name], stdin_of(SIZES, n, 1))
-    many, printed = counted(COMMANDS[name], stdin_of(SIZES, n, most))
+    one, _ = counted(COMMANDS[name], stdin_of(SIZES, n, 1, steps))
+    many, printed = counted(COMMANDS[name], stdin_of(SIZES, n, most, steps))
     return (many - one) / (most - 1) / parsed(printed)["records"]
 
 

@@ -74,6 +74,8 @@ def main_table():
         figure("a transaction, instructions", {name: instructions(name) for name in ALL}),
         figure("a restarted record, ns", {name: restart[name][0] / records * 1e9 for name in LOGGING}),
         figure("a restarted record, instructions", {name: restart_instructions(name, RETAINED) for name in LOGGING}),
+        figure("a record restarted by a single step, instructions",
+               {name: restart_instructions(name, RETAINED, most=3, steps=1) for name in LOGGING}),
         figure("a restart, µs", {name: t * 1e6 for name, (t, _) in restart.items()}),
         figure("stores for a transaction, words", {name: stores(name, results) for name in ALL}),
         figure("bytes copied for a call", {name: copied_bytes(name) for name in ALL}),

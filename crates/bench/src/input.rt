@@ -1,4 +1,4 @@
-// The sizes, as decimal numbers in the order of Plan's first seven fields. What is too large counts as the largest.
+// The sizes, as decimal numbers in the order of Plan's first eight fields. What is too large counts as the largest, what is missing as 0.
 use crate::stream::product;
 ghost use Prim.Native.Nat.{_≤_};
 
@@ -10,6 +10,7 @@ pub struct Plan {
     pub ring: u64,
     pub transactions: u64,
     pub restarts: u64,
+    pub steps: u64,
     pub memory: u64,
     pub copies: u64,
     pub rings: u64,
@@ -68,6 +69,7 @@ fn planned(
     ring: u64,
     transactions: u64,
     restarts: u64,
+    steps: u64,
 ) -> Plan {
     let p = at_most(pages, 64);
     let s = at_most(slots, 128);
@@ -83,6 +85,7 @@ fn planned(
         ring: r,
         transactions: at_most(transactions, 4000000000),
         restarts,
+        steps,
         memory: t,
         copies: 2 * t,
         rings: at_most(product(d, r + 1), 524296),
@@ -92,5 +95,5 @@ fn planned(
 
 pub fn plan_of(text: &[u8]) -> Plan {
     let n = numbers(text);
-    planned(n[0], n[1], n[2], n[3], n[4], n[5], n[6])
+    planned(n[0], n[1], n[2], n[3], n[4], n[5], n[6], n[7])
 }

@@ -1,4 +1,5 @@
 // The restarts after a power failure.
+use crate::answers::is_refused;
 use crate::answers::value_of;
 use crate::input::Plan;
 use std::num::wrapping_add_u64;
@@ -6,6 +7,7 @@ use store::State;
 use store::restarts::restart_begin;
 use store::restarts::restart_end;
 use store::restarts::restart_run;
+use store::restarts::restart_step;
 
 // A restart under way, and the records of the logs that it took.
 struct Progress {
@@ -13,7 +15,40 @@ struct Progress {
     records: u64,
 }
 
-// One run of a source: no source has more items than a ring has words and the store has pages.
+// The most items that a source can have: no more than a ring has words and the store has pages.
+fn most_items(plan: Plan) -> u64 {
+    wrapping_add_u64(plan.ring, plan.pages)
+}
+
+// A source by single steps, up to the one that is refused.
+fn source_stepped(
+    plan: Plan,
+    state: State,
+    source: u64,
+    anchor: &[u64],
+    pages: &mut [u64],
+    backups: &[u64],
+    logs: &[u64],
+    work: &mut [u64],
+) -> Progress {
+    let most = most_items(plan);
+    let mut s = state;
+    let mut records: u64 = 0;
+    let mut i: u64 = 0;
+    while i < most {
+        let done = restart_step(s, source, anchor, pages, backups, logs, work);
+        let answer = done.answer;
+        s = done.state;
+        i += 1;
+        if is_refused(answer) {
+            return Progress { state: s, records };
+        }
+        records = i;
+    }
+    Progress { state: s, records }
+}
+
+// A source by one run, or by single steps.
 fn source_replayed(
     plan: Plan,
     state: State,
@@ -24,7 +59,12 @@ fn source_replayed(
     logs: &[u64],
     work: &mut [u64],
 ) -> Progress {
-    let most = wrapping_add_u64(plan.ring, plan.pages);
+    if plan.steps != 0 {
+        return source_stepped(
+            plan, state, source, anchor, pages, backups, logs, work,
+        );
+    }
+    let most = most_items(plan);
     let done = restart_run(state, source, most, anchor, pages, backups, logs, work);
     let s = done.state;
     let answer = done.answer;

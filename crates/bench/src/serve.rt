@@ -18,7 +18,7 @@ use store::transactions::update;
 use trial_table::words::get;
 
 // An open transaction: the state, and its number.
-struct Opened {
+struct Transaction {
     state: State,
     number: u64,
 }
@@ -33,7 +33,7 @@ fn opened(
     logs: &mut [u64],
     work: &mut [u64],
     budget: &mut u64,
-) -> Opened {
+) -> Transaction {
     let mut state = from;
     let mut number: u64 = 0;
     let mut tries: u64 = 0;
@@ -50,7 +50,7 @@ fn opened(
             tries = 2;
         }
     }
-    Opened { state, number }
+    Transaction { state, number }
 }
 
 // The close: an abort for one transaction in fifty.
