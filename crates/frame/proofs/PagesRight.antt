@@ -5,7 +5,7 @@ use mathlib.Core.List.{List}
 use mathlib.Core.Bool.{Bool, true, false, cond, _&&_, _||_, and-false}
 use Prim.Native.Nat.{ℕ, _+_, _*_, _≤_, _<_}
 use native.Mathlib.Omega.{arith}
-use lib.Dec.{leb, ltb, eqb}
+use lib.Dec.{ltb, eqb}
 use lib.ListN.{length, getD}
 use borrow.Author.Tests.{ltb-true, ltb-false, lt-ltb, le-ltb, lt-leb, eqb-true, eq-eqb, ne-eqb}
 use Rattle.model.specs.declared.Core.{Core}
@@ -17,8 +17,7 @@ use Rattle.model.specs.State.{baseOf, basesRight}
 use Rattle.model.specs.View.{headSlots, headWidths, headBases, ownWork, coreOf}
 use Rattle.model.specs.Fields.{slots, widths, bases}
 use Rattle.model.proofs.Booleans.{both, both-ways}
-use Rattle.model.proofs.Below.{all-each, each-all, all-stop, all-more, all-done, sum-cong}
-use Rattle.model.proofs.Bounds.{bounded}
+use Rattle.model.proofs.Below.{all-each, each-all, all-stop, sum-cong}
 use Rattle.model.proofs.Geometry.{page-base-mono}
 use Rattle.model.proofs.KeptBases.{total-kept, base-kept, bases-test}
 use Rattle.model.proofs.View.Head.{HeadSized, view-sized, carried-back}
@@ -184,8 +183,8 @@ module _ (h : Carried) (work : List ℕ) (own : ownWork h work ≡ true) {pages 
     unfolding usedRight entryInBounds total
     used-passes =
         let each = each-all (usedAt work) pages (λ i low.
-            let below : ltb i (s .pages) ≡ true = lt-ltb i (s .pages) (omega (arith, low, pages-here)) in
-            sym (used-here i (omega (arith, low, few))) ∙ rw ((rw below at (entry i (omega (arith, low, few)))), eq-eqb _ _ (base-kept c right i (omega (arith, low, few)))) refl) in
+        let below : ltb i (s .pages) ≡ true = lt-ltb i (s .pages) (omega (arith, low, pages-here)) in
+        sym (used-here i (omega (arith, low, few))) ∙ rw ((rw below at (entry i (omega (arith, low, few)))), eq-eqb _ _ (base-kept c right i (omega (arith, low, few)))) refl) in
         let last : sumBelow (wordsAt work) pages ≡ t = sym (sum-here pages few) ∙ ap (pageBase s) (sym pages-here) ∙ sym (total-kept c right) ∙ total-here in
         rw (each, eq-eqb _ _ last) refl
 

@@ -1,21 +1,19 @@
 -- A replaying state by the words of the head: the tests of the code are those of `replaySound`.
-use mathlib.Core.Path.{_≡_, refl, sym, ap, _∙_}
+use mathlib.Core.Path.{_≡_, refl}
 use mathlib.Core.List.{List}
-use mathlib.Core.Bool.{Bool, true, false, _&&_, and-false, and-true}
-use Prim.Native.Nat.{ℕ, _+_, _≤_, _<_}
+use mathlib.Core.Bool.{Bool, true, false, _&&_}
+use Prim.Native.Nat.{ℕ, _≤_, _<_}
 use native.Mathlib.Omega.{arith}
 use lib.Dec.{leb, ltb}
 use lib.ListN.{getD}
-use borrow.Author.Tests.{le-ltb, lt-ltb, lt-leb, le-leb}
 use Rattle.model.specs.declared.Core.{Core}
 use Rattle.model.specs.declared.Carried.{Carried}
 use Rattle.model.specs.Below.{allBelow}
 use Rattle.model.specs.Sizes.{sizesInBounds}
 use Rattle.model.specs.State.{limit, tailOf, basesRight, replaySound}
-use Rattle.model.specs.View.{headPositions, headPage, ownWork, coreOf}
+use Rattle.model.specs.View.{headPage, ownWork, coreOf}
 use Rattle.model.specs.Fields.{positions, page}
 use Rattle.model.proofs.Below.{all-cong}
-use Rattle.model.proofs.View.Head.{carried-back}
 use Rattle.model.proofs.View.Fields.{field-read}
 use Rattle.frame.specs.Pages.{positionRight}
 

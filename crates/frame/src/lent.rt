@@ -68,6 +68,15 @@ pub fn lent_refusal(
 {
     let serving = is_serving(stage);
     refusal_when(
-        serving, pages, disks, ring, total, anchor, paged, backups, logs, work,
+        serving,
+        pages,
+        disks,
+        ring,
+        total,
+        anchor,
+        paged,
+        backups,
+        logs,
+        work,
     )
 }

@@ -12,7 +12,6 @@ use Rattle.model.specs.declared.Decoded.the-variants.{Change, Close, Malformed}
 use Rattle.model.specs.declared.Fate.{Fate}
 use Rattle.model.specs.declared.Fate.the-variants.{Closed, Unclosed, Unreadable}
 use Rattle.model.specs.declared.Fault.the-variants.{NoFault, BadRecord}
-use Rattle.model.specs.declared.Reply.{Reply}
 use Rattle.model.specs.Word.{part}
 use Rattle.model.specs.Sizes.{pageBase, pageWords, slotBase}
 use Rattle.model.specs.Anchor.{backupAt}
@@ -21,16 +20,14 @@ use Rattle.model.specs.Image.{xorAt}
 use Rattle.model.specs.World.{World, Action, perform}
 use Rattle.model.specs.State.{withReplay, tailOf}
 use Rattle.model.specs.Refusal.{rejected, verdict}
-use Rattle.model.specs.Causes.{whenReplaying, sourceMissing}
+use Rattle.model.specs.Causes.{sourceMissing}
 use Rattle.model.specs.Abort.{xorIn}
-use Rattle.model.specs.Restart.{positionOf, remaining, replays, readDisk, fateFrom, nextRecord, fateFault, recordFault, stepFault, restartStepRows, backupStep, movedTo, recordStep, restartStepTask}
-use Rattle.model.specs.Call.{Gives, resultOf, restartStep}
+use Rattle.model.specs.Restart.{positionOf, remaining, replays, readDisk, fateFrom, nextRecord, fateFault, recordFault, stepFault, backupStep, movedTo, recordStep, restartStepTask}
+use Rattle.model.specs.Call.{restartStep}
 use Rattle.model.proofs.Storeless.{storeless-finishes}
 use Rattle.model.proofs.Restart.Words.{withPages, perform-xor}
 use Rattle.model.proofs.Restart.Steps.{remaining-log, remaining-backup}
-use Rattle.frame.specs.Checks.{CommonRefusal}
 use Rattle.frame.specs.Settle.{refusedWith}
-use Rattle.frame.proofs.Given.{common-decided}
 use Rattle.replay.specs.Step.{finished, stepRest, StepsOn}
 use Rattle.replay.proofs.Storeless.{nothing-spent}
 
@@ -143,9 +140,3 @@ module _ (c : Core) (w : World) where
       steps-taken c w (c .sizes .disks) {actions = xorIn at diff (w .pages)} no-fault (omega arith) (omega (arith, remaining-backup c))
       (rw (le-ltb (c .sizes .disks) (c .sizes .disks) (omega arith)))
       (rw did (perform-xor at diff w))
-
--- What a step gives after the common checks.
-pub step-given : {c : Core} {w : World} {n : ℕ} → CommonRefusal whenReplaying c w n → n ≡ 0 → (source : ℕ) (r : Reply) (v : World)
-    → StepsOn c w source r v → Gives (restartStep source) c w r 0 v
-unfolding restartStepRows Gives resultOf StepsOn stepRest
-step-given {c} {w} checks none source r v did = rw (common-decided checks none (stepRest c w source)) did

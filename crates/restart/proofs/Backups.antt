@@ -13,10 +13,9 @@ use Rattle.model.specs.Anchor.{backupAt}
 use Rattle.model.specs.Image.{xorAt}
 use Rattle.model.specs.World.{World, worldOf}
 use Rattle.model.specs.State.{baseOf, withReplay}
-use Rattle.model.specs.View.{headSlots, headWidths, headBases, headPage, coreOf, bodyOf}
+use Rattle.model.specs.View.{headSlots, headWidths, headBases, headPage, coreOf}
 use Rattle.model.specs.Fields.{slots, widths, bases, page}
 use Rattle.model.proofs.KeptBases.{base-kept}
-use Rattle.model.proofs.Restart.Words.{withPages}
 use Rattle.model.proofs.View.Head.{carried-back}
 use Rattle.model.proofs.View.Fields.{field-read}
 use Rattle.layout.proofs.Pages.{page-fits, copy-fits}

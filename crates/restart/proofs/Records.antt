@@ -4,7 +4,7 @@ use mathlib.Core.List.{List, []}
 use mathlib.Core.Bool.{Bool, true, false, cond}
 use Prim.Native.Nat.{ℕ, _+_, _*_, _≤_, _<_}
 use native.Mathlib.Omega.{arith}
-use lib.ListN.{length, getD}
+use lib.ListN.{getD}
 use Rattle.model.specs.declared.Core.{Core}
 use Rattle.model.specs.declared.Sizes.{Sizes}
 use Rattle.model.specs.declared.Carried.{Carried}
@@ -84,7 +84,6 @@ module _ {h : Carried} {disk : ℕ} {pages logs work : List ℕ} (on : OnDisk h 
     unfolding fateFrom readDisk
     fate-is anchor before backups body number p got =
         sym (fate-there (on .on) is p number (λ d lies. got (c .sizes) d (paged h work (on .own)) lies))
-
 
     -- by what is decoded, and by the transaction's fate
     module _ {position : ℕ} (same : positionOf (coreOf h work) disk ≡ position) (low : position < tailOf (coreOf h work .logs) disk)

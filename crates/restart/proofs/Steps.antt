@@ -19,11 +19,11 @@ use Rattle.model.specs.Memory.{workWords}
 use Rattle.model.specs.Anchor.{anchorWords, backupAt}
 use Rattle.model.specs.World.{World, worldOf}
 use Rattle.model.specs.State.{soundIn, sound, replaySound, withReplay}
-use Rattle.model.specs.Refusal.{Row, row, verdict, rejected}
+use Rattle.model.specs.Refusal.{row, verdict, rejected}
 use Rattle.model.specs.Causes.{whenShut, whenReplaying, anchorWrong}
 use Rattle.model.specs.Restart.{movedTo, restartStepRows}
 use Rattle.model.specs.Call.{restartStep, resultOf}
-use Rattle.model.specs.View.{headWords, headPositions, headPage, ownWork, coreOf, carriedOf, headLists, headOf, bodyOf, given, Serves}
+use Rattle.model.specs.View.{headWords, headPositions, headPage, ownWork, coreOf, carriedOf, headOf, bodyOf, given, Serves}
 use Rattle.model.specs.Fields.{positions, page, put, putWords}
 use Rattle.model.proofs.Booleans.{true-false, both, all-four}
 use Rattle.model.proofs.Store.Rows.{not-shut}

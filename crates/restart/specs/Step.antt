@@ -11,7 +11,7 @@ use Rattle.model.specs.declared.Reply.{Reply}
 use Rattle.model.specs.Sizes.{total}
 use Rattle.model.specs.World.{World}
 use Rattle.model.specs.Refusal.{verdict, conclude}
-use Rattle.model.specs.Restart.{positionOf, movedTo, restartStepTask}
+use Rattle.model.specs.Restart.{movedTo, restartStepTask}
 use Rattle.model.specs.View.{ownWork, coreOf, bodyOf, givenBy}
 use Rattle.frame.specs.Settle.{refusedWith}
 use Rattle.replay.specs.Step.{Replays, OnLog, finished, stepRest}

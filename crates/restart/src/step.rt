@@ -88,7 +88,14 @@ fn take_record(
             ..
         } => {
             let fate = fate_from(
-                carried.pages, slots, widths, logs, extent, none, next, number,
+                carried.pages,
+                slots,
+                widths,
+                logs,
+                extent,
+                none,
+                next,
+                number,
             );
             if let Fate::Unreadable { position: p } = fate {
                 return Taken {

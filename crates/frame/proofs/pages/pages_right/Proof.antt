@@ -1,5 +1,5 @@
 -- `frame::pages::pages_right` meets its contract: by its two tests. Assumes nothing.
-use mathlib.Core.Path.{refl, sym, _∙_}
+use mathlib.Core.Path.{sym, _∙_}
 use borrow.Author.Needs.{needs}
 use borrow.Author.Tests.{not-true, not-false}
 use Rattle.frame.proofs.PagesRight.{pages-tested}

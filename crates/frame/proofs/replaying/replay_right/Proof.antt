@@ -1,5 +1,5 @@
 -- `frame::replaying::replay_right` meets its contract: its tests are those of the definition, in another order. Assumes nothing.
-use mathlib.Core.Path.{refl, sym, _∙_}
+use mathlib.Core.Path.{sym, _∙_}
 use borrow.Author.Needs.{needs}
 use borrow.Author.Tests.{not-true, not-false, le-ltb, lt-ltb, lt-leb, le-leb}
 use Rattle.frame.proofs.ReplayRight.{replay-parts}

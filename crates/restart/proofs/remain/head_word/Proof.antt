@@ -1,7 +1,6 @@
 -- `restart::remain::head_word` meets its contract: by its test. Assumes nothing.
 use mathlib.Core.Path.{refl}
 use native.Mathlib.Omega.{arith}
-use borrow.Author.Needs.{needs}
 use Rattle.restart.proofs.remain.head_word.Statement.{statement}
 use Rattle.restart.proofs.remain.head_word.Tie as tie
 

@@ -1,5 +1,5 @@
 -- `restart::remain::remaining` meets its contract: by the source. Assumes nothing.
-use mathlib.Core.Path.{refl, _∙_, sym}
+use mathlib.Core.Path.{refl, _∙_}
 use native.Mathlib.Omega.{arith}
 use borrow.Author.Needs.{needs}
 use Rattle.model.specs.View.{coreOf}

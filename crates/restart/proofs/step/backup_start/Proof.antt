@@ -1,8 +1,5 @@
 -- `restart::step::backup_start` meets its contract: by the remainder. Assumes nothing.
-use mathlib.Core.Path.{refl}
 use native.Mathlib.Omega.{arith}
-use native.Mathlib.Nat.{mod-lt}
-use Rattle.model.specs.Anchor.{backupAt}
 use Rattle.restart.proofs.Steps.{backup-even, backup-odd}
 use Rattle.restart.proofs.step.backup_start.Statement.{statement}
 use Rattle.restart.proofs.step.backup_start.Tie as tie

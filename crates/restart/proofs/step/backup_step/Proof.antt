@@ -1,10 +1,9 @@
 -- `restart::step::backup_step` meets its contract: the next page is one of the pages. Assumes nothing.
-use mathlib.Core.Path.{_≡_, refl, sym, _∙_}
+use mathlib.Core.Path.{sym}
 use native.Mathlib.Omega.{arith}
-use lib.ListN.{length, drop, length-set, take-append-drop}
+use lib.ListN.{drop, take-append-drop}
 use borrow.Author.Needs.{needs}
 use Rattle.model.specs.World.{worldOf}
-use Rattle.model.specs.State.{withReplay}
 use Rattle.model.specs.View.{headWords, coreOf, bodyOf}
 use Rattle.model.proofs.View.Head.{own-long}
 use Rattle.restart.proofs.Backups.{words-here, none-left, page-low, words-few, page-inside, copy-inside, page-taken}

@@ -1,11 +1,10 @@
 -- `restart::step::log_step` meets its contract: nothing is left, or by what its record comes to. Assumes nothing.
-use mathlib.Core.Path.{_≡_, refl, sym, _∙_}
-use mathlib.Core.Bool.{true, false}
+use mathlib.Core.Path.{sym}
 use native.Mathlib.Omega.{arith}
 use lib.ListN.{drop, take-append-drop}
 use borrow.Author.Needs.{needs}
 use Rattle.model.specs.World.{worldOf}
-use Rattle.model.specs.State.{tailOf, withReplay}
+use Rattle.model.specs.State.{tailOf}
 use Rattle.model.specs.Restart.{movedTo}
 use Rattle.model.specs.View.{headWords, coreOf, bodyOf}
 use Rattle.model.proofs.View.Head.{own-long}

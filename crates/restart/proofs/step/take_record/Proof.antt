@@ -1,5 +1,5 @@
 -- `restart::step::take_record` meets its contract: by the record at the position, and by its transaction's fate. Assumes nothing.
-use mathlib.Core.Path.{_≡_, refl, sym, _∙_}
+use mathlib.Core.Path.{refl}
 use mathlib.Core.List.{[]}
 use native.Mathlib.Omega.{arith}
 use borrow.Author.Needs.{needs}
@@ -8,7 +8,6 @@ use Rattle.model.specs.State.{tailOf}
 use Rattle.model.specs.View.{coreOf}
 use Rattle.model.proofs.Parts.{length-part}
 use Rattle.model.proofs.View.Head.{own-long}
-use Rattle.log.proofs.Ready.{tail-there, end-there}
 use Rattle.replay.proofs.Facts.{eight, tail-low, extent-asked}
 use Rattle.replay.proofs.Stepping.{not-told}
 use Rattle.restart.proofs.Extents.{log-readable, slot-place, slot-fits, difference-ends}
