@@ -60,9 +60,7 @@ fn source_replayed(
     work: &mut [u64],
 ) -> Progress {
     if plan.steps != 0 {
-        return source_stepped(
-            plan, state, source, anchor, pages, backups, logs, work,
-        );
+        return source_stepped(plan, state, source, anchor, pages, backups, logs, work);
     }
     let most = most_items(plan);
     let done = restart_run(state, source, most, anchor, pages, backups, logs, work);
