@@ -91,7 +91,7 @@ fn all_updated(
     let mut r = next(seed);
     let mut made: u64 = 0;
     let mut tries: u64 = 0;
-    while made < 3 && tries < 6 {
+    while tries < 6 && made < 3 {
         tries += 1;
         spread(value, r);
         let called = update(

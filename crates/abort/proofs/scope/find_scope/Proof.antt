@@ -11,31 +11,31 @@ returns c h own pages disks ring total tails = read-refused h _ own _ (c .before
 
 add-first : tie.Need-add-first
 add-first c =
-    let of = c .before .before .before .before .before .pre .2 in
+    let of = c .before .before .before .before .before .before .pre .2 in
     let p = entry-placed (of .state) _ (of .own) _ (c .before .before .before .find-entry .ensures (of .state) (of .own) (of .same-disks) (of .same-tails)) (c .before .if1 .left) in
     omega (arith, p .0)
 
 mul-first : tie.Need-mul-first
 mul-first c =
-    let of = c .before .before .before .before .before .pre .2 in
+    let of = c .before .before .before .before .before .before .pre .2 in
     let p = entry-placed (of .state) _ (of .own) _ (c .before .before .before .find-entry .ensures (of .state) (of .own) (of .same-disks) (of .same-tails)) (c .before .if1 .left) in
     omega (arith, p .0)
 
 shared-slice-read-first : tie.Need-shared-slice-read-first
 shared-slice-read-first c =
-    let of = c .before .before .before .before .before .before .pre .2 in
+    let of = c .before .before .before .before .before .before .before .pre .2 in
     let p = entry-placed (of .state) _ (of .own) _ (c .before .before .before .before .find-entry .ensures (of .state) (of .own) (of .same-disks) (of .same-tails)) (c .before .before .if1 .left) in
-    omega (arith, p .0, c .before .before .before .before .before .before .pre .1)
+    omega (arith, p .0, c .before .before .before .before .before .before .before .pre .1)
 
 add-log-fits : tie.Need-add-log-fits
 add-log-fits c =
-    let of = c .before .before .before .before .before .before .before .pre .2 in
+    let of = c .before .before .before .before .before .before .before .before .pre .2 in
     let p = entry-placed (of .state) _ (of .own) _ (c .before .before .before .before .before .find-entry .ensures (of .state) (of .own) (of .same-disks) (of .same-tails)) (c .before .before .before .if1 .left) in
     omega (arith, p .1 .end-small)
 
 log-fits-requires : tie.Need-log-fits-requires
 log-fits-requires c κs =
-    let of = c .before .before .before .before .before .before .before .pre .2 in
+    let of = c .before .before .before .before .before .before .before .before .pre .2 in
     let p = entry-placed (of .state) _ (of .own) _ (c .before .before .before .before .before .find-entry .ensures (of .state) (of .own) (of .same-disks) (of .same-tails)) (c .before .before .before .if1 .left) in
     (omega (arith, p .1 .end-small), omega (arith, p .1 .own-part, p .1 .end-small))
 
@@ -44,7 +44,7 @@ returns-2 c h own pages disks ring total tails =
     read-far h _ own _ (c .before .before .before .before .before .before .before .before .find-entry .ensures h own disks tails) (c .before .before .before .before .before .before .if1 .left) ring (c .before .before .log-fits .ensures) (not-true _ (c .before .if2 .taken)) (c .not-found2 .ensures)
 
 known-sizes-requires : tie.Need-known-sizes-requires
-known-sizes-requires c κs = omega (arith, c .before .before .before .before .before .before .before .before .before .pre .1)
+known-sizes-requires c κs = omega (arith, c .before .before .before .before .before .before .before .before .before .before .pre .1)
 
 returns-3 : tie.Need-returns-3
 returns-3 c h own pages disks ring total tails =
@@ -53,7 +53,7 @@ returns-3 c h own pages disks ring total tails =
 
 scope-at-requires : tie.Need-scope-at-requires
 scope-at-requires c κs =
-    let of = c .before .before .before .before .before .before .before .before .before .before .before .before .pre .2 in
+    let of = c .before .before .before .before .before .before .before .before .before .before .before .before .before .pre .2 in
     let p = entry-placed (of .state) _ (of .own) _ (c .before .before .before .before .before .before .before .before .before .before .find-entry .ensures (of .state) (of .own) (of .same-disks) (of .same-tails)) (c .before .before .before .before .before .before .before .before .if1 .left) in
     (p .1 .own-min, omega (arith, p .1 .end-small))
 
@@ -66,6 +66,7 @@ pub find-scope-spec : {M : Type 1} → statement M
 find-scope-spec =
     tie.close
     (tie.spec
+    (λ c. search needs)
     (λ c κs. search needs)
     (λ c κs. search needs)
     returns
