@@ -10,7 +10,7 @@ ghost use lib.ListN.{length};
 ghost use Rattle.model.specs.declared.Sizes.{Sizes};
 ghost use Rattle.model.specs.declared.Logs.{Logs};
 ghost use Rattle.model.specs.State.{tailOf, fillOf};
-ghost use Rattle.frame.specs.Home.{homeOf, withDisk};
+ghost use Rattle.frame.specs.Home.{homeOf};
 
 // A disk, by its numbers.
 pub fn home_at(ring: u64, disk: u64, tail: u64, fill: u64) -> Home
@@ -36,16 +36,4 @@ pub fn home_of(sizes: Sizes, logs: Logs, disk: u64) -> Home
 {
     let d = disk as usize;
     home_at(sizes.ring, disk, logs.tails[d], logs.fills[d])
-}
-
-// The logs with another tail and fill of one disk.
-pub fn with_disk(logs: Logs, disk: u64, tail: u64, fill: u64) -> Logs
-    requires { ⌜ disk < 8 ⌝ }
-    ensures { λ r. ⌜ r ≡ withDisk logs disk tail fill ⌝ }
-{
-    let mut l = logs;
-    let d = disk as usize;
-    l.tails[d] = tail;
-    l.fills[d] = fill;
-    l
 }

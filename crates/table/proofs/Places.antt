@@ -1,32 +1,17 @@
--- The search for a place of the table, and the words that its places reserve.
-use mathlib.Core.Path.{_≡_, refl, sym}
+-- The words that the places of the table reserve.
+use mathlib.Core.Path.{_≡_, refl}
 use mathlib.Core.Bool.{cond, not, _&&_}
 use mathlib.Core.List.{List}
-use Prim.Native.Nat.{ℕ, _+_, _<_, min}
+use Prim.Native.Nat.{ℕ, _+_, min}
 use native.Mathlib.Omega.{arith}
 use lib.Dec.{eqb}
 use lib.ListN.{getD}
-use borrow.Author.Tests.{eq-eqb, ne-eqb}
 use Rattle.model.specs.declared.Table.{Table}
 use Rattle.model.specs.Below.{sumBelow}
-use Rattle.model.specs.State.{numberAt, diskAtPlace, reservedAt, placeOf, servedBy, reservedFor}
-use Rattle.model.proofs.Below.{first-unique, first-none, sum-step}
+use Rattle.model.specs.State.{numberAt, diskAtPlace, reservedAt, servedBy, reservedFor}
+use Rattle.model.proofs.Below.{sum-step}
 use Rattle.model.proofs.Reserved.{reservedBy}
 use Rattle.table.specs.Parts.{tableOf}
-
--- no place below i holds the number
-abbrev pub Absent : List ℕ → ℕ → ℕ → Type 0
-Absent numbers n i = (k : ℕ) → k < i → getD numbers k 0 ≡ n → ⊥
-
-module _ (t : Table) (n : ℕ) {numbers : List ℕ} (same : t .numbers ≡ numbers) where
-  pub place-found : (i : ℕ) → i < 16 → getD numbers i 0 ≡ n → Absent numbers n i → i ≡ placeOf t n
-  unfolding placeOf numberAt
-  place-found i h e before =
-      rw same (sym (first-unique (λ k. eqb (getD numbers k 0) n) 16 i h (eq-eqb _ _ e) (λ k l. ne-eqb _ _ (before k l))))
-
-  pub place-none : Absent numbers n 16 → 16 ≡ placeOf t n
-  unfolding placeOf numberAt
-  place-none none = rw same (sym (first-none (λ k. eqb (getD numbers k 0) n) 16 (λ k l. ne-eqb _ _ (none k l))))
 
 -- The words reserved on a disk, place by place; the first positions do not count.
 module _ (ns ds rs : List ℕ) (disk : ℕ) where

@@ -1,4 +1,4 @@
-// The table of open transactions, log room, and the tests of a state handed in.
+// Log room, the idlest disk, and the tests of a state handed in.
 mod counted;
 pub mod place;
 pub mod room;
