@@ -82,11 +82,16 @@ static void format(void) {
     next_number = 1;
 }
 
+// The blocks of 16 words that a disk's buffered words start.
+static uint64_t blocks(uint64_t disk) {
+    return (fills[disk] + 15) / 16;
+}
+
 // The number of a new transaction, 0 where no disk has room.
 static uint64_t begin(void) {
     uint64_t best = disks;
     for (uint64_t d = 0; d < disks; d++)
-        if (has_room(d, 2) && (best == disks || fills[d] < fills[best])) best = d;
+        if (has_room(d, 2) && (best == disks || blocks(d) < blocks(best))) best = d;
     if (best == disks) return 0;
     *place_of(0) = (transaction){next_number, best, 0, 0};
     reserved[best] += 2;

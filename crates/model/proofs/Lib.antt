@@ -61,6 +61,7 @@ pub mod StageAlone
 pub mod Positions
 pub mod Blunders
 pub mod Idle
+pub mod BeginDisk
 pub mod Held
 pub mod Example
 pub mod AbortReads

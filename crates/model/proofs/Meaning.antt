@@ -2,24 +2,27 @@
 use mathlib.Core.Path.{_≡_, refl, sym, _∙_}
 use mathlib.Core.Logic.{_⊎_, inl, inr}
 use mathlib.Core.Bool.{Bool, true, false, true≢false, cond, _&&_, _||_}
-use Prim.Native.Nat.{ℕ, zero, suc, _≤_, _<_, min}
+use Prim.Native.Nat.{ℕ, zero, suc, _+_, _*_, _/_, _≤_, _<_, min}
 use native.Mathlib.Omega.{arith}
+use native.Mathlib.Decide.{decLt}
 use lib.Dec.{leb, ltb, eqb}
 use lib.ListN.{getD}
-use borrow.Author.Tests.{leb-true, leb-false, ltb-true, ltb-false, eqb-true, eqb-false}
+use borrow.Author.Tests.{leb-true, leb-false, lt-ltb, le-ltb, ltb-true, ltb-false, eqb-true, eqb-false}
 use Rattle.model.specs.declared.Table.{Table}
 use Rattle.model.specs.declared.Core.{Core}
 use Rattle.model.specs.State.{places, servedBy, hasUpdate, firstAt}
-use Rattle.model.specs.Room.{noDisk, hasRoom, loadOf, idlestBelow, idlest}
+use Rattle.model.specs.Room.{noDisk, hasRoom, startedBlocks, loadOf, idlestBelow, idlest, Idlest}
 use Rattle.model.specs.Checkpoint.{leastFirst, newStart}
 use Rattle.model.proofs.Below.{below-suc}
 
--- "The disk with the fewest buffered words among those with log room; ties go to the lowest disk."
-pub record Idlest (eligible : ℕ → Bool) (load : ℕ → ℕ) (n disk : ℕ) : Type 0 where
-  pub below : disk < n
-  pub passes : eligible disk ≡ true
-  pub least : (i : ℕ) → i < n → eligible i ≡ true → load disk ≤ load i
-  pub lowest : (i : ℕ) → i < disk → eligible i ≡ true → load disk < load i
+-- A started block: block k is counted exactly where its first word is there.
+pub blocks-started : (words k : ℕ) → ltb k (startedBlocks words) ≡ ltb (16 * k) words
+unfolding startedBlocks
+blocks-started words k =
+    elim (decLt (16 * k) words) [
+      | yes h ↦ lt-ltb k ((words + 15) / 16) (omega arith) ∙ sym (lt-ltb (16 * k) words h)
+      | no h ↦ le-ltb k ((words + 15) / 16) (omega arith) ∙ sym (le-ltb (16 * k) words (omega arith))
+    ]
 
 -- no disk below n is eligible, and then the answer is 8
 pub record NoneEligible (eligible : ℕ → Bool) (n disk : ℕ) : Type 0 where

@@ -1,7 +1,7 @@
 -- What is never refused, which states there are, and what an answer tells: 01's "Turned away" as statements over lists of calls, and
 -- over every call, state and lent slices.
 use mathlib.Core.Path.{_≡_}
-use Prim.Native.Nat.{ℕ, _≤_}
+use Prim.Native.Nat.{ℕ, _≤_, _<_}
 use mathlib.Core.List.{List·Memᴰ}
 use mathlib.Core.Bool.{Bool, true, false, cond, not, _||_}
 use lib.Dec.{eqb}
@@ -15,9 +15,11 @@ use Rattle.model.specs.Below.{within}
 use Rattle.model.specs.Anchor.{sizesOn, startOn}
 use Rattle.model.specs.World.{World, stores}
 use Rattle.model.specs.State.{newCore, sound, isOpen}
+use Rattle.model.specs.Room.{hasRoom, loadOf, Idlest}
 use Rattle.model.specs.Refusal.{Row, numberOf, storesOf, firstOf, secondOf}
 use Rattle.model.specs.Reads.{countsFit, slotFits, homeFits, updateFits, abortFits, fitsOn}
 use Rattle.model.specs.Causes.{whenShut, whenReplaying, whenOpen, whenCopying, whenServing, stageForbids, wrongTail, faultFrom}
+use Rattle.model.specs.Transaction.{diskOf}
 use Rattle.model.specs.Abort.{abortFault}
 use Rattle.model.specs.Restart.{stepFault}
 use Rattle.model.specs.Call.{Call, format, begin, update, Look, look, read, commit, abort, checkpointBegin, checkpointStep, checkpointEnd, restartBegin, restartStep, restartRun, restartEnd, newState, rowsOf, taskOf, budgetOf, resultOf}
@@ -101,6 +103,17 @@ pub record AnswersOwn (m : Machine) (k : Call) (a : Answer) : Type 0 where
 
 unfoldable pub OwnSlices : Type 0
 OwnSlices = Always λ m r. (k : Call) → AnswersOwn m k (result m k .answer)
+
+-- The disk of a begin. 02, S-2: "The idlest disk is now the one with the fewest started blocks in its buffer ..., ties to the lowest
+-- disk"; by 01 it is one of those with log room, and a begin needs 2. A begin on the machine's own slices that is taken opens the
+-- transaction whose number it answers, on that disk. It answers 14 only where no disk has the room.
+pub record BeginsOn (c : Core) (a : Answer) (after : Core) : Type 0 where
+  pub opens : outcomeOf a ≡ taken → isOpen (after .table) (firstOf a) ≡ true
+  pub idlest : outcomeOf a ≡ taken → Idlest (hasRoom c 2) (loadOf (c .logs)) (c .sizes .disks) (diskOf after (firstOf a))
+  pub crowded : numberOf a ≡ 14 → (disk : ℕ) → disk < c .sizes .disks → hasRoom c 2 disk ≡ false
+
+unfoldable pub BeginDisk : Type 0
+BeginDisk = Always λ m r. BeginsOn (m .core) (result m begin .answer) (result m begin .core)
 
 -- "Only these calls, and one that hands out a new state, make a state.": the states that are made so, whatever the calls were lent.
 pub data Made : Core → Type 0 where

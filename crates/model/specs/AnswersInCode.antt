@@ -7,11 +7,11 @@ use Rattle.model.specs.declared.Core.{Core}
 use Rattle.model.specs.State.{isOpen}
 use Rattle.model.specs.Refusal.{numberOf}
 use Rattle.model.specs.Causes.{whenShut, whenServing}
-use Rattle.model.specs.Call.{commit, abort, newState}
+use Rattle.model.specs.Call.{begin, commit, abort, newState}
 use Rattle.model.specs.View.{ownWork, carriedOf}
 use Rattle.model.specs.Reference.{refused}
 use Rattle.model.specs.Machine.{isRefused}
-use Rattle.model.specs.Answers.{stagesOf, AnswersOwn, Made, Returns}
+use Rattle.model.specs.Answers.{stagesOf, AnswersOwn, BeginsOn, Made, Returns}
 use Rattle.model.specs.Trace.{viewOf, Observed, machineBefore, machineAfter, KeepsContract, seen, On, AlwaysInCode}
 
 -- "Commit and abort always fit." While the store is open or copying, a commit and an abort of the code, of an open transaction and on
@@ -26,6 +26,13 @@ ClosingTakenInCode =
 -- that a format may answer 4 or 5.
 unfoldable pub OwnSlicesInCode : Type 0
 OwnSlicesInCode = AlwaysInCode λ m r. (o : Observed) → On m o → AnswersOwn (viewOf m) (o .call) (o .reply .answer)
+
+-- The disk of a begin of the code on the slices as they were left: if it is taken, the idlest by started blocks of those with room, the
+-- lowest of several; 14 only where none has room.
+unfoldable pub BeginDiskInCode : Type 0
+BeginDiskInCode =
+    AlwaysInCode λ m r. (o : Observed) → o .call ≡ begin → On m o
+    → BeginsOn (viewOf m .core) (o .reply .answer) (viewOf (machineAfter o) .core)
 
 -- "Only these calls, and one that hands out a new state, make a state.": what a call of the code hands back for such a state is one
 -- again. It answers 1, on whatever slices, exactly where the stage is none of the call's. The state is seen in what is carried and in the

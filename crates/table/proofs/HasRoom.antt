@@ -1,4 +1,4 @@
--- The room rule of one disk's numbers, and the disk with the fewest buffered words.
+-- The room rule of one disk's numbers, and the disk with the fewest started blocks.
 use mathlib.Core.Path.{_≡_, refl, sym, ap, _∙_}
 use mathlib.Core.Bool.{Bool, true, false, cond, _&&_, _||_, and-true, and-false}
 use mathlib.Core.List.{List}
@@ -13,7 +13,7 @@ use Rattle.model.specs.declared.Core.{Core}
 use Rattle.model.specs.declared.Logs.{Logs}
 use Rattle.model.specs.Sizes.{ringOf}
 use Rattle.model.specs.State.{limit, startOf, keptOf, tailOf, fillOf, endOf, reservedOn}
-use Rattle.model.specs.Room.{hasRoom, loadOf, noDisk, better, idlestBelow, idlest}
+use Rattle.model.specs.Room.{hasRoom, startedBlocks, loadOf, noDisk, better, idlestBelow, idlest}
 use Rattle.table.specs.Parts.{cap, sumsOf, coreOf, roomFor}
 
 -- what ends above the limit has no room
@@ -83,7 +83,7 @@ module _ (room : Bool) (load : ℕ → ℕ) (disk best : ℕ) {idler : Bool} (as
 
 -- one disk more
 pub idlest-step : (eligible : ℕ → Bool) (logs : Logs) (n best r : ℕ) (room : Bool) → best ≡ idlestBelow eligible (loadOf logs) n
-    → room ≡ eligible n → r ≡ better room (λ d. getD (logs .fills) d 0) n best
+    → room ≡ eligible n → r ≡ better room (λ d. startedBlocks (getD (logs .fills) d 0)) n best
     → r ≡ idlestBelow eligible (loadOf logs) (n + 1)
 unfolding idlestBelow loadOf fillOf
 idlest-step eligible logs n best r room e q h = rw (h, q, e, add-one n)

@@ -6,7 +6,7 @@ ghost use Prim.Native.Nat.{_+_, _≤_, _<_};
 ghost use lib.Dec.{ltb, eqb};
 ghost use lib.ListN.{length, getD};
 ghost use Rattle.model.specs.State.{limit};
-ghost use Rattle.model.specs.Room.{noDisk, better, idlest};
+ghost use Rattle.model.specs.Room.{startedBlocks, noDisk, better, idlest};
 ghost use Rattle.table.specs.Parts.{logsOf, sumsOf, coreOf, roomFor};
 
 // The bound of positions: 2^62.
@@ -45,15 +45,26 @@ pub fn has_room(start: u64, tail: u64, fill: u64, reserved: u64, ring: u64, need
     fits_ring(start, end, reserved, ring, need)
 }
 
-// A disk less busy than the best so far, or the first.
+// The blocks of 16 words that so many words start.
+fn started_blocks(words: u64) -> u64
+    ensures { λ r. ⌜ r ≡ startedBlocks words ⌝ }
+{
+    let whole = words / 16;
+    if words % 16 == 0 {
+        return whole;
+    }
+    whole + 1
+}
+
+// A disk with fewer started blocks than the best so far, or the first.
 fn is_idler(fills: &[u64], disk: usize, best: usize) -> bool
     requires { ⌜ (disk < 8) × (best ≤ 8) × (length (now fills) ≡ 8) ⌝ }
-    ensures { λ r. ⌜ r ≡ (eqb best noDisk || ltb (getD (now (fills .entry)) disk 0) (getD (now (fills .entry)) best 0)) ⌝ }
+    ensures { λ r. ⌜ r ≡ (eqb best noDisk || ltb (startedBlocks (getD (now (fills .entry)) disk 0)) (startedBlocks (getD (now (fills .entry)) best 0))) ⌝ }
 {
     if best == 8 {
         return true;
     }
-    fills[disk] < fills[best]
+    started_blocks(fills[disk]) < started_blocks(fills[best])
 }
 
 // The better of a disk and the best so far. Its room is asked last: most disks are busier than the best.
@@ -68,7 +79,7 @@ fn better_disk(
     need: u64,
 ) -> usize
     requires { ⌜ (disk < 8) × (best ≤ 8) × (length (now fills) ≡ 8) × (need ≤ limit) ⌝ }
-    ensures { λ r. ⌜ (r ≤ 8) × (r ≡ better (roomFor start (tail + getD (now (fills .entry)) disk 0) sum ring need) (λ d. getD (now (fills .entry)) d 0) disk best) ⌝ }
+    ensures { λ r. ⌜ (r ≤ 8) × (r ≡ better (roomFor start (tail + getD (now (fills .entry)) disk 0) sum ring need) (λ d. startedBlocks (getD (now (fills .entry)) d 0)) disk best) ⌝ }
 {
     if !is_idler(fills, disk, best) {
         return best;

@@ -86,7 +86,7 @@ pub fn fits(rooms: &[u64], disk: u64, ring: u64, need: u64) -> bool {
     sum(sum(words_in(used), owed_on(rooms, disk)), need) <= ring
 }
 
-// The disk with the fewest buffered words among those with room for a begin; the number of disks where there is none.
+// The disk with the fewest started blocks among those with room for a begin; the number of disks where there is none.
 pub fn idlest(rooms: &[u64], disks: u64, ring: u64) -> u64 {
     let mut left = disks;
     let mut best = disks;
@@ -104,7 +104,7 @@ fn idler(rooms: &[u64], disks: u64, ring: u64, best: u64, disk: u64) -> u64 {
     if best == disks {
         return disk;
     }
-    if buffered(rooms, disk) <= buffered(rooms, best) {
+    if blocks(rooms, disk) <= blocks(rooms, best) {
         return disk;
     }
     best
@@ -112,6 +112,11 @@ fn idler(rooms: &[u64], disks: u64, ring: u64, best: u64, disk: u64) -> u64 {
 
 pub fn buffered(rooms: &[u64], disk: u64) -> u64 {
     words_in(get(rooms, fill_at(disk)))
+}
+
+// The blocks of 16 words that the buffered words start.
+fn blocks(rooms: &[u64], disk: u64) -> u64 {
+    sum(buffered(rooms, disk), 15) / 16
 }
 
 // A begun transaction is owed its closing record.

@@ -13,14 +13,14 @@ use Rattle.model.specs.Record.{wordsOf, updateKind}
 use Rattle.model.specs.Scan.{updateWords}
 use Rattle.model.specs.World.{World}
 use Rattle.model.specs.State.{places, limit, keptOf, endOf, numberAt, diskAtPlace, placeOf, reservedAt, isOpen, reservedOn, servingSound, sound}
-use Rattle.model.specs.Room.{hasRoom, loadOf, idlest}
+use Rattle.model.specs.Room.{hasRoom, loadOf, idlest, Idlest}
 use Rattle.model.specs.Refusal.{accepted, verdict}
 use Rattle.model.specs.Causes.{whenServing, tableFull, slotMissing, notOpen, valueWrong, locked}
 use Rattle.model.specs.Transaction.{diskOf, beginRows, updateRows, commitRows}
 use Rattle.model.specs.Abort.{updatesLeft, abortRows}
 use Rattle.model.proofs.Booleans.{both, or-none}
 use Rattle.model.proofs.Verdict.{row-passed}
-use Rattle.model.proofs.Meaning.{Idlest, idlest-found}
+use Rattle.model.proofs.Meaning.{idlest-found}
 use Rattle.model.proofs.Updates.{abort-words}
 use Rattle.model.proofs.Bounds.{bounded}
 use Rattle.model.proofs.Places.{place-holds, open-place}

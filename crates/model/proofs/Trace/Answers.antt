@@ -1,17 +1,18 @@
 -- The statements of specs/AnswersInCode.antt, each from the machine's.
 use mathlib.Core.Path.{sym, ap, subst, _∙_}
 use Rattle.model.specs.Refusal.{Result}
-use Rattle.model.specs.Call.{commit, abort}
+use Rattle.model.specs.Call.{begin, commit, abort}
 use Rattle.model.specs.View.{coreOf}
 use Rattle.model.specs.Machine.{Machine, result, isRefused}
 use Rattle.model.specs.Trace.{viewOf, machineBefore}
-use Rattle.model.specs.Answers.{ClosingTaken, AnswersOwn, OwnSlices, Made, by, MadeSound, StatesMade, Returns, Returned}
-use Rattle.model.specs.AnswersInCode.{ClosingTakenInCode, OwnSlicesInCode, MadeInCode, StatesMadeInCode, ReturnedInCode}
+use Rattle.model.specs.Answers.{ClosingTaken, AnswersOwn, OwnSlices, BeginsOn, BeginDisk, Made, by, MadeSound, StatesMade, Returns, Returned}
+use Rattle.model.specs.AnswersInCode.{ClosingTakenInCode, OwnSlicesInCode, BeginDiskInCode, MadeInCode, StatesMadeInCode, ReturnedInCode}
 use Rattle.model.proofs.Answers.{closing-taken, own-slices}
+use Rattle.model.proofs.BeginDisk.{begin-disk}
 use Rattle.model.proofs.Returned.{returned}
 use Rattle.model.proofs.Sound.Made.{made-sound, states-made}
 use Rattle.model.proofs.Trace.Events.{as-defined, as-machine, in-code}
-use Rattle.model.proofs.Trace.Promises.{carries-over, gave-outcome}
+use Rattle.model.proofs.Trace.Promises.{carries-over, gave, gave-outcome}
 
 -- Commit and abort are not refused to an open transaction.
 pub closing-taken-in-code : ClosingTakenInCode
@@ -28,6 +29,13 @@ unfolding OwnSlicesInCode OwnSlices
 own-slices-in-code =
     carries-over _ _ own-slices (λ m r h o on.
     subst (AnswersOwn (viewOf m) (o .call)) (sym (ap (λ (x : Result). x .answer) (as-machine m o on))) (h (o .call)))
+
+-- The disk of a begin.
+pub begin-disk-in-code : BeginDiskInCode
+unfolding BeginDiskInCode BeginDisk
+begin-disk-in-code =
+    carries-over _ _ begin-disk (λ m r h o is on.
+    subst (λ (x : Result). BeginsOn (viewOf m .core) (x .answer) (x .core)) (sym (gave m o begin is on)) h)
 
 -- The states that the code hands back are made.
 pub made-in-code : MadeInCode

@@ -4,6 +4,7 @@ use Prim.Native.Nat.{_+_}
 use lib.ListN.{getD}
 use borrow.Author.Needs.{needs}
 use borrow.Author.Tests.{not-true, not-false}
+use Rattle.model.specs.Room.{startedBlocks}
 use Rattle.table.specs.Parts.{roomFor}
 use Rattle.table.proofs.HasRoom.{busier-left, idler-taken}
 use Rattle.table.proofs.room.better_disk.Statement.{statement}
@@ -13,7 +14,7 @@ returns : tie.Need-returns
 returns c =
     let s = c .before .before .before .args in (
       search needs,
-      busier-left (roomFor (s .start) (s .tail + getD (s .fills .now) (s .disk) 0) (s .sum) (s .ring) (s .need)) (λ d. getD (s .fills .now) d 0) (s .disk) (s .best)
+      busier-left (roomFor (s .start) (s .tail + getD (s .fills .now) (s .disk) 0) (s .sum) (s .ring) (s .need)) (λ d. startedBlocks (getD (s .fills .now) d 0)) (s .disk) (s .best)
           (c .before .is-idler .ensures) (not-true _ (c .if1 .taken)),
     )
 
@@ -21,7 +22,7 @@ returns-2 : tie.Need-returns-2
 returns-2 c =
     let s = c .before .before .before .before .before .before .args in (
       search needs,
-      idler-taken (roomFor (s .start) (s .tail + getD (s .fills .now) (s .disk) 0) (s .sum) (s .ring) (s .need)) (λ d. getD (s .fills .now) d 0) (s .disk) (s .best)
+      idler-taken (roomFor (s .start) (s .tail + getD (s .fills .now) (s .disk) 0) (s .sum) (s .ring) (s .need)) (λ d. startedBlocks (getD (s .fills .now) d 0)) (s .disk) (s .best)
           (c .before .before .before .before .is-idler .ensures) (not-false _ (c .before .before .before .if1 .left)) (sym (c .if2 .taken) ∙ c .before .has-room .ensures),
     )
 
@@ -29,7 +30,7 @@ returns-3 : tie.Need-returns-3
 returns-3 c =
     let s = c .before .before .before .before .before .before .args in (
       search needs,
-      idler-taken (roomFor (s .start) (s .tail + getD (s .fills .now) (s .disk) 0) (s .sum) (s .ring) (s .need)) (λ d. getD (s .fills .now) d 0) (s .disk) (s .best)
+      idler-taken (roomFor (s .start) (s .tail + getD (s .fills .now) (s .disk) 0) (s .sum) (s .ring) (s .need)) (λ d. startedBlocks (getD (s .fills .now) d 0)) (s .disk) (s .best)
           (c .before .before .before .before .is-idler .ensures) (not-false _ (c .before .before .before .if1 .left)) (sym (c .if2 .left) ∙ c .before .has-room .ensures),
     )
 

@@ -9,7 +9,18 @@ returns : tie.Need-returns
 returns c = rw (eq-eqb _ _ (c .if1 .taken)) refl
 
 returns-2 : tie.Need-returns-2
-returns-2 c = rw (ne-eqb _ _ (c .before .before .if1 .left)) refl
+returns-2 c =
+    rw (ne-eqb _ _ (c .before .before .before .before .if1 .left), c .before .before .started-blocks .ensures, c .started-blocks2 .ensures) refl
 
 pub is-idler-spec : {M : Type 1} → statement M
-is-idler-spec = tie.close (tie.spec returns (λ c. search needs) (λ c. search needs) (λ c. search needs) (λ c. search needs) returns-2)
+is-idler-spec =
+    tie.close
+    (tie.spec
+    returns
+    (λ c. search needs)
+    (λ c. search needs)
+    (λ c κs. search needs)
+    (λ c. search needs)
+    (λ c. search needs)
+    (λ c κs. search needs)
+    returns-2)
