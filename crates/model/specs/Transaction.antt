@@ -22,7 +22,7 @@ use Rattle.model.specs.Append.{Appended, append, flush}
 unfoldable pub diskOf : Core → ℕ → ℕ
 diskOf c number = diskAtPlace (c .table) (placeOf (c .table) number)
 
--- Begin: "next number", "the disk with the fewest buffered words among those with log room". "Begin needs 2."
+-- Begin: "next number", and the idlest disk "among those with log room" (specs/Room.antt). "Begin needs 2."
 unfoldable pub beginRows : Core → World → List Row
 beginRows c w =
     row 1 (stageForbids whenServing (countsFit c) c) ∷ row 2 (anchorWrong (w .anchor)) ∷ row 5 (lengthsWrong (c .sizes) (c .bases .total) w) ∷ row 12 (tableFull c)
