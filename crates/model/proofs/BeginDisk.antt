@@ -27,7 +27,7 @@ use Rattle.model.proofs.Store.Rows.{serving-sound}
 use Rattle.model.proofs.Store.Checks.{finds, number-row}
 use Rattle.model.proofs.Store.Accepted.{disks-max, begin-accepted}
 use Rattle.model.proofs.Store.View.{Served}
-use Rattle.model.proofs.Store.BeginTable.{open-after, new-disk}
+use Rattle.model.proofs.Store.BeginTable.{new, open-after, new-disk}
 use Rattle.model.proofs.Store.Holding.{served}
 use Rattle.model.proofs.Sound.Lists.{sound-after}
 use Rattle.model.proofs.Sound.Made.{stage-answers}
@@ -69,7 +69,7 @@ module _ (c : Core) (w : World) (s : sound c ≡ true) (e : numberOf (resultOf b
 Opened : Core → Result → Type 0
 Opened c x =
     outcomeOf (x .answer) ≡ taken
-    → (isOpen (x .core .table) (firstOf (x .answer)) ≡ true)
+    → (isOpen (c .table) (firstOf (x .answer)) ≡ false) × (isOpen (x .core .table) (firstOf (x .answer)) ≡ true)
     × Idlest (hasRoom c 2) (loadOf (c .logs)) (c .sizes .disks) (diskOf (x .core) (firstOf (x .answer)))
 
 opened : (c : Core) (w : World) → sound c ≡ true → {puts : Told} {r : Reference} → (whenServing (c .stage) ≡ true → Served puts c w r)
@@ -81,6 +81,7 @@ opened c w s g =
     (λ v f e.
     let begins = begin-accepted c w v in
     let serving = g (begins .serving) in (
+      new v (serving .serving),
       now-open v serving,
       rw (on-idlest v serving) (begins .chosen (disks-max c (serving-sound c (begins .serving) s))),
     ))
@@ -93,7 +94,7 @@ begin-disk m s budget formats es a =
     let h = holds-after m s budget formats es a in
     let sound = sound-after m s budget formats es .1 in
     let after = opened _ _ sound (served h) in
-    record { opens = λ e. after e .0; idlest = λ e. after e .1; crowded = crowded-by _ _ sound }
+    record { fresh = λ e. after e .0; opens = λ e. after e .1; idlest = λ e. after e .2; crowded = crowded-by _ _ sound }
 
 -- 02: "0 words is 0 blocks, 1 to 16 is 1, 17 is 2"; a full buffer is 4
 pub blocks-computed : map startedBlocks (0 ∷ 1 ∷ 16 ∷ 17 ∷ 64 ∷ []) ≡ 0 ∷ 1 ∷ 1 ∷ 2 ∷ 4 ∷ []

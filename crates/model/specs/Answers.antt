@@ -1,5 +1,5 @@
 -- What is never refused, which states there are, and what an answer tells: 01's "Turned away" as statements over lists of calls, and
--- over every call, state and lent slices.
+-- over every call, state and lent slices; and the disk of a begin (02's S-2).
 use mathlib.Core.Path.{_≡_}
 use Prim.Native.Nat.{ℕ, _≤_, _<_}
 use mathlib.Core.List.{List·Memᴰ}
@@ -106,8 +106,9 @@ OwnSlices = Always λ m r. (k : Call) → AnswersOwn m k (result m k .answer)
 
 -- The disk of a begin. 02, S-2: "The idlest disk is now the one with the fewest started blocks in its buffer ..., ties to the lowest
 -- disk"; by 01 it is one of those with log room, and a begin needs 2. A begin on the machine's own slices that is taken opens the
--- transaction whose number it answers, on that disk. It answers 14 only where no disk has the room.
+-- transaction whose number it answers, which was not open before, on that disk. It answers 14 only where no disk has the room.
 pub record BeginsOn (c : Core) (a : Answer) (after : Core) : Type 0 where
+  pub fresh : outcomeOf a ≡ taken → isOpen (c .table) (firstOf a) ≡ false
   pub opens : outcomeOf a ≡ taken → isOpen (after .table) (firstOf a) ≡ true
   pub idlest : outcomeOf a ≡ taken → Idlest (hasRoom c 2) (loadOf (c .logs)) (c .sizes .disks) (diskOf after (firstOf a))
   pub crowded : numberOf a ≡ 14 → (disk : ℕ) → disk < c .sizes .disks → hasRoom c 2 disk ≡ false

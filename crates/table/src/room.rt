@@ -67,7 +67,7 @@ fn is_idler(fills: &[u64], disk: usize, best: usize) -> bool
     started_blocks(fills[disk]) < started_blocks(fills[best])
 }
 
-// The better of a disk and the best so far. Its room is asked last: most disks are busier than the best.
+// The better of a disk and the best so far. Its room is asked last: most disks are no idler than the best.
 fn better_disk(
     fills: &[u64],
     disk: usize,

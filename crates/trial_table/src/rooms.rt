@@ -1,6 +1,6 @@
-// 01's counting, for a list of calls that nobody else disturbs: each disk's start, tail and buffered words, what is owed, and so whether
-// a need fits. No record is kept, only lengths. A length of a log is one number: its words, and 2^32 for each record. A position is the
-// length from the last restart's end to it.
+// 01's counting, and the disk of a begin by 02's S-2, for a list of calls that nobody else disturbs: each disk's start, tail and buffered
+// words, what is owed, and so whether a need fits. No record is kept, only lengths. A length of a log is one number: its words, and 2^32
+// for each record. A position is the length from the last restart's end to it.
 // A room memory, the first 96 words of a book, has the starts, tails, buffered lengths and remembered ends, 8 words each; then for each
 // of 16 places its disk, the position of its first update record and the words owed; then for each source the steps made of it.
 use crate::words::add_to;
