@@ -1,8 +1,7 @@
 -- The disk that a begin gets: the idlest of those with room. The rule in blocks, computed.
 use mathlib.Core.Path.{_≡_, refl, sym, _∙_}
-use Prim.Native.Nat.{ℕ, _≤_, _<_}
+use Prim.Native.Nat.{ℕ, _<_}
 use mathlib.Core.List.{List, [], _∷_, _++_, map}
-use mathlib.Core.Logic.{inl, inr}
 use mathlib.Core.Bool.{true, false, or-true, or-false}
 use native.Mathlib.Omega.{arith}
 use lib.Dec.{leb}
@@ -21,7 +20,7 @@ use Rattle.model.specs.Machine.{Event, call, result, follow, formatted}
 use Rattle.model.specs.History.{Told}
 use Rattle.model.specs.Promise.{Always}
 use Rattle.model.specs.Answers.{BeginDisk}
-use Rattle.model.proofs.Meaning.{Chosen, idlest-of}
+use Rattle.model.proofs.Meaning.{idlest-none}
 use Rattle.model.proofs.Store.Cases.{call-cases}
 use Rattle.model.proofs.Store.Rows.{serving-sound}
 use Rattle.model.proofs.Store.Checks.{finds, number-row}
@@ -48,22 +47,16 @@ module _ {puts : Told} {c : Core} {w : World} {r : Reference} (ok : verdict (beg
   on-idlest = new-disk ok (g .serving)
 
 -- refused by 14: no disk was found, so none has room
-none-with-room : (c : Core) → c .sizes .disks ≤ 8 → noDisk ≤ idlest c 2 → (disk : ℕ) → disk < c .sizes .disks → hasRoom c 2 disk ≡ false
-none-with-room c eight none = go (idlest-of c 2 eight)
-  where
-    go : Chosen (hasRoom c 2) (loadOf (c .logs)) (c .sizes .disks) (idlest c 2) → (disk : ℕ) → disk < c .sizes .disks → hasRoom c 2 disk ≡ false
-    go (inl d) = absurd (omega (arith, d .below))
-    go (inr d) = d .none
-
 module _ (c : Core) (w : World) (s : sound c ≡ true) (e : numberOf (resultOf begin c w .answer) ≡ 14) where
   serves : whenServing (c .stage) ≡ true
   serves = not-false _ (sym (rw e at (stage-answers begin c w s)))
 
   crowded-by : (disk : ℕ) → disk < c .sizes .disks → hasRoom c 2 disk ≡ false
-  unfolding beginRows finds
+  unfolding beginRows finds idlest
   crowded-by =
       let found = number-row begin c w 14 (omega arith) (omega arith) e in
-      none-with-room c (disks-max c (serving-sound c serves s)) (leb-true noDisk (idlest c 2) (sym (or-false (leb noDisk (idlest c 2))) ∙ found))
+      idlest-none (hasRoom c 2) (loadOf (c .logs)) (c .sizes .disks) (disks-max c (serving-sound c serves s))
+      (leb-true noDisk (idlest c 2) (sym (or-false (leb noDisk (idlest c 2))) ∙ found))
 
 -- what a taken begin leaves
 Opened : Core → Result → Type 0

@@ -11,7 +11,7 @@ use borrow.Author.Tests.{leb-true, leb-false, lt-ltb, le-ltb, ltb-true, ltb-fals
 use Rattle.model.specs.declared.Table.{Table}
 use Rattle.model.specs.declared.Core.{Core}
 use Rattle.model.specs.State.{places, servedBy, hasUpdate, firstAt}
-use Rattle.model.specs.Room.{noDisk, hasRoom, startedBlocks, loadOf, idlestBelow, idlest, Idlest}
+use Rattle.model.specs.Room.{noDisk, startedBlocks, idlestBelow, Idlest}
 use Rattle.model.specs.Checkpoint.{leastFirst, newStart}
 use Rattle.model.proofs.Below.{below-suc}
 
@@ -89,17 +89,12 @@ module _ (eligible : ℕ → Bool) (load : ℕ → ℕ) where
       go (inl d) = d
       go (inr d) = absurd (omega (arith, d .eight))
 
-  pub idlest-none : (n : ℕ) → n ≤ 8 → idlestBelow eligible load n ≡ noDisk → (i : ℕ) → i < n → eligible i ≡ false
+  pub idlest-none : (n : ℕ) → n ≤ 8 → noDisk ≤ idlestBelow eligible load n → (i : ℕ) → i < n → eligible i ≡ false
   idlest-none n h none = go (idlest-chosen n h)
     where
       go : Chosen eligible load n (idlestBelow eligible load n) → (i : ℕ) → i < n → eligible i ≡ false
       go (inl d) = absurd (omega (arith, d .below))
       go (inr d) = d .none
-
-pub idlest-of : (c : Core) (need : ℕ) → c .sizes .disks ≤ 8
-    → Chosen (hasRoom c need) (loadOf (c .logs)) (c .sizes .disks) (idlest c need)
-unfolding idlest
-idlest-of c need h = idlest-chosen (hasRoom c need) (loadOf (c .logs)) (c .sizes .disks) h
 
 -- "A start is the remembered end, or the first record of a transaction of that disk still open, if that is smaller."
 abbrev pub Holds : Table → ℕ → ℕ → Type 0
