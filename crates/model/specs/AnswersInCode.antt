@@ -27,8 +27,8 @@ ClosingTakenInCode =
 unfoldable pub OwnSlicesInCode : Type 0
 OwnSlicesInCode = AlwaysInCode λ m r. (o : Observed) → On m o → AnswersOwn (viewOf m) (o .call) (o .reply .answer)
 
--- The disk of a begin of the code on the slices as they were left: if it is taken, the idlest by started blocks of those with room, the
--- lowest of several; 14 only where none has room.
+-- A begin of the code on the slices as they were left: if it is taken, it opens the transaction whose number it answered, which was not
+-- open before, on the idlest disk by started blocks of those with room, the lowest of several; it answers 14 only where none has room.
 unfoldable pub BeginDiskInCode : Type 0
 BeginDiskInCode =
     AlwaysInCode λ m r. (o : Observed) → o .call ≡ begin → On m o
