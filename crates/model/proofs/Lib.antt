@@ -18,6 +18,7 @@ pub mod Updates
 -- Words and logs.
 pub mod Parts
 pub mod Xor
+pub mod Ones
 pub mod Differential
 pub mod Reader
 pub mod Decode
@@ -62,6 +63,7 @@ pub mod Positions
 pub mod Blunders
 pub mod Idle
 pub mod BeginDisk
+pub mod OnesTold
 pub mod Held
 pub mod Example
 pub mod AbortReads

@@ -23,10 +23,10 @@ differ-lt (suc x) zero p q = p
 differ-lt (suc zero) (suc y) p q = omega arith
 differ-lt (suc (suc x)) (suc y) p q = absurd (omega arith)
 
-bit-lt : (a : ℕ) → a % 2 < 2
+pub bit-lt : (a : ℕ) → a % 2 < 2
 bit-lt a = omega arith
 
-xor-low : (a b : ℕ) → bitXor a b % 2 ≡ differ (a % 2) (b % 2)
+pub xor-low : (a b : ℕ) → bitXor a b % 2 ≡ differ (a % 2) (b % 2)
 xor-low a b =
     ap (λ (x : ℕ). x % 2) (xor-step a b)
     ∙ digits-mod (bitXor (a / 2) (b / 2)) (differ-lt (a % 2) (b % 2) (bit-lt a) (bit-lt b))

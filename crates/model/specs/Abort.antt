@@ -9,7 +9,7 @@ use Rattle.model.specs.declared.Logs.{Logs}
 use Rattle.model.specs.declared.Core.{Core}
 use Rattle.model.specs.declared.Fault.{Fault}
 use Rattle.model.specs.declared.Fault.the-variants.{NoFault, BadRecord}
-use Rattle.model.specs.Word.{xored}
+use Rattle.model.specs.Word.{xored, onesOver}
 use Rattle.model.specs.Sizes.{slotBase}
 use Rattle.model.specs.Record.{change, close, encode, compensationKind, abortKind}
 use Rattle.model.specs.Decode.{readLog}
@@ -85,12 +85,17 @@ undoAll s l w number disk (u ∷ us) =
     let rest : Appended = undoAll s (one .logs) (perform (one .actions) w) number disk us in
     record { actions = one .actions ++ rest .actions; logs = rest .logs }
 
+-- "abort answers the sum over its compensations" (02, S-4), each of which has the difference of its update
+unfoldable pub onesUndone : List Update → ℕ
+onesUndone [] = 0
+onesUndone (u ∷ us) = onesOver (u .diff) + onesUndone us
+
 unfoldable pub abortTask : Core → World → ℕ → Task
 abortTask c w number =
     record {
       actions = undone .actions ++ closed .actions;
       core = withLog c (closed .logs) (without (c .table) number);
-      value = 0;
+      value = onesUndone (updatesLeft c w number);
     }
   where
     undone : Appended

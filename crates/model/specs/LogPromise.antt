@@ -3,13 +3,14 @@ use mathlib.Core.Path.{_≡_}
 use Prim.Native.Nat.{ℕ, _+_, _-_, _≤_, _<_}
 use mathlib.Core.List.{List, [], _∷_, _++_}
 use mathlib.Core.Bool.{true, cond}
-use lib.ListN.{length}
+use lib.ListN.{length, getD}
 use lib.Dec.{ltb}
 use Rattle.model.specs.declared.Stage.the-variants.{Replaying}
 use Rattle.model.specs.declared.Sizes.{Sizes}
 use Rattle.model.specs.declared.Core.{Core}
+use Rattle.model.specs.declared.Answer.{Answer}
 use Rattle.model.specs.declared.Fate.{Fate}
-use Rattle.model.specs.Word.{part}
+use Rattle.model.specs.Word.{part, placesDiffering, OfBits}
 use Rattle.model.specs.Sizes.{slotBase, pageBase, pageWords, ringOf}
 use Rattle.model.specs.Anchor.{epochOn, sizesOn, startOn}
 use Rattle.model.specs.Record.{Record, change, close, encode, encodeAll}
@@ -18,16 +19,16 @@ use Rattle.model.specs.Scan.{Scan, scan, placed, fateIn, updatesIn, upda
 use Rattle.model.specs.World.{World, anchor, logs}
 use Rattle.model.specs.Memory.{bufferOf, copyOf}
 use Rattle.model.specs.State.{limit, startOf, keptOf, tailOf, fillOf, endOf, isOpen, placeOf, firstAt, reservedAt, hasUpdate, withReplay}
-use Rattle.model.specs.Refusal.{numberOf}
+use Rattle.model.specs.Refusal.{numberOf, firstOf}
 use Rattle.model.specs.Causes.{whenServing, tailOn, retained}
 use Rattle.model.specs.Transaction.{diskOf}
 use Rattle.model.specs.Abort.{abortScan, updatesLeft, xorIn}
 use Rattle.model.specs.Restart.{positionOf, replays, readDisk, fateFrom, nextRecord, restartStepTask, movedTo}
-use Rattle.model.specs.Call.{Call, format, restartBegin}
+use Rattle.model.specs.Call.{Call, format, update, abort, restartBegin}
 use Rattle.model.specs.Image.{retainedWords, imageOf, logOf}
-use Rattle.model.specs.Reference.{taken}
-use Rattle.model.specs.Machine.{Machine, Event, outcome, result, follow, allowedAll, formatted}
-use Rattle.model.specs.History.{Told, nothingTold, history, recordsOn, updatesPut}
+use Rattle.model.specs.Reference.{taken, outcomeOf, slotIndex, plainTable}
+use Rattle.model.specs.Machine.{Machine, Event, outcome, result, Run, follow, allowedAll, formatted}
+use Rattle.model.specs.History.{Told, nothingTold, history, recordsOn, updatesPut, onesPut, putBy}
 use Rattle.model.specs.Promise.{Always}
 
 -- The log: "The log's reader finds the records that its writer put there, and no others." What the calls put is told in
@@ -156,3 +157,24 @@ pub record Closable (c : Core) (t : ℕ) : Type 0 where
 
 unfoldable pub ClosingFits : Type 0
 ClosingFits = Always λ m r. whenServing (m .core .stage) ≡ true → (t : ℕ) → isOpen (m .core .table) t ≡ true → Closable (m .core) t
+
+-- 02, S-4: "how many of its bits are 1 over all its words, and update passes that number on; abort answers the sum over its
+-- compensations". An update or an abort on the machine's own slices that is taken answers the bits that are 1 over the differences of
+-- the records that it puts: an update its one, an abort its compensations and a closing record, which has no difference. For an update
+-- that is in how many places (word, bit) the slot's value in the plain table and the new value differ, whatever number of bits a word has.
+pub record TellsOnes (x : Run) (t : Told) (k : Call) (a : Answer) : Type 0 where
+  pub updates : (number page slot : ℕ) (value : List ℕ) (budget : ℕ) → k ≡ update number page slot value budget → outcomeOf a ≡ taken
+      → firstOf a ≡ onesPut (putBy k x t)
+  pub aborts : (number budget : ℕ) → k ≡ abort number budget → outcomeOf a ≡ taken → firstOf a ≡ onesPut (putBy k x t)
+  pub places : (number page slot : ℕ) (value : List ℕ) (budget : ℕ) → k ≡ update number page slot value budget → outcomeOf a ≡ taken
+      → let before : List ℕ = getD (plainTable (x .reference)) (slotIndex (x .reference .sizes) page slot) [] in
+      (bits : ℕ) → OfBits bits before → OfBits bits value → firstOf a ≡ placesDiffering bits before value
+
+unfoldable pub OnesTold : Type 0
+OnesTold =
+    (m : Machine) (s : Sizes) (budget : ℕ)
+    → outcome m (format s budget) ≡ taken
+    → (events : List Event)
+    → allowedAll events (formatted m s budget .machine) ≡ true
+    → let x : Run = follow events (formatted m s budget) in
+    (k : Call) → TellsOnes x (history events (formatted m s budget) nothingTold) k (result (x .machine) k .answer)

@@ -16,7 +16,7 @@ use Rattle.model.specs.Call.{commit, restartBegin}
 use Rattle.model.specs.Reference.{taken, interrupted}
 use Rattle.model.specs.Machine.{Machine}
 use Rattle.model.specs.History.{Told, nothingTold, toldBy}
-use Rattle.model.specs.LogPromise.{LogOf, Truth, Closable, BackupStep}
+use Rattle.model.specs.LogPromise.{LogOf, Truth, Closable, BackupStep, TellsOnes}
 use Rattle.model.specs.Trace.{viewOf, Observed, machineAfter, seen, EventInCode, callInCode, lentInCode, scrambleInCode, On, RunInCode, viewRun, afterInCode, followInCode, AllowedAllInCode, Formats, formattedInCode, AlwaysInCode}
 
 -- what the observed calls put into the logs (specs/History.antt), told by what each of them answered and by the view of the run before
@@ -71,3 +71,14 @@ CommitPointsInCode =
     let p : ℕ = endOf (c .logs) (diskOf c t) in
     let tail : ℕ = tailOn (c .sizes) (o .exit) (diskOf c t) in
     (seen o ≡ taken → tail ≡ p + 2) × (seen o ≡ interrupted → tail ≤ p)
+
+-- An update or an abort of the code on the slices as they were left, if it is taken, answers the bits that are 1 over the differences of
+-- the records that it puts; for an update these are the places (word, bit) in which the slot's value in the plain table and the new
+-- value differ.
+unfoldable pub OnesToldInCode : Type 0
+OnesToldInCode =
+    (o : Observed) (s : Sizes) → Formats o s
+    → (events : List EventInCode) → AllowedAllInCode events (formattedInCode o s)
+    → let x : RunInCode = followInCode events (formattedInCode o s) in
+    (p : Observed) → On (x .machine) p
+    → TellsOnes (viewRun x) (historyInCode events (formattedInCode o s) nothingTold) (p .call) (p .reply .answer)

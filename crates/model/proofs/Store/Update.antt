@@ -47,7 +47,7 @@ module _ {c : Core} {w : World} {number page slot : ℕ} {value : List ℕ} (s :
       let small = bounded (c .sizes) (sizes-sound c within-bounds) .pages-max in
       true-false (lock-of c (bases-sound c within-bounds) w page slot (omega (arith, a .page-lt)) number ∙ rw (← owns, o, ne-eqb u number ne)) (a .unlocked)
 
-  update-allowed : Allowed c w number page slot value
+  pub update-allowed : Allowed c w number page slot value
   update-allowed =
       let mine = open-entry c number within-bounds (a .opened) in
       record {

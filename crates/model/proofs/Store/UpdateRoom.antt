@@ -95,7 +95,7 @@ module _ {home : ℕ → ℕ} {puts : Told} {c : Core} {w : World} {r : Referenc
   old-words : slotWords c w page slot ≡ part at (widthIn s page) (w .pages)
   old-words = slot-words c (g .safe .devices .bases) w page slot (omega (arith, may .page-lt, g .safe .devices .bounds .pages-max))
 
-  old-width : length (slotWords c w page slot) ≡ length value
+  pub old-width : length (slotWords c w page slot) ≡ length value
   old-width = ap length old-words ∙ length-part at (widthIn s page) (w .pages) (omega (arith, inside, right .pages)) ∙ sym (may .width)
 
   diff-width : length (e .diff) ≡ length value

@@ -11,10 +11,11 @@ use Rattle.model.specs.View.{coreOf, bodyOf}
 use Rattle.model.specs.Reference.{outcomeOf, Reference, hear}
 use Rattle.model.specs.Machine.{Machine, result, outcome}
 use Rattle.model.specs.Promise.{Always, PowerLoss, RestartAccepted, RestartFinishes, RunMakes, RunIsSteps}
-use Rattle.model.specs.LogPromise.{LogKept, StateTrue, NeverMalformed, ClosingFits, LogOf, BackupSteps}
+use Rattle.model.specs.LogPromise.{LogKept, StateTrue, NeverMalformed, ClosingFits, LogOf, BackupSteps, TellsOnes, OnesTold}
 use Rattle.model.specs.Trace.{MachineInCode, viewOf, Observed, machineAfter, seen, EventInCode, callInCode, On, RunInCode, viewRun, afterInCode, followInCode, AllowedAllInCode, formattedInCode, AlwaysInCode, PowerLossInCode, EachRestartEnd, RestartAcceptedInCode, RestartFinishesInCode, RunIsStepsInCode}
-use Rattle.model.specs.LogPromiseInCode.{LogKeptInCode, StateTrueInCode, NeverMalformedInCode, ClosingFitsInCode, BackupStepsInCode}
+use Rattle.model.specs.LogPromiseInCode.{LogKeptInCode, StateTrueInCode, NeverMalformedInCode, ClosingFitsInCode, BackupStepsInCode, OnesToldInCode}
 use Rattle.model.proofs.PowerLoss.{power-loss, restart-accepted, log-kept, state-true, never-malformed, backup-steps}
+use Rattle.model.proofs.OnesTold.{ones-told}
 use Rattle.model.proofs.Restart.Run.{run-is-steps}
 use Rattle.model.proofs.Finish.{restart-finishes}
 use Rattle.model.proofs.Sound.Lists.{closing-fits}
@@ -144,3 +145,10 @@ pub log-kept-in-code : LogKeptInCode
 unfolding LogKeptInCode LogKept viewRun
 log-kept-in-code =
     each-trace (λ t x. (disk : ℕ) → disk < sizesOn (x .machine .world .anchor) .disks → LogOf (x .machine) t disk) log-kept
+
+-- What an update and an abort answer.
+pub ones-told-in-code : OnesToldInCode
+unfolding OnesToldInCode OnesTold viewRun
+ones-told-in-code o s f events l p on =
+    let told = each-trace (λ t x. (k : Call) → TellsOnes x t k (result (x .machine) k .answer)) ones-told o s f events l in
+    subst (TellsOnes _ _ (p .call)) (sym (ap (λ (r : Result). r .answer) (gave _ p (p .call) refl on))) (told (p .call))
