@@ -9,7 +9,7 @@ use lib.Seq.{sets, take-all}
 use borrow.Author.Tests.{le-leb}
 use Rattle.model.specs.declared.Sizes.{Sizes}
 use Rattle.model.specs.declared.Logs.{Logs}
-use Rattle.model.specs.Word.{xors, part}
+use Rattle.model.specs.Word.{xors, onesOver, part}
 use Rattle.model.specs.Record.{header, encode}
 use Rattle.model.specs.World.{World, Action, write, pages, work, cost, act, perform, stores, covered, run, made, finishes, each}
 use Rattle.model.specs.Memory.{ownerAt}
@@ -21,9 +21,9 @@ use Rattle.model.proofs.Xor.{length-xors}
 use Rattle.device.specs.Ran.{Ran, withSlices}
 use Rattle.device.proofs.Ran.{ran-then, ran-cut}
 use Rattle.log.specs.declared.write.Head.{Head}
-use Rattle.log.specs.declared.write.Logged.{Logged}
 use Rattle.log.specs.Write.{changeOf, Appends}
 use Rattle.log.proofs.Words.{change-length}
+use Rattle.access.specs.declared.change.Changed.{Changed}
 use Rattle.access.specs.Tasks.{withMemory, replacing, Replaced}
 
 -- the difference of a slot has as many words as its value
@@ -71,8 +71,9 @@ memory-ran rest at owner value number v =
     }
 
 -- the record appended, the slot set: cut, or whole
-module _ (s : Sizes) (l : Logs) (w v : World) (disk : ℕ) (head : Head) (at : ℕ) (value : List ℕ) {budget rest : ℕ} {r : Logged}
-    (did : Appends budget rest s l disk (encode (changeOf head (xors (part at (length value) (w .pages)) value))) w v r) where
+module _ (s : Sizes) (l : Logs) (w v : World) (disk : ℕ) (head : Head) (at : ℕ) (value : List ℕ) {budget rest : ℕ} {r : Changed}
+    (did : Appends budget rest s l disk (encode (changeOf head (xors (part at (length value) (w .pages)) value))) w v (r .logged))
+    (count : r .logged .finished ≡ true → r .ones ≡ onesOver (xors (part at (length value) (w .pages)) value)) where
   -- the appended record's actions, then those on the memories
   abbrev first : List Action
   first = append s l (w .work) disk (encode (changeOf head (xors (part at (length value) (w .pages)) value))) .actions
@@ -84,15 +85,16 @@ module _ (s : Sizes) (l : Logs) (w v : World) (disk : ℕ) (head : Head) (at : �
   unfolding replacing
   in-two = append-assoc first (each (write pages) at value) (write work (ownerAt s at) (head .number) ∷ [])
 
-  pub replaced-cut : r .finished ≡ false → Replaced budget rest s l disk head at value w v r
+  pub replaced-cut : r .logged .finished ≡ false → Replaced budget rest s l disk head at value w v r
   unfolding replacing
-  replaced-cut cut = record { ran = rw (in-two, cut) (ran-cut (did .ran) then-memory cut); state = λ z. true-false z cut }
+  replaced-cut cut = record { ran = rw (in-two, cut) (ran-cut (did .ran) then-memory cut); state = λ z. true-false z cut; ones = count }
 
-  pub replaced-whole : r .finished ≡ true
+  pub replaced-whole : r .logged .finished ≡ true
       → Replaced budget rest s l disk head at value w (withMemory v (sets (v .pages) at value) (v .logs) (set (v .work) (ownerAt s at) (head .number))) r
   unfolding replacing
   replaced-whole finished =
       record {
         ran = rw (in-two, finished) (ran-then (did .ran) then-memory finished (memory-ran rest at (ownerAt s at) value (head .number) v));
         state = did .state;
+        ones = count;
       }

@@ -29,7 +29,7 @@ use Rattle.model.proofs.View.Head.{own-work, carried-back}
 use Rattle.model.proofs.View.Fields.{putLists, Within as within-head, head-put}
 use Rattle.log.specs.declared.write.Head.{Head}
 use Rattle.log.specs.declared.write.Home.{Home}
-use Rattle.log.specs.declared.write.Logged.{Logged}
+use Rattle.access.specs.declared.change.Changed.{Changed}
 use Rattle.log.specs.Write.{Within, Encodable, changeOf, Lent}
 use Rattle.frame.specs.Handed.{refusedTo, finishedTo, cutTo}
 use Rattle.frame.specs.Home.{homeOf, withDisk}
@@ -108,17 +108,17 @@ module _ (h : Carried) (w : World) (own : ownWork h (w .work) ≡ true) {number 
   core-is = rw (words-are, table-is, ← plans .same-width, ← plans .at, ← plans .disk, ← plans .copy) refl
 
   -- its work, cut or whole
-  module _ (rows : verdict (updateRows c (bodyOf w) number page slot value) ≡ accepted) {budget rest : ℕ} {pages logs body : List ℕ} {r : Logged}
+  module _ (rows : verdict (updateRows c (bodyOf w) number page slot value) ≡ accepted) {budget rest : ℕ} {pages logs body : List ℕ} {r : Changed}
       (did : Replaced budget rest (c .sizes) (c .logs) (p .disk) head (p .at) value (bodyOf w) (withMemory (bodyOf w) pages logs body) r) where
-    pub update-cut : r .finished ≡ false → {work : List ℕ} → work ≡ take headWords (w .work) ++ body → {reply : Handed} → reply ≡ cutTo (budget - rest)
+    pub update-cut : r .logged .finished ≡ false → {work : List ℕ} → work ≡ take headWords (w .work) ++ body → {reply : Handed} → reply ≡ cutTo (budget - rest)
         → Serves (update number page slot value budget) h w reply rest (worldOf (w .anchor) pages (w .backups) logs work)
     unfolding bodyOf
     update-cut cut head-left reply =
         shown-cut (update number page slot value budget) h w rows (rw (actions-are, cut) at (did .ran)) head-left reply
 
-    module _ (finished : r .finished ≡ true) where
+    module _ (finished : r .logged .finished ≡ true) where
       abbrev after : Core
-      after = withLog c (withDisk (c .logs) (p .disk) (r .tail) (r .fill)) table-after
+      after = withLog c (withDisk (c .logs) (p .disk) (r .logged .tail) (r .logged .fill)) table-after
 
       core-after : updateTask c (bodyOf w) number page slot value .core ≡ after
       core-after = core-is ∙ ap (λ (l : Logs). withLog c l table-after) (did .state finished)
@@ -129,12 +129,12 @@ module _ (h : Carried) (w : World) (own : ownWork h (w .work) ≡ true) {number 
           ap (λ (x : Core). whenShut (x .stage)) core-after ∙ ap (λ (x : Carried). whenShut (x .stage)) (carried-back h (w .work))
           ∙ own-work h (w .work) own .serving
 
-      head-after : putWords (filling (p .disk) (r .fill))
+      head-after : putWords (filling (p .disk) (r .logged .fill))
           (putWords (entering (p .place) number (p .disk) (p .first) (p .reserved) (p .sum)) (take headWords (w .work) ++ body))
           ≡ headOf after ++ body
       unfolding putWords putLists setIn withLog withReserved withPlace within-head
       head-after =
-          head-put h (w .work) body own (entering (p .place) number (p .disk) (p .first) (p .reserved) (p .sum) ++ filling (p .disk) (r .fill))
+          head-put h (w .work) body own (entering (p .place) number (p .disk) (p .first) (p .reserved) (p .sum) ++ filling (p .disk) (r .logged .fill))
           (plans .place-low, (plans .place-low, (plans .place-low, (plans .place-low, (plans .disk-low, (plans .disk-low, tt)))))) after refl
 
       carried-after : carriedOf after
@@ -148,30 +148,34 @@ module _ (h : Carried) (w : World) (own : ownWork h (w .work) ≡ true) {number 
             next = h .next;
             copied = h .copied;
             starts = h .starts;
-            tails = set (h .tails) (p .disk) (r .tail);
+            tails = set (h .tails) (p .disk) (r .logged .tail);
             ends = h .ends;
           }
       unfolding withLog coreOf
       carried-after = refl
 
+      value-is : updateTask c (bodyOf w) number page slot value .value ≡ r .ones
+      unfolding updateTask slotWords
+      value-is = rw (← plans .same-width, ← plans .at) (sym (did .ones finished))
+
       pub update-finished : {work : List ℕ}
-          → work ≡ putWords (filling (p .disk) (r .fill)) (putWords (entering (p .place) number (p .disk) (p .first) (p .reserved) (p .sum)) (take headWords (w .work) ++ body))
+          → work ≡ putWords (filling (p .disk) (r .logged .fill)) (putWords (entering (p .place) number (p .disk) (p .first) (p .reserved) (p .sum)) (take headWords (w .work) ++ body))
           → {reply : Handed}
-          → reply ≡ finishedTo (record { stage = h .stage; pages = h .pages; disks = h .disks; ring = h .ring; total = h .total; epoch = h .epoch; next = h .next; copied = h .copied; starts = h .starts; tails = set (h .tails) (p .disk) (r .tail); ends = h .ends }) (budget - rest) 0
+          → reply ≡ finishedTo (record { stage = h .stage; pages = h .pages; disks = h .disks; ring = h .ring; total = h .total; epoch = h .epoch; next = h .next; copied = h .copied; starts = h .starts; tails = set (h .tails) (p .disk) (r .logged .tail); ends = h .ends }) (budget - rest) (r .ones)
           → Serves (update number page slot value budget) h w reply rest (worldOf (w .anchor) pages (w .backups) logs work)
-      unfolding bodyOf updateTask
+      unfolding bodyOf
       update-finished head-left reply =
           shown-whole (update number page slot value budget) h w rows (rw (actions-are, finished) at (did .ran)) serving-after
-          (head-left ∙ head-after ∙ ap (λ (x : Core). headOf x ++ body) (sym core-after)) (sym carried-after ∙ ap carriedOf (sym core-after)) reply
+          (head-left ∙ head-after ∙ ap (λ (x : Core). headOf x ++ body) (sym core-after)) (sym carried-after ∙ ap carriedOf (sym core-after)) (rw value-is reply)
 
       -- where nothing is flushed, the tail stays, and with it all that is carried
-      pub update-unmoved : r .tail ≡ p .tail → {work : List ℕ}
-          → work ≡ putWords (filling (p .disk) (r .fill)) (putWords (entering (p .place) number (p .disk) (p .first) (p .reserved) (p .sum)) (take headWords (w .work) ++ body))
-          → {reply : Handed} → reply ≡ finishedTo h (budget - rest) 0
+      pub update-unmoved : r .logged .tail ≡ p .tail → {work : List ℕ}
+          → work ≡ putWords (filling (p .disk) (r .logged .fill)) (putWords (entering (p .place) number (p .disk) (p .first) (p .reserved) (p .sum)) (take headWords (w .work) ++ body))
+          → {reply : Handed} → reply ≡ finishedTo h (budget - rest) (r .ones)
           → Serves (update number page slot value budget) h w reply rest (worldOf (w .anchor) pages (w .backups) logs work)
       unfolding tailOf coreOf
       update-unmoved stays head-left reply =
-          let same : set (h .tails) (p .disk) (r .tail) ≡ h .tails = rw (stays, plans .tail) (set-getD (h .tails) (p .disk) 0) in
+          let same : set (h .tails) (p .disk) (r .logged .tail) ≡ h .tails = rw (stays, plans .tail) (set-getD (h .tails) (p .disk) 0) in
           update-finished head-left (rw same reply)
 
 -- The body as it is lent, and the whole when it is back.

@@ -92,7 +92,7 @@ pub fn update(
         copy: plan.copy,
     };
     let body = &mut work[HEAD_WORDS..];
-    let added = log_and_set(
+    let changed = log_and_set(
         home,
         head,
         plan.at,
@@ -104,23 +104,23 @@ pub fn update(
         budget,
     );
     let stores = saturating_sub(before, *budget);
-    if !added.finished {
+    if !changed.logged.finished {
         return cut(stores);
     }
-    count_update(work, plan, number, added.fill);
+    count_update(work, plan, number, changed.logged.fill);
     // most updates flush nothing
-    if added.tail == plan.tail {
-        return finished(carried, stores, 0);
+    if changed.logged.tail == plan.tail {
+        return finished(carried, stores, changed.ones);
     }
     let d = plan.disk as usize;
     let mut moved = carried.tails;
-    moved[d] = added.tail;
+    moved[d] = changed.logged.tail;
     finished(
         Carried {
             tails: moved,
             ..carried
         },
         stores,
-        0,
+        changed.ones,
     )
 }

@@ -1,16 +1,18 @@
 -- One turn of a loop over words: each law takes what n words give to what n + 1 words give.
 use mathlib.Core.Path.{_≡_, refl, sym, ap, _∙_}
-use Prim.Native.Nat.{ℕ, zero, suc, _+_, _≤_, _<_}
+use Prim.Native.Nat.{ℕ, zero, suc, _+_, _^_, _≤_, _<_}
 use mathlib.Core.List.{List, [], _∷_, _++_, append-nil}
 use native.Mathlib.Numerals.{add-one}
 use native.Mathlib.Nat.{add-zero, add-suc, suc-add, zero-add}
 use native.Mathlib.Omega.{arith}
 use lib.ListN.{length, getD, set, take, drop, replicate, length-drop, length-replicate, drop-of-length-le}
-use lib.Bits.{bitXor}
+use lib.Bits.{bitXor, xor-lt}
+use lib.Count.{ones, ones-le}
 use lib.Seq.{sets, sets-eq, take-suc, take-add, take-length, getD-drop, drop-drop}
-use Rattle.model.specs.Word.{_⊕_, xors, part}
+use Rattle.model.specs.Word.{_⊕_, xors, onesOver, part}
 use Rattle.model.specs.Image.{xorAt}
 use Rattle.model.proofs.Xor.{length-xors-same}
+use Rattle.model.proofs.Ones.{ones-append}
 use Rattle.model.proofs.Parts.{getD-sets-behind}
 use Rattle.model.proofs.Parts.{length-part}
 
@@ -110,8 +112,19 @@ difference-more l at pages from value i h k =
     (sets-more l at (xors (part from i pages) (part 0 i value)) (getD pages (from + i) 0 ⊕ getD value i 0) i
     (length-xor-part pages value from 0 i (omega arith) (omega arith)))
 
+-- of the bits of a word, no more are 1 than it has
+pub xor-ones : (k a b : ℕ) → a < 2 ^ k → b < 2 ^ k → ones (bitXor a b) ≤ k
+xor-ones k a b p q = ones-le k (bitXor a b) (xor-lt k a b p q)
+
+pub ones-more : (pages : List ℕ) (from : ℕ) (value : List ℕ) (i : ℕ) → from + i < length pages → i < length value
+    → onesOver (xors (part from i pages) (part 0 i value)) + ones (bitXor (getD pages (from + i) 0) (getD value i 0))
+    ≡ onesOver (xors (part from (i + 1) pages) (part 0 (i + 1) value))
+unfolding onesOver _⊕_
+ones-more pages from value i h k =
+    rw (xor-part-more pages value from 0 i h (omega arith), zero-add, ones-append) (omega arith)
+
 -- at the loop's end the value is used up
-pub difference-whole : (l : List ℕ) (at : ℕ) (pages : List ℕ) (from : ℕ) (value : List ℕ) (i : ℕ) → i ≡ length value
-    → sets l at (xors (part from i pages) (part 0 i value)) ≡ sets l at (xors (part from (length value) pages) value)
+pub difference-whole : (pages : List ℕ) (from : ℕ) (value : List ℕ) (i : ℕ) → i ≡ length value
+    → xors (part from i pages) (part 0 i value) ≡ xors (part from (length value) pages) value
 unfolding part
-difference-whole l at pages from value i e = rw (e, take-length)
+difference-whole pages from value i e = rw (e, take-length)

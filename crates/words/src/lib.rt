@@ -3,7 +3,7 @@ ghost use mathlib.Core.Path.{_≡_};
 ghost use Prim.Native.Nat.{_+_, _-_, _≤_};
 ghost use lib.ListN.{length, replicate};
 ghost use lib.Seq.{sets};
-ghost use Rattle.model.specs.Word.{xors, part};
+ghost use Rattle.model.specs.Word.{xors, onesOver, part};
 ghost use Rattle.model.specs.Image.{xorAt};
 
 // a less b, and 0 where b is more.
@@ -52,17 +52,22 @@ pub fn fill_words(target: &mut [u64], at: usize, n: usize, value: u64)
     }
 }
 
-// Writes a slot's difference, before XOR after, into out at `at`.
+// Writes a slot's difference, before XOR after, into out at `at`, and hands back how many of its bits are 1 over all its words.
 // Before is the slot as it is, at `from` in pages; after is value.
-pub fn difference(out: &mut [u64], at: usize, pages: &[u64], from: usize, value: &[u64])
-    requires { ⌜ at + length (now value) ≤ length (now out) ⌝ }
+pub fn difference(out: &mut [u64], at: usize, pages: &[u64], from: usize, value: &[u64]) -> u64
+    requires { ⌜ (at + length (now value) ≤ length (now out)) × (length (now value) ≤ 32) ⌝ }
     requires { ⌜ from + length (now value) ≤ length (now pages) ⌝ }
-    ensures { λ _. ⌜ now (out .exit) ≡ sets (now (out .entry)) at (xors (part from (length (now (value .entry))) (now (pages .entry))) (now (value .entry))) ⌝ }
+    ensures { λ r. ⌜ (now (out .exit) ≡ sets (now (out .entry)) at (xors (part from (length (now (value .entry))) (now (pages .entry))) (now (value .entry))))
+        × (r ≡ onesOver (xors (part from (length (now (value .entry))) (now (pages .entry))) (now (value .entry)))) ⌝ }
 {
     let n = value.len();
+    let mut ones = 0;
     let mut i = 0;
     while i < n {
-        out[at + i] = pages[from + i] ^ value[i];
+        let word = pages[from + i] ^ value[i];
+        out[at + i] = word;
+        ones += u64::count_ones(word) as u64;
         i += 1;
     }
+    ones
 }

@@ -15,17 +15,21 @@ slice-write-work-3 : tie.Need-slice-write-work-3
 slice-write-work-3 c = simp length-set (omega arith)
 
 difference-requires : tie.Need-difference-requires
-difference-requires c κs = (simp length-set (omega arith), c .before .before .before .before .before .before .before .pre .2)
+difference-requires c κs =
+    let pre = c .before .before .before .before .before .before .before .pre in
+    ((simp length-set (omega arith), pre .0 .width-small), pre .2)
 
 same-length : tie.Need-same-length
-same-length c = rw (c .before .before .difference .ensures, length-sets) (simp length-set refl)
+same-length c = rw (c .before .before .difference .ensures .0, length-sets) (simp length-set refl)
 
 returns : tie.Need-returns
 returns c =
     let start = c .before .before .before .before .before .before .before .before .before .before in
     let x = start .args in
-    c .before .before .difference .ensures
-    ∙ change-put (x .work .now) (x .to) _ (x .head) _ (sym (difference-length (x .at) (x .value .now) (x .pages .now) (start .pre .2)))
+    let counted = c .before .before .difference .ensures in (
+      counted .0 ∙ change-put (x .work .now) (x .to) _ (x .head) _ (sym (difference-length (x .at) (x .value .now) (x .pages .now) (start .pre .2))),
+      counted .1,
+    )
 
 pub put-change-spec : {M : Type 1} → statement M
 put-change-spec =
