@@ -13,7 +13,7 @@ use Rattle.model.specs.World.{World, worldOf}
 use Rattle.model.specs.State.{withLog, withPlace, withReserved, without}
 use Rattle.model.specs.Refusal.{Task, verdict, accepted, rejected}
 use Rattle.model.specs.Causes.{notOpen}
-use Rattle.model.specs.Abort.{updatesLeft, abortFault, abortRows, abortTask}
+use Rattle.model.specs.Abort.{updatesLeft, abortFault, abortRows, onesUndone, abortTask}
 use Rattle.model.specs.Call.{abort}
 use Rattle.model.specs.View.{headWords, coreOf, carriedOf, headLists, bodyOf, Serves}
 use Rattle.model.specs.Fields.{putWords}
@@ -27,7 +27,7 @@ use Rattle.frame.specs.Home.{withDisk}
 use Rattle.frame.proofs.FirstChecks.{serving-ready}
 use Rattle.frame.proofs.Shown.{shown-whole, shown-cut}
 use Rattle.abort.specs.declared.window.Tip.{Tip}
-use Rattle.abort.specs.declared.record.Progress.{Progress}
+use Rattle.abort.specs.declared.undo.Undone.{Undone}
 use Rattle.abort.specs.declared.scope.Target.{Target}
 use Rattle.abort.specs.Undo.{onlyLog, Did, logFrom}
 use Rattle.abort.specs.Scope.{rollingBack, closed}
@@ -91,21 +91,23 @@ module _ (h : Carried) (w : World) (number budget : ℕ) {t : Target} (st : Stan
 
     -- what the work says of any anchor and backups, of these
     module _ {memory : List ℕ} (lent : memory ≡ drop headWords (w .work)) {from : ℕ} (starting : from ≡ t .scope .from)
-        {rest : ℕ} {pages logs body : List ℕ} {done : Progress}
+        {rest : ℕ} {pages logs body : List ℕ} {done : Undone}
         (did : (anchor backups : List ℕ) → Did d budget rest
         (rollingBack (t .sizes) (onlyLog d tip) (worldOf anchor (w .pages) backups (w .logs) memory) number d
         (updatesIn number (logFrom (t .sizes) (onlyLog d tip) d (w .logs) memory from)))
-        (worldOf anchor (w .pages) backups (w .logs) memory) (worldOf anchor pages backups logs body) done) where
+        (worldOf anchor (w .pages) backups (w .logs) memory) (worldOf anchor pages backups logs body) (done .progress))
+        (counted : done .progress .finished ≡ true
+        → done .ones ≡ onesUndone (updatesIn number (logFrom (t .sizes) (onlyLog d tip) d (w .logs) memory from))) where
       abbrev after : World
       after = worldOf (w .anchor) pages (w .backups) logs body
 
       raw : Did d budget rest
           (rollingBack (t .sizes) (onlyLog d tip) (bodyOf w) number d
-          (updatesIn number (logFrom (t .sizes) (onlyLog d tip) d (w .logs) (drop headWords (w .work)) (t .scope .from)))) (bodyOf w) after done
+          (updatesIn number (logFrom (t .sizes) (onlyLog d tip) d (w .logs) (drop headWords (w .work)) (t .scope .from)))) (bodyOf w) after (done .progress)
       unfolding bodyOf
       raw = rw (lent, starting) at (did (w .anchor) (w .backups))
 
-      here : Did d budget rest (rollingBack (core .sizes) (onlyLog d tip) (bodyOf w) number d (updatesLeft core (bodyOf w) number)) (bodyOf w) after done
+      here : Did d budget rest (rollingBack (core .sizes) (onlyLog d tip) (bodyOf w) number d (updatesLeft core (bodyOf w) number)) (bodyOf w) after (done .progress)
       here = rw (updates-here h w number st none, ← st .read .sizes) raw
 
       -- its task, by the disk that was found
@@ -113,7 +115,7 @@ module _ (h : Carried) (w : World) (number budget : ℕ) {t : Target} (st : Stan
           ≡ record {
             actions = rollingBack (core .sizes) (core .logs) (bodyOf w) number d (updatesLeft core (bodyOf w) number) .actions;
             core = withLog core (rollingBack (core .sizes) (core .logs) (bodyOf w) number d (updatesLeft core (bodyOf w) number) .logs) (without (core .table) number);
-            value = 0;
+            value = onesUndone (updatesLeft core (bodyOf w) number);
           }
       unfolding abortTask rollingBack
       task-is = rw (disk-here h w number st) refl
@@ -124,44 +126,48 @@ module _ (h : Carried) (w : World) (number budget : ℕ) {t : Target} (st : Stan
           ap (λ (x : Task). x .actions) task-is ∙ same-actions (core .sizes) d (st .low) (core .logs) sized tip (tail-here h w number st) (fill-here h w number st) (bodyOf w) number
           (updatesLeft core (bodyOf w) number)
 
-      stored : Ran budget rest (abortTask core (bodyOf w) number .actions) (bodyOf w) after (done .finished)
+      stored : Ran budget rest (abortTask core (bodyOf w) number .actions) (bodyOf w) after (done .progress .finished)
       stored = rw task-actions (here .ran)
 
-      pub abort-cut : done .finished ≡ false → {work : List ℕ} → work ≡ take headWords (w .work) ++ body → {reply : Handed} → reply ≡ cutTo (budget - rest)
+      pub abort-cut : done .progress .finished ≡ false → {work : List ℕ} → work ≡ take headWords (w .work) ++ body → {reply : Handed} → reply ≡ cutTo (budget - rest)
           → Serves (abort number budget) h w reply rest (worldOf (w .anchor) pages (w .backups) logs work)
       abort-cut cut back reply = shown-cut (abort number budget) h w accepts (rw cut at stored) back reply
 
-      module _ (all : done .finished ≡ true) where
+      module _ (all : done .progress .finished ≡ true) where
         after-abort : abortTask core (bodyOf w) number .core
-            ≡ withLog core (withDisk (core .logs) d (done .tip .tail) (done .tip .fill))
+            ≡ withLog core (withDisk (core .logs) d (done .progress .tip .tail) (done .progress .tip .fill))
             (withReserved (withPlace (core .table) (t .entry .place) 0 0 0 0) d (t .entry .sum - t .entry .reserved))
         after-abort =
             ap (λ (x : Task). x .core) task-is
             ∙ rw (
               moved-alone (core .sizes) d (st .low) (core .logs) sized tip (tail-here h w number st) (fill-here h w number st) (bodyOf w) number
-                  (updatesLeft core (bodyOf w) number) (done .tip) (here .state all),
+                  (updatesLeft core (bodyOf w) number) (done .progress .tip) (here .state all),
               shut-table,
             ) refl
 
         lists-after : headLists (abortTask core (bodyOf w) number .core)
-            ≡ putLists (closed (t .entry .place) d (done .tip .fill) (t .entry .sum - t .entry .reserved)) (headLists core)
+            ≡ putLists (closed (t .entry .place) d (done .progress .tip .fill) (t .entry .sum - t .entry .reserved)) (headLists core)
         unfolding putLists setIn withLog withReserved withPlace
         lists-after = ap headLists after-abort
 
-        carried-after : tailed h d (done .tip .tail) ≡ carriedOf (abortTask core (bodyOf w) number .core)
+        carried-after : tailed h d (done .progress .tip .tail) ≡ carriedOf (abortTask core (bodyOf w) number .core)
         unfolding withLog coreOf
         carried-after = sym (ap carriedOf after-abort)
 
+        ones-here : onesUndone (updatesLeft core (bodyOf w) number) ≡ done .ones
+        unfolding bodyOf
+        ones-here = ap onesUndone (updates-here h w number st none) ∙ sym (rw (lent, starting) at (counted all))
+
         pub abort-whole : {stands : List ℕ} → stands ≡ take headWords (w .work) ++ body
-            → {work : List ℕ} → work ≡ putWords (closed (t .entry .place) d (done .tip .fill) (t .entry .sum - t .entry .reserved)) stands
-            → {reply : Handed} → reply ≡ finishedTo (tailed h d (done .tip .tail)) (budget - rest) 0
+            → {work : List ℕ} → work ≡ putWords (closed (t .entry .place) d (done .progress .tip .fill) (t .entry .sum - t .entry .reserved)) stands
+            → {reply : Handed} → reply ≡ finishedTo (tailed h d (done .progress .tip .tail)) (budget - rest) (done .ones)
             → Serves (abort number budget) h w reply rest (worldOf (w .anchor) pages (w .backups) logs work)
         unfolding abortTask Within withLog coreOf
         abort-whole back words reply =
             let low = st .low in
             let place = st .read .entry .low in
             shown-whole (abort number budget) h w accepts (rw all at stored) (serving-ready h w (st .ready))
-            (words ∙ ap (putWords (closed (t .entry .place) d (done .tip .fill) (t .entry .sum - t .entry .reserved))) back
-            ∙ head-put h (w .work) body (st .own) (closed (t .entry .place) d (done .tip .fill) (t .entry .sum - t .entry .reserved))
+            (words ∙ ap (putWords (closed (t .entry .place) d (done .progress .tip .fill) (t .entry .sum - t .entry .reserved))) back
+            ∙ head-put h (w .work) body (st .own) (closed (t .entry .place) d (done .progress .tip .fill) (t .entry .sum - t .entry .reserved))
             (low, (place, (place, (place, (place, (low, tt)))))) (abortTask core (bodyOf w) number .core) lists-after)
-            carried-after reply
+            carried-after (rw ones-here reply)

@@ -1,12 +1,13 @@
 -- One update taken back: its record appended, then its slot changed back.
 use mathlib.Core.Path.{_≡_}
-use mathlib.Core.List.{List}
+use mathlib.Core.List.{List, [], _∷_}
 use mathlib.Core.Bool.{true, false}
-use Prim.Native.Nat.{ℕ}
+use Prim.Native.Nat.{ℕ, _≤_}
+use native.Mathlib.Omega.{arith}
 use lib.ListN.{length}
 use Rattle.model.specs.declared.Sizes.{Sizes}
 use Rattle.model.specs.declared.Logs.{Logs}
-use Rattle.model.specs.Word.{xors, part}
+use Rattle.model.specs.Word.{xors, onesOver, part}
 use Rattle.model.specs.Sizes.{slotBase}
 use Rattle.model.specs.Record.{change, encode, compensationKind}
 use Rattle.model.specs.Scan.{Update}
@@ -14,13 +15,14 @@ use Rattle.model.specs.World.{World, pages}
 use Rattle.model.specs.Memory.{copyOf}
 use Rattle.model.specs.Append.{append}
 use Rattle.model.specs.Image.{xorAt}
-use Rattle.model.specs.Abort.{xorIn, compensate}
+use Rattle.model.specs.Abort.{xorIn, compensate, onesUndone}
 use Rattle.model.proofs.Restart.Words.{withPages}
 use Rattle.device.specs.Ran.{Ran}
 use Rattle.device.proofs.Memory.{pages-written}
 use Rattle.device.proofs.Ran.{ran-then, ran-cut}
 use Rattle.abort.specs.declared.record.Progress.{Progress}
-use Rattle.abort.specs.Undo.{Did}
+use Rattle.abort.specs.declared.undo.Undone.{Undone}
+use Rattle.abort.specs.Undo.{Did, Counts}
 
 -- a difference XORed into the page memory: no store
 ran-xor : (budget at : ℕ) (diff : List ℕ) (w : World) → Ran budget budget (xorIn at diff (w .pages)) w (withPages w (xorAt at diff (w .pages))) true
@@ -43,3 +45,8 @@ module _ (s : Sizes) (l : Logs) (w : World) (number disk : ℕ) (u : Update) {bu
   compensated-whole e kept {at} place after is =
       let next : Ran rest rest (xorIn at diff (w .pages)) v (withPages v after) true = rw (is, ← kept) (ran-xor rest at diff v) in
       rw (← same, ← place) (record { ran = rw e (ran-then (did .ran) _ e next); state = did .state })
+
+-- the bits of its difference that are 1
+pub one-counted : (u : Update) {most : ℕ} {r : Undone} → r .ones ≡ onesOver (u .diff) → r .ones ≤ most → Counts (u ∷ []) most r
+unfolding onesUndone
+one-counted u is few = record { all = λ finished. omega (arith, is); few = few }

@@ -13,7 +13,7 @@ use Rattle.model.specs.Sizes.{ringOf}
 use Rattle.model.specs.Scan.{scan, Update, updatesIn, updateWords}
 use Rattle.model.specs.World.{World, worldOf}
 use Rattle.model.specs.State.{endOf}
-use Rattle.model.specs.Abort.{undoAll}
+use Rattle.model.specs.Abort.{undoAll, onesUndone}
 use Rattle.model.proofs.Scan.{scan-cong}
 use Rattle.log.specs.declared.updates.Group.{Group}
 use Rattle.log.specs.Reading.{positionsIn}
@@ -24,7 +24,7 @@ use Rattle.abort.specs.Undo.{onlyLog, Did, reader, logFrom, updateRead, 
 use Rattle.abort.specs.Groups.{Noted, lastFirst, Takeable}
 use Rattle.abort.proofs.Disks.{bounds}
 use Rattle.abort.proofs.Standing.{four-each, listed}
-use Rattle.abort.proofs.Pending.{Pending, pending-takeable, pending-cut, pending-step}
+use Rattle.abort.proofs.Pending.{Pending, Counted, pending-counted, pending-takeable, pending-cut, pending-step}
 
 -- the first 128 of a list, by how many they are
 take-min : (l : List ℕ) {n : ℕ} → n ≡ min (length l) 128 → take n l ≡ take 128 l
@@ -116,6 +116,12 @@ module _ (s : Sizes) (disk number from : ℕ) (l₀ : Logs) (pages₀ logs₀ wo
 
       abbrev mine : List Update
       mine = lastFirst (updateRead (reader s l disk logs work)) (take (g .count) (g .at))
+
+      pub group-counted : (ones : ℕ) {more : ℕ} → Counted read all ones (take (128 * k) all)
+          → more ≡ onesUndone mine → Counted read all (ones + more) (take (128 * (k - 1)) all)
+      group-counted ones counted more =
+          pending-counted s disk number l₀ pages₀ logs₀ work₀ budget₀ all all-takeable (take (128 * (k - 1)) all) _ left ones
+          (rw group-split at counted) more
 
       pub group-cut : (anchor backups : List ℕ) {rest : ℕ} {v : World} {part : Progress}
           → Did disk budget rest (undoAll s l (worldOf anchor pages backups logs work) number disk mine) (worldOf anchor pages backups logs work) v part

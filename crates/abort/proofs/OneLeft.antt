@@ -2,7 +2,7 @@
 use mathlib.Core.Path.{_≡_, refl, ap, subst, _∙_}
 use mathlib.Core.List.{List, [], _∷_, _++_, List·Memᴰ·head}
 use mathlib.Core.Bool.{true, false}
-use Prim.Native.Nat.{ℕ, suc, _-_, _≤_, _<_}
+use Prim.Native.Nat.{ℕ, suc, _+_, _-_, _≤_, _<_}
 use native.Mathlib.Omega.{arith}
 use lib.ListN.{length, getD, take}
 use lib.Seq.{take-suc}
@@ -10,13 +10,13 @@ use Rattle.model.specs.declared.Sizes.{Sizes}
 use Rattle.model.specs.declared.Logs.{Logs}
 use Rattle.model.specs.World.{World, worldOf}
 use Rattle.model.specs.State.{endOf}
-use Rattle.model.specs.Abort.{compensate, undoAll}
+use Rattle.model.specs.Abort.{compensate, undoAll, onesUndone}
 use Rattle.abort.specs.declared.difference.Site.{Site}
 use Rattle.abort.specs.declared.record.Progress.{Progress}
 use Rattle.abort.specs.Undo.{onlyLog, Serving, Did, reader, siteAt, updateRead, updateAt, Compensable}
 use Rattle.abort.specs.Groups.{lastFirst, Takeable}
 use Rattle.abort.proofs.Undone.{undone-one}
-use Rattle.abort.proofs.Pending.{Pending, pending-takeable, pending-cut, pending-step}
+use Rattle.abort.proofs.Pending.{Pending, Counted, pending-counted, pending-takeable, pending-cut, pending-step}
 
 take-last : (l : List ℕ) (n : ℕ) → 0 < n → n ≤ length l → take n l ≡ take (n - 1) l ++ getD l (n - 1) 0 ∷ []
 take-last l n h k =
@@ -54,6 +54,13 @@ module _ (s : Sizes) (disk number : ℕ) (l₀ : Logs) (pages₀ logs₀ work₀
         → Did disk budget rest (undoAll s l w number disk (lastFirst (updateRead read) (q ∷ []))) w v one
     unfolding siteAt updateAt updateRead lastFirst
     alone w did = undone-one s number disk l w (updateRead read q) (rw is at did)
+
+    pub one-counted : (ones : ℕ) {more : ℕ} → Counted (reader s l₀ disk logs₀ work₀) all ones (take n at)
+        → more ≡ onesUndone (updateAt s l disk logs work site ∷ []) → Counted (reader s l₀ disk logs₀ work₀) all (ones + more) (take (n - 1) at)
+    unfolding siteAt updateAt updateRead lastFirst
+    one-counted ones counted more =
+        pending-counted s disk number l₀ pages₀ logs₀ work₀ budget₀ all ok (take (n - 1) at) (q ∷ []) left ones
+        (rw (take-last at n some long) at counted) (rw is at more)
 
     pub one-cut : (anchor backups : List ℕ) {rest : ℕ} {v : World} {one : Progress}
         → Did disk budget rest (compensate s l (worldOf anchor pages backups logs work) number disk (updateAt s l disk logs work site))

@@ -12,10 +12,10 @@ use Rattle.model.specs.Scan.{Update, updateWords}
 use Rattle.model.specs.World.{World, worldOf}
 use Rattle.model.specs.Memory.{bufferAt}
 use Rattle.model.specs.State.{endOf}
-use Rattle.model.specs.Abort.{undoAll}
+use Rattle.model.specs.Abort.{undoAll, onesUndone}
 use Rattle.model.proofs.Members.{Every}
 use Rattle.model.proofs.Ring.{disk-within}
-use Rattle.model.proofs.Updates.{update-words-append}
+use Rattle.model.proofs.Updates.{update-words-append, ones-undone-append}
 use Rattle.model.proofs.Growth.{SizedLogs, Longer}
 use Rattle.model.proofs.Sound.Abort.{undo-grown}
 use Rattle.device.proofs.Ran.{ran-whole}
@@ -27,6 +27,14 @@ use Rattle.abort.proofs.Disks.{small, slim}
 use Rattle.abort.proofs.Standing.{last-first-append, last-first-same, last-first-every, length-read, read-same}
 use Rattle.abort.proofs.Unchanged.{undo-reads}
 use Rattle.abort.proofs.Undone.{did-lengths, undone-none, undone-then, undone-cut}
+
+-- the bits counted so far and those of the updates that are left are those of all
+abbrev pub Counted : (read : ℕ → ℕ) (all : List ℕ) (ones : ℕ) (left : List ℕ) → Type 0
+Counted read all ones left = ones + onesUndone (lastFirst (updateRead read) left) ≡ onesUndone (lastFirst (updateRead read) all)
+
+pub all-counted : (read : ℕ → ℕ) (all : List ℕ) (ones : ℕ) → Counted read all ones [] → ones ≡ onesUndone (lastFirst (updateRead read) all)
+unfolding lastFirst onesUndone
+all-counted read all ones counted = omega (arith, counted)
 
 module _ (s : Sizes) (disk number : ℕ) (l₀ : Logs) (pages₀ logs₀ work₀ : List ℕ) (budget₀ : ℕ) (all : List ℕ) where
   abbrev read : ℕ → ℕ
@@ -103,6 +111,9 @@ module _ (s : Sizes) (disk number : ℕ) (l₀ : Logs) (pages₀ logs₀ work₀
 
         words : updateWords (taken (rest ++ group)) ≡ updateWords some + updateWords (taken rest)
         words = ap updateWords split ∙ update-words-append some (taken rest)
+
+        pub pending-counted : (ones : ℕ) {more : ℕ} → Counted read all ones (rest ++ group) → more ≡ onesUndone some → Counted read all (ones + more) rest
+        pending-counted ones counted is = omega (arith, counted, is, ap onesUndone split, ones-undone-append some (taken rest))
 
         standing : (q : ℕ) → List·Memᴰ q group → Standing s now-read (endOf l disk) q
         standing q m =

@@ -13,12 +13,14 @@ use Rattle.model.specs.World.{World}
 use Rattle.model.specs.Memory.{bufferAt, workWords, bufferOf}
 use Rattle.model.specs.State.{limit, emptyLogs, tailOf, fillOf, endOf}
 use Rattle.model.specs.Append.{Appended}
+use Rattle.model.specs.Abort.{onesUndone}
 use Rattle.device.specs.Ran.{Ran}
 use Rattle.frame.specs.Home.{withDisk}
 use Rattle.abort.specs.declared.difference.Site.{Site}
 use Rattle.abort.specs.declared.window.Tip.{Tip}
 use Rattle.abort.specs.declared.window.Window.{Window}
 use Rattle.abort.specs.declared.record.Progress.{Progress}
+use Rattle.abort.specs.declared.undo.Undone.{Undone}
 
 -- An abort reads and writes the log of one disk, of which it has the numbers; for the others stand empty ones.
 unfoldable pub onlyLog : (disk : ℕ) → Tip → Logs
@@ -53,6 +55,11 @@ pub record InSlot (s : Sizes) (page slot width : ℕ) : Type 0 where
 pub record Did (disk budget rest : ℕ) (added : Appended) (before after : World) (r : Progress) : Type 0 where
   pub ran : Ran budget rest (added .actions) before after (r .finished)
   pub state : r .finished ≡ true → onlyLog disk (r .tip) ≡ added .logs
+
+-- The bits that are 1 over the differences of updates that were all taken back; no more than `most`, so that a sum of them is a word.
+pub record Counts (us : List Update) (most : ℕ) (r : Undone) : Type 0 where
+  pub all : r .progress .finished ≡ true → r .ones ≡ onesUndone us
+  pub few : r .ones ≤ most
 
 -- a disk's log as it is read, ring then buffer
 abbrev pub reader : Sizes → Logs → ℕ → List ℕ → List ℕ → ℕ → ℕ

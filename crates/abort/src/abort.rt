@@ -1,9 +1,9 @@
 // Abort: its checks, then its work. Of a transaction that is not open nothing is read, so No. 9 can be asked before No. 7.
 use crate::fault::examine;
 use crate::notes::Notes;
-use crate::record::Progress;
 use crate::record::log_close;
 use crate::scope::find_scope;
+use crate::undo::Undone;
 use crate::undo::undo_all;
 use crate::window::Tip;
 use frame::handed::cut;
@@ -22,12 +22,14 @@ use model::Sizes;
 use words::saturating_sub;
 ghost use mathlib.Core.Path.{_≡_};
 ghost use mathlib.Core.List.{List};
+ghost use mathlib.Core.Bool.{true};
 ghost use Prim.Native.Nat.{ℕ, _≤_, _<_};
 ghost use lib.ListN.{length};
 ghost use Rattle.model.specs.Scan.{scan, updatesIn};
 ghost use Rattle.model.specs.World.{worldOf};
 ghost use Rattle.model.specs.Moments.{old, new, oldWorld};
 ghost use Rattle.model.specs.State.{places, endOf};
+ghost use Rattle.model.specs.Abort.{onesUndone};
 ghost use Rattle.model.specs.Call.{abort};
 ghost use Rattle.model.specs.View.{headWords, Serves};
 ghost use Rattle.model.specs.Fields.{putWords};
@@ -56,21 +58,27 @@ fn roll_back(
     logs: &mut [u64],
     work: &mut [u64],
     budget: &mut u64,
-) -> Progress
+) -> Undone
     requires { ⌜ Undoable sizes (onlyLog disk tip) disk number (notes .from) (now pages) (now logs) (now work) ⌝ }
     requires { ⌜ Noted number (scan sizes (reader sizes (onlyLog disk tip) disk (now logs) (now work)) (endOf (onlyLog disk tip) disk)) (notes .from) notes ⌝ }
     ensures { λ r. ⌜ ((anchor backups : List ℕ) → Did disk (now (budget .entry)) (now (budget .exit))
         (rollingBack sizes (onlyLog disk tip) (worldOf anchor (now (pages .entry)) backups (now (logs .entry)) (now (work .entry))) number disk
         (updatesIn number (logFrom sizes (onlyLog disk tip) disk (now (logs .entry)) (now (work .entry)) (notes .from))))
         (worldOf anchor (now (pages .entry)) backups (now (logs .entry)) (now (work .entry)))
-        (worldOf anchor (now (pages .exit)) backups (now (logs .exit)) (now (work .exit))) r) ⌝ }
+        (worldOf anchor (now (pages .exit)) backups (now (logs .exit)) (now (work .exit))) (r .progress)) ⌝ }
+    ensures { λ r. ⌜ (r .progress .finished ≡ true
+        → r .ones ≡ onesUndone (updatesIn number (logFrom sizes (onlyLog disk tip) disk (now (logs .entry)) (now (work .entry)) (notes .from)))) ⌝ }
 {
     let undone = undo_all(sizes, tip, disk, number, notes, pages, logs, work, budget);
-    if !undone.finished {
+    if !undone.progress.finished {
         return undone;
     }
-    let reached = undone.tip;
-    log_close(sizes, reached, disk, number, logs, work, budget)
+    let reached = undone.progress.tip;
+    let progress = log_close(sizes, reached, disk, number, logs, work, budget);
+    Undone {
+        progress,
+        ones: undone.ones,
+    }
 }
 
 // The place is free; `fill` words are buffered on its disk, and `sum` words stay reserved.
@@ -148,10 +156,10 @@ pub fn abort(
         &mut work[HEAD_WORDS..],
         budget,
     );
-    if !done.finished {
+    if !done.progress.finished {
         return cut(saturating_sub(before, *budget));
     }
-    let reached = done.tip;
+    let reached = done.progress.tip;
     let disk = scope.disk as usize;
     close_place(
         work,
@@ -161,5 +169,5 @@ pub fn abort(
         entry.sum - entry.reserved,
     );
     carried.tails[disk] = reached.tail;
-    finished(carried, saturating_sub(before, *budget), 0)
+    finished(carried, saturating_sub(before, *budget), done.ones)
 }

@@ -1,4 +1,5 @@
 // The updates of a transaction taken back, newest first.
+use crate::difference::Difference;
 use crate::difference::Site;
 use crate::difference::difference_at;
 use crate::difference::site_at;
@@ -12,15 +13,21 @@ use log::updates::Group;
 use model::Sizes;
 use words::xor_in;
 ghost use mathlib.Core.Path.{_≡_};
-ghost use mathlib.Core.List.{List};
+ghost use mathlib.Core.List.{List, [], _∷_};
 ghost use Prim.Native.Nat.{ℕ, _+_, _≤_, min};
 ghost use lib.ListN.{take};
 ghost use Rattle.model.specs.Scan.{scan, updatesIn};
 ghost use Rattle.model.specs.World.{worldOf};
 ghost use Rattle.model.specs.State.{endOf};
 ghost use Rattle.model.specs.Abort.{compensate, undoAll};
-ghost use Rattle.abort.specs.Undo.{onlyLog, Did, reader, logFrom, updateAt, updateRead, Compensable, Undoable};
+ghost use Rattle.abort.specs.Undo.{onlyLog, Did, Counts, reader, logFrom, updateAt, updateRead, Compensable, Undoable};
 ghost use Rattle.abort.specs.Groups.{Noted, lastFirst, Takeable};
+
+// How far the taking back came, and how many bits are 1 over the differences of what was taken back.
+pub struct Undone {
+    pub progress: Progress,
+    pub ones: u64,
+}
 
 // Takes back the update at a site: its compensation is appended, and the slot changed back.
 fn undo_one(
@@ -33,17 +40,26 @@ fn undo_one(
     logs: &mut [u64],
     work: &mut [u64],
     budget: &mut u64,
-) -> Progress
+) -> Undone
     requires { ⌜ Compensable sizes (onlyLog disk tip) disk site (now pages) (now logs) (now work) ⌝ }
     ensures { λ r. ⌜ ((anchor backups : List ℕ) → Did disk (now (budget .entry)) (now (budget .exit))
         (compensate sizes (onlyLog disk tip) (worldOf anchor (now (pages .entry)) backups (now (logs .entry)) (now (work .entry))) number disk
         (updateAt sizes (onlyLog disk tip) disk (now (logs .entry)) (now (work .entry)) site))
         (worldOf anchor (now (pages .entry)) backups (now (logs .entry)) (now (work .entry)))
-        (worldOf anchor (now (pages .exit)) backups (now (logs .exit)) (now (work .exit))) r) ⌝ }
+        (worldOf anchor (now (pages .exit)) backups (now (logs .exit)) (now (work .exit))) (r .progress)) ⌝ }
+    ensures { λ r. ⌜ Counts (updateAt sizes (onlyLog disk tip) disk (now (logs .entry)) (now (work .entry)) site ∷ []) 2048 r ⌝ }
 {
-    let words = difference_at(sizes, tip, disk, site.position, site.width, logs, work);
+    let Difference { words, ones } = difference_at(
+        sizes,
+        tip,
+        disk,
+        site.position,
+        site.width,
+        logs,
+        work,
+    );
     let n = site.width as usize;
-    let one = log_compensation(
+    let progress = log_compensation(
         sizes,
         tip,
         disk,
@@ -55,12 +71,13 @@ fn undo_one(
         work,
         budget,
     );
-    if !one.finished {
-        return one;
+    let done = Undone { progress, ones };
+    if !done.progress.finished {
+        return done;
     }
     let at = slot_base(sizes, site.page, site.slot) as usize;
     xor_in(pages, at, &words, 0, n);
-    one
+    done
 }
 
 // Takes back the updates of a group, the last first, as far as the budget goes.
@@ -74,30 +91,34 @@ fn undo_group(
     logs: &mut [u64],
     work: &mut [u64],
     budget: &mut u64,
-) -> Progress
+) -> Undone
     requires { ⌜ (group .count ≤ 128) × Takeable sizes (onlyLog disk tip) disk (take (group .count) (group .at)) (now pages) (now logs) (now work) ⌝ }
     ensures { λ r. ⌜ ((anchor backups : List ℕ) → Did disk (now (budget .entry)) (now (budget .exit))
         (undoAll sizes (onlyLog disk tip) (worldOf anchor (now (pages .entry)) backups (now (logs .entry)) (now (work .entry))) number disk
         (lastFirst (updateRead (reader sizes (onlyLog disk tip) disk (now (logs .entry)) (now (work .entry)))) (take (group .count) (group .at))))
         (worldOf anchor (now (pages .entry)) backups (now (logs .entry)) (now (work .entry)))
-        (worldOf anchor (now (pages .exit)) backups (now (logs .exit)) (now (work .exit))) r) ⌝ }
+        (worldOf anchor (now (pages .exit)) backups (now (logs .exit)) (now (work .exit))) (r .progress)) ⌝ }
+    ensures { λ r. ⌜ Counts (lastFirst (updateRead (reader sizes (onlyLog disk tip) disk (now (logs .entry)) (now (work .entry)))) (take (group .count) (group .at))) 262144 r ⌝ }
 {
     let at = group.at;
     let mut after = tip;
+    let mut ones = 0;
     let mut n = group.count;
     while 0 < n {
         n -= 1;
         let site = site_at(sizes, after, disk, at[n as usize], logs, work);
         let one = undo_one(sizes, after, disk, number, site, pages, logs, work, budget);
-        if !one.finished {
+        if !one.progress.finished {
             return one;
         }
-        after = one.tip;
+        after = one.progress.tip;
+        ones += one.ones;
     }
-    Progress {
+    let progress = Progress {
         finished: true,
         tip: after,
-    }
+    };
+    Undone { progress, ones }
 }
 
 // The smaller of two numbers.
@@ -122,17 +143,19 @@ pub fn undo_all(
     logs: &mut [u64],
     work: &mut [u64],
     budget: &mut u64,
-) -> Progress
+) -> Undone
     requires { ⌜ Undoable sizes (onlyLog disk tip) disk number (notes .from) (now pages) (now logs) (now work) ⌝ }
     requires { ⌜ Noted number (scan sizes (reader sizes (onlyLog disk tip) disk (now logs) (now work)) (endOf (onlyLog disk tip) disk)) (notes .from) notes ⌝ }
     ensures { λ r. ⌜ ((anchor backups : List ℕ) → Did disk (now (budget .entry)) (now (budget .exit))
         (undoAll sizes (onlyLog disk tip) (worldOf anchor (now (pages .entry)) backups (now (logs .entry)) (now (work .entry))) number disk
         (updatesIn number (logFrom sizes (onlyLog disk tip) disk (now (logs .entry)) (now (work .entry)) (notes .from))))
         (worldOf anchor (now (pages .entry)) backups (now (logs .entry)) (now (work .entry)))
-        (worldOf anchor (now (pages .exit)) backups (now (logs .exit)) (now (work .exit))) r) ⌝ }
+        (worldOf anchor (now (pages .exit)) backups (now (logs .exit)) (now (work .exit))) (r .progress)) ⌝ }
+    ensures { λ r. ⌜ Counts (updatesIn number (logFrom sizes (onlyLog disk tip) disk (now (logs .entry)) (now (work .entry)) (notes .from))) 33554432 r ⌝ }
 {
     let end = tip.tail + tip.fill;
     let mut after = tip;
+    let mut ones = 0;
     let mut k = (notes.count + 127) / 128;
     while 0 < k {
         k -= 1;
@@ -140,13 +163,15 @@ pub fn undo_all(
         let p = notes.at[k as usize];
         let group = group_from(sizes, after, disk, number, p, end, n, logs, work);
         let part = undo_group(sizes, after, disk, number, group, pages, logs, work, budget);
-        if !part.finished {
+        if !part.progress.finished {
             return part;
         }
-        after = part.tip;
+        after = part.progress.tip;
+        ones += part.ones;
     }
-    Progress {
+    let progress = Progress {
         finished: true,
         tip: after,
-    }
+    };
+    Undone { progress, ones }
 }

@@ -103,7 +103,7 @@ returns-4 c =
     let fault = fault-here (x .t1) w (x .number) s ∙ sym (rw (lent-behind (x .work .now)) at (c .before .before .before .before .before .before .before .before .before .before .before .before .before .before .before .before .before .before .examine .ensures .fault)) in
     let none = fault ∙ c .before .before .before .before .before .before .before .before .before .before .before .before .before .before .before .before .enum-told .given .1 in
     let noted = c .before .before .before .before .before .before .before .before .before .before .before .before .before .before .before .before .before .before .examine .ensures .noted (c .before .before .before .before .before .before .before .before .before .before .before .before .before .before .before .before .enum-told .given .1) in
-    abort-cut (x .t1) w (x .number) (x .budget .now) s (starts (c .before .before .before .before .before .before .before .before .before .before .before .before .before .before .before .before .before .before .before .before .before .before .before .before .before .before .before .before .before .before .before .before .before .before .before .before)) (tails (c .before .before .before .before .before .before .before .before .before .before .before .before .before .before .before .before .before .before .before .before .before .before .before .before .before .before .before .before .before .before .before .before .before .before .before .before)) none (lent-behind (x .work .now)) (noted .starts) (c .before .before .before .before .before .before .before .before .before .before .roll-back .ensures)
+    abort-cut (x .t1) w (x .number) (x .budget .now) s (starts (c .before .before .before .before .before .before .before .before .before .before .before .before .before .before .before .before .before .before .before .before .before .before .before .before .before .before .before .before .before .before .before .before .before .before .before .before)) (tails (c .before .before .before .before .before .before .before .before .before .before .before .before .before .before .before .before .before .before .before .before .before .before .before .before .before .before .before .before .before .before .before .before .before .before .before .before)) none (lent-behind (x .work .now)) (noted .starts) (c .before .before .before .before .before .before .before .before .before .before .roll-back .ensures .0) (c .before .before .before .before .before .before .before .before .before .before .roll-back .ensures .1)
     (not-true _ (c .before .before .if3 .taken)) (behind-back (x .work .now) _) (rw (← c .before .saturating-sub .ensures) (c .cut .ensures))
 
 sub-close-place : tie.Need-sub-close-place
@@ -142,7 +142,7 @@ returns-5 c =
     let fault = fault-here (x .t1) w (x .number) s ∙ sym (rw (lent-behind (x .work .now)) at (c .before .before .before .before .before .before .before .before .before .before .before .before .before .before .before .before .before .before .before .before .before .before .before .before .examine .ensures .fault)) in
     let none = fault ∙ c .before .before .before .before .before .before .before .before .before .before .before .before .before .before .before .before .before .before .before .before .before .before .enum-told .given .1 in
     let noted = c .before .before .before .before .before .before .before .before .before .before .before .before .before .before .before .before .before .before .before .before .before .before .before .before .examine .ensures .noted (c .before .before .before .before .before .before .before .before .before .before .before .before .before .before .before .before .before .before .before .before .before .before .enum-told .given .1) in
-    abort-whole (x .t1) w (x .number) (x .budget .now) s (starts (c .before .before .before .before .before .before .before .before .before .before .before .before .before .before .before .before .before .before .before .before .before .before .before .before .before .before .before .before .before .before .before .before .before .before .before .before .before .before .before .before .before .before)) (tails (c .before .before .before .before .before .before .before .before .before .before .before .before .before .before .before .before .before .before .before .before .before .before .before .before .before .before .before .before .before .before .before .before .before .before .before .before .before .before .before .before .before .before)) none (lent-behind (x .work .now)) (noted .starts) (c .before .before .before .before .before .before .before .before .before .before .before .before .before .before .before .before .roll-back .ensures)
+    abort-whole (x .t1) w (x .number) (x .budget .now) s (starts (c .before .before .before .before .before .before .before .before .before .before .before .before .before .before .before .before .before .before .before .before .before .before .before .before .before .before .before .before .before .before .before .before .before .before .before .before .before .before .before .before .before .before)) (tails (c .before .before .before .before .before .before .before .before .before .before .before .before .before .before .before .before .before .before .before .before .before .before .before .before .before .before .before .before .before .before .before .before .before .before .before .before .before .before .before .before .before .before)) none (lent-behind (x .work .now)) (noted .starts) (c .before .before .before .before .before .before .before .before .before .before .before .before .before .before .before .before .roll-back .ensures .0) (c .before .before .before .before .before .before .before .before .before .before .before .before .before .before .before .before .roll-back .ensures .1)
     (not-false _ (c .before .before .before .before .before .before .before .before .if3 .left)) (behind-back (x .work .now) _) (c .before .before .before .before .close-place .ensures) (rw (← c .before .saturating-sub2 .ensures) (c .finished .ensures))
 
 pub abort-spec : {M : Type 1} → statement M

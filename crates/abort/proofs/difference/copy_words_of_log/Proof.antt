@@ -1,29 +1,32 @@
--- `abort::difference::copy_words_of_log` meets its contract: after i turns the first i words are copied. Assumes nothing.
+-- `abort::difference::copy_words_of_log` meets its contract: after i turns the first i words are copied and their bits counted. Assumes nothing.
 use mathlib.Core.Path.{_≡_, refl, _∙_}
-use Prim.Native.Nat.{ℕ, _-_, _≤_}
+use Prim.Native.Nat.{ℕ, _-_, _*_, _≤_}
 use native.Mathlib.Omega.{arith}
+use lib.Count.{ones-le}
 use lib.ListN.{length, length-set}
 use lib.Seq.{sets}
 use Rattle.model.specs.declared.Sizes.{Sizes}
+use Rattle.model.specs.Word.{onesOver}
 use Rattle.model.specs.Decode.{readLog, span}
 use Rattle.log.specs.Reading.{LiesAt}
-use Rattle.abort.proofs.Spans.{set-span}
+use Rattle.abort.proofs.Spans.{set-span, ones-span}
 use borrow.Author.Needs.{needs}
 use Rattle.abort.proofs.difference.copy_words_of_log.Statement.{statement}
 use Rattle.abort.proofs.difference.copy_words_of_log.Tie as tie
 
 abbrev Inv-loop : tie.InvT-loop
-Inv-loop out₀ logs buffer position n place ring tail i₀ out i =
+Inv-loop out₀ logs buffer position n place ring tail ones₀ i₀ out ones i =
     (i ≤ n) × (length out ≡ length out₀)
     × ((s : Sizes) (disk : ℕ) → LiesAt s disk place ring
-    → out ≡ sets out₀ 0 (span (readLog s logs disk tail buffer) position i))
+    → (out ≡ sets out₀ 0 (span (readLog s logs disk tail buffer) position i)) × (ones ≡ onesOver (span (readLog s logs disk tail buffer) position i)))
+    × (ones ≤ 64 * i)
 
 abbrev μ-loop : tie.MeasureT-loop
-μ-loop out₀ logs buffer position n place ring tail i₀ out i = n - i
+μ-loop out₀ logs buffer position n place ring tail ones₀ i₀ out ones i = n - i
 
 loop-holds : tie.Need-loop-holds Inv-loop μ-loop
-unfolding span
-loop-holds c = (omega arith, refl, λ s disk lies. refl)
+unfolding span onesOver
+loop-holds c = (omega arith, refl, λ s disk lies. (refl, refl), omega arith)
 
 add-read-word : tie.Need-add-read-word Inv-loop μ-loop
 add-read-word c = omega arith
@@ -33,6 +36,12 @@ mul-out c = omega arith
 
 slice-write-out : tie.Need-slice-write-out Inv-loop μ-loop
 slice-write-out c = omega (arith, c .before .before .loop .inv .1)
+
+cast-ones : tie.Need-cast-ones Inv-loop μ-loop
+cast-ones c = omega (arith, ones-le 64 (c .read-word .result) (search needs))
+
+add-ones : tie.Need-add-ones Inv-loop μ-loop
+add-ones c = omega (arith, ones-le 64 (c .read-word .result) (search needs), c .before .before .loop .inv .3)
 
 add-i : tie.Need-add-i Inv-loop μ-loop
 add-i c = omega arith
@@ -48,7 +57,12 @@ loop-again c =
       length-set (l .out) (l .i) _ ∙ l .inv .1,
       λ s disk lies.
           let read : ℕ → ℕ = readLog s (a .logs .now) disk (a .extent .tail) (a .buffer .now) in
-          rw (l .inv .2 s disk lies, c .read-word .ensures s disk lies) (set-span (a .out .now) read (a .position) (l .i)),
+          let done = l .inv .2 s disk lies in
+          let word = c .read-word .ensures s disk lies in (
+            rw (done .0, word) (set-span (a .out .now) read (a .position) (l .i)),
+            rw (done .1, word) (ones-span read (a .position) (l .i)),
+          ),
+      omega (arith, ones-le 64 (c .read-word .result) (search needs), l .inv .3),
     )
 
 same-length : tie.Need-same-length Inv-loop μ-loop
@@ -58,7 +72,7 @@ returns : tie.Need-returns Inv-loop μ-loop
 returns c =
     let args = c .before .before .before .before .before .args in
     let e : c .before .loop .i ≡ args .n = omega arith in
-    λ s disk lies. rw (← e) (c .before .loop .inv .2 s disk lies)
+    (λ s disk lies. rw (← e) (c .before .loop .inv .2 s disk lies), rw (← e) (c .before .loop .inv .3))
 
 pub copy-words-of-log-spec : {M : Type 1} → statement M
 copy-words-of-log-spec =
@@ -71,6 +85,8 @@ copy-words-of-log-spec =
     (λ c κs. search needs)
     mul-out
     slice-write-out
+    cast-ones
+    add-ones
     add-i
     loop-less
     loop-again

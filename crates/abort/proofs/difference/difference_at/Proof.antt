@@ -1,4 +1,4 @@
--- `abort::difference::difference_at` meets its contract: the words that are copied out of the log. Assumes nothing.
+-- `abort::difference::difference_at` meets its contract: the words that are copied out of the log, and their bits. Assumes nothing.
 use lib.ListN.{replicate}
 use native.Mathlib.Omega.{arith}
 use Rattle.abort.proofs.Disks.{asked, extended, lies, lent-end, lent-lies, lent-to, lent-reader, lent-readable}
@@ -35,14 +35,19 @@ copy-words-of-log-requires c κs =
     let pre = c .before .before .before .before .before .before .pre in
     let e = c .before .before .before .window-of .ensures in
     let x = c .before .before .extent-of .ensures in
-    (lent-readable (pre .0) e _ x (omega arith), (rw (lent-to (pre .0) e _ x, lent-end (pre .0) e) (pre .1 .0), pre .1 .1))
+    (lent-readable (pre .0) e _ x (omega arith), (rw (lent-to (pre .0) e _ x, lent-end (pre .0) e) (pre .1 .0), pre .1 .1, pre .1 .1))
 
 returns : tie.Need-returns
 returns c =
     let pre = c .before .before .before .before .before .before .before .before .pre in
     let e = c .before .before .before .before .before .window-of .ensures in
     let x = c .before .before .before .before .extent-of .ensures in
-    rw (c .before .copy-words-of-log .ensures _ _ (lent-lies (pre .0) e _ x), lent-reader (pre .0) e _ x) (take-span (replicate 32 0) _ _ _ (omega (arith, pre .1 .1)))
+    let copied = c .before .copy-words-of-log .ensures in
+    let words = copied .0 _ _ (lent-lies (pre .0) e _ x) in (
+      rw (words .0, lent-reader (pre .0) e _ x) (take-span (replicate 32 0) _ _ _ (omega (arith, pre .1 .1))),
+      rw (words .1, lent-reader (pre .0) e _ x),
+      omega (arith, copied .1, pre .1 .1),
+    )
 
 pub difference-at-spec : {M : Type 1} → statement M
 difference-at-spec =

@@ -1,34 +1,38 @@
--- `abort::undo::undo_all` meets its contract. The loop's invariant: what takes back the first 128 * k updates takes back all. Assumes
--- nothing.
+-- `abort::undo::undo_all` meets its contract. The loop's invariant: what takes back the first 128 * k updates takes back all, and
+-- their bits with those counted are the bits of all. Assumes nothing.
 use mathlib.Core.Path.{_≡_, sym, _∙_}
 use mathlib.Core.List.{[]}
-use Prim.Native.Nat.{_*_, _≤_}
+use Prim.Native.Nat.{_+_, _*_, _≤_}
 use native.Mathlib.Omega.{arith}
 use lib.ListN.{take}
 use lib.Seq.{take-all}
 use borrow.Author.Tests.{not-true, not-false}
 use Rattle.model.specs.Scan.{scan}
 use Rattle.model.specs.State.{endOf}
+use Rattle.model.proofs.Booleans.{true-false}
 use Rattle.log.specs.Reading.{positionsIn}
 use Rattle.abort.specs.Undo.{onlyLog, reader}
 use Rattle.abort.proofs.Tips.{tip-sized, tip-end}
 use Rattle.abort.proofs.Disks.{small}
 use Rattle.abort.proofs.Undone.{did-lengths}
-use Rattle.abort.proofs.Pending.{Pending, pending-start, pending-last}
-use Rattle.abort.proofs.Noting.{all-updates, all-takeable, all-few, all-held, here-many, group-takeable, group-cut, group-step}
+use Rattle.abort.proofs.Pending.{Pending, Counted, pending-start, pending-last, all-counted}
+use Rattle.abort.proofs.Noting.{all-updates, all-takeable, all-few, all-held, here-many, group-takeable, group-counted, group-cut, group-step}
 use borrow.Author.Needs.{needs}
 use Rattle.abort.proofs.undo.undo_all.Statement.{statement}
 use Rattle.abort.proofs.undo.undo_all.Tie as tie
 
 abbrev Inv-loop : tie.InvT-loop
-Inv-loop sizes disk number pages₀ logs₀ work₀ budget₀ notes end after₀ k₀ pages logs work budget after k =
+Inv-loop sizes disk number pages₀ logs₀ work₀ budget₀ notes end after₀ ones₀ k₀ pages logs work budget after ones k =
     (k ≤ k₀)
     × Pending sizes disk number (onlyLog disk after₀) pages₀ logs₀ work₀ budget₀
     (positionsIn number (scan sizes (reader sizes (onlyLog disk after₀) disk logs₀ work₀) (endOf (onlyLog disk after₀) disk) (notes .from))) (onlyLog disk after) pages logs work budget
     (take (128 * k) (positionsIn number (scan sizes (reader sizes (onlyLog disk after₀) disk logs₀ work₀) (endOf (onlyLog disk after₀) disk) (notes .from))))
+    × Counted (reader sizes (onlyLog disk after₀) disk logs₀ work₀) (positionsIn number (scan sizes (reader sizes (onlyLog disk after₀) disk logs₀ work₀) (endOf (onlyLog disk after₀) disk) (notes .from))) ones
+    (take (128 * k) (positionsIn number (scan sizes (reader sizes (onlyLog disk after₀) disk logs₀ work₀) (endOf (onlyLog disk after₀) disk) (notes .from))))
+    × (ones + 262144 * k ≤ 33554432)
 
 abbrev μ-loop : tie.MeasureT-loop
-μ-loop sizes disk number pages₀ logs₀ work₀ budget₀ notes end after₀ k₀ pages logs work budget after k = k
+μ-loop sizes disk number pages₀ logs₀ work₀ budget₀ notes end after₀ ones₀ k₀ pages logs work budget after ones k = k
 
 add-end : tie.Need-add-end Inv-loop μ-loop
 add-end c =
@@ -44,6 +48,8 @@ loop-holds c =
       omega arith,
       rw (take-all _ _ (all-held _ _ _ _ _ _ _ _ (pre .0) (pre .1)))
           (pending-start _ _ _ _ _ _ _ _ _ (all-takeable _ _ _ _ _ _ _ _ (pre .0)) (tip-sized _ _)),
+      rw (take-all _ _ (all-held _ _ _ _ _ _ _ _ (pre .0) (pre .1))) (omega arith),
+      omega (arith, pre .1 .all, all-few _ _ _ _ _ _ _ _ (pre .0)),
     )
 
 mul-smaller : tie.Need-mul-smaller Inv-loop μ-loop
@@ -113,15 +119,15 @@ undo-group-requires c κs =
 
 same-length : tie.Need-same-length Inv-loop μ-loop
 same-length c =
-    did-lengths (c .before .before .before .before .before .before .before .before .undo-group .ensures [] []) .pages ∙ c .before .before .before .before .before .before .before .before .before .before .before .before .before .before .before .before .before .before .before .loop .inv .1 .page-words ∙ sym (c .before .before .before .before .before .before .before .before .before .before .before .before .before .before .before .before .before .before .before .before .before .before .before .before .pre .0 .page-words)
+    did-lengths (c .before .before .before .before .before .before .before .before .undo-group .ensures .0 [] []) .pages ∙ c .before .before .before .before .before .before .before .before .before .before .before .before .before .before .before .before .before .before .before .loop .inv .1 .page-words ∙ sym (c .before .before .before .before .before .before .before .before .before .before .before .before .before .before .before .before .before .before .before .before .before .before .before .before .pre .0 .page-words)
 
 same-length-2 : tie.Need-same-length-2 Inv-loop μ-loop
 same-length-2 c =
-    did-lengths (c .before .before .before .before .before .before .before .before .undo-group .ensures [] []) .logs ∙ c .before .before .before .before .before .before .before .before .before .before .before .before .before .before .before .before .before .before .before .loop .inv .1 .serving .log-words ∙ sym (c .before .before .before .before .before .before .before .before .before .before .before .before .before .before .before .before .before .before .before .before .before .before .before .before .pre .0 .serving .log-words)
+    did-lengths (c .before .before .before .before .before .before .before .before .undo-group .ensures .0 [] []) .logs ∙ c .before .before .before .before .before .before .before .before .before .before .before .before .before .before .before .before .before .before .before .loop .inv .1 .serving .log-words ∙ sym (c .before .before .before .before .before .before .before .before .before .before .before .before .before .before .before .before .before .before .before .before .before .before .before .before .pre .0 .serving .log-words)
 
 same-length-3 : tie.Need-same-length-3 Inv-loop μ-loop
 same-length-3 c =
-    did-lengths (c .before .before .before .before .before .before .before .before .undo-group .ensures [] []) .work ∙ c .before .before .before .before .before .before .before .before .before .before .before .before .before .before .before .before .before .before .before .loop .inv .1 .serving .work-words ∙ sym (c .before .before .before .before .before .before .before .before .before .before .before .before .before .before .before .before .before .before .before .before .before .before .before .before .pre .0 .serving .work-words)
+    did-lengths (c .before .before .before .before .before .before .before .before .undo-group .ensures .0 [] []) .work ∙ c .before .before .before .before .before .before .before .before .before .before .before .before .before .before .before .before .before .before .before .loop .inv .1 .serving .work-words ∙ sym (c .before .before .before .before .before .before .before .before .before .before .before .before .before .before .before .before .before .before .before .before .before .before .before .before .pre .0 .serving .work-words)
 
 returns : tie.Need-returns Inv-loop μ-loop
 returns c =
@@ -133,25 +139,35 @@ returns c =
     let ends = tip-end _ (start .args .tip) (small (ok .serving) .below) in
     let got = rw (← ends) at (c .before .before .before .before .before .before .before .before .before .before .before .before .before .group-from .ensures) in
     let size = c .before .before .before .before .before .before .before .before .before .before .before .before .before .before .before .before .before .smaller .ensures in
-    λ anchor backups.
-    group-cut _ _ _ _ _ _ _ _ ok (turn .k) (omega (arith, some)) (turn .inv .1) noted (turn .inv .0) size got anchor backups
-    (c .before .before .before .before .before .before .before .before .undo-group .ensures anchor backups) (not-true _ (c .if1 .taken))
+    let part = c .before .before .before .before .before .before .before .before .undo-group .ensures in
+    let cut = not-true _ (c .if1 .taken) in (
+      λ anchor backups.
+          group-cut _ _ _ _ _ _ _ _ ok (turn .k) (omega (arith, some)) (turn .inv .1) noted (turn .inv .0) size got anchor backups (part .0 anchor backups) cut,
+      record { all = λ f. true-false f cut; few = omega (arith, part .1 .few) },
+    )
+
+add-ones : tie.Need-add-ones Inv-loop μ-loop
+add-ones c = omega (arith, c .before .before .before .before .before .before .before .before .before .before .before .before .before .before .before .before .before .before .before .before .before .loop .inv .3, c .before .before .before .before .before .before .before .before .before .before .before .before .before .before .before .before .before .before .before .before .loop-test .taken, c .before .before .before .before .before .before .before .before .before .before .undo-group .ensures .1 .few)
 
 loop-less : tie.Need-loop-less Inv-loop μ-loop
-loop-less c = let some = c .before .before .before .before .before .before .before .before .before .before .before .before .before .before .before .before .before .before .before .loop-test .taken in omega arith
+loop-less c = let some = c .before .before .before .before .before .before .before .before .before .before .before .before .before .before .before .before .before .before .before .before .loop-test .taken in omega arith
 
 loop-again : tie.Need-loop-again Inv-loop μ-loop
 loop-again c =
-    let start = c .before .before .before .before .before .before .before .before .before .before .before .before .before .before .before .before .before .before .before .before .before .before .before .before .before in
+    let start = c .before .before .before .before .before .before .before .before .before .before .before .before .before .before .before .before .before .before .before .before .before .before .before .before .before .before in
     let ok = start .pre .0 in
     let noted = start .pre .1 in
-    let turn = c .before .before .before .before .before .before .before .before .before .before .before .before .before .before .before .before .before .before .before .before .loop in
-    let some = c .before .before .before .before .before .before .before .before .before .before .before .before .before .before .before .before .before .before .before .loop-test .taken in
+    let turn = c .before .before .before .before .before .before .before .before .before .before .before .before .before .before .before .before .before .before .before .before .before .loop in
+    let some = c .before .before .before .before .before .before .before .before .before .before .before .before .before .before .before .before .before .before .before .before .loop-test .taken in
     let ends = tip-end _ (start .args .tip) (small (ok .serving) .below) in
-    let got = rw (← ends) at (c .before .before .before .before .before .before .before .before .before .before .before .before .before .before .group-from .ensures) in
-    let size = c .before .before .before .before .before .before .before .before .before .before .before .before .before .before .before .before .before .before .smaller .ensures in (
+    let got = rw (← ends) at (c .before .before .before .before .before .before .before .before .before .before .before .before .before .before .before .group-from .ensures) in
+    let size = c .before .before .before .before .before .before .before .before .before .before .before .before .before .before .before .before .before .before .before .smaller .ensures in
+    let part = c .before .before .before .before .before .before .before .before .before .before .undo-group .ensures in
+    let whole = not-false _ (c .before .before .if1 .left) in (
       omega (arith, turn .inv .0),
-      group-step _ _ _ _ _ _ _ _ ok (turn .k) (omega (arith, some)) (turn .inv .1) noted (turn .inv .0) size got (not-false _ (c .before .if1 .left)) (c .before .before .before .before .before .before .before .before .before .undo-group .ensures),
+      group-step _ _ _ _ _ _ _ _ ok (turn .k) (omega (arith, some)) (turn .inv .1) noted (turn .inv .0) size got whole (part .0),
+      group-counted _ _ _ _ _ _ _ _ ok (turn .k) (omega (arith, some)) (turn .inv .1) noted (turn .inv .0) size got (turn .ones) (turn .inv .2) (part .1 .all whole),
+      omega (arith, turn .inv .3, some, part .1 .few),
     )
 
 same-length-4 : tie.Need-same-length-4 Inv-loop μ-loop
@@ -168,9 +184,10 @@ returns-2 c =
     let ok = c .before .before .before .before .before .before .pre .0 in
     let turn = c .before .loop in
     let none : turn .k ≡ 0 = omega arith in
-    λ anchor backups.
-    rw (all-updates _ _ _ _ _ _ _ _ ok)
-    (pending-last _ _ _ _ _ _ _ _ _ (all-takeable _ _ _ _ _ _ _ _ ok) (rw none at (turn .inv .1)) anchor backups)
+    let all = all-updates _ _ _ _ _ _ _ _ ok in (
+      λ anchor backups. rw all (pending-last _ _ _ _ _ _ _ _ _ (all-takeable _ _ _ _ _ _ _ _ ok) (rw none at (turn .inv .1)) anchor backups),
+      record { all = λ f. rw all (all-counted _ _ (turn .ones) (rw none at (turn .inv .2))); few = omega (arith, turn .inv .3) },
+    )
 
 pub undo-all-spec : {M : Type 1} → statement M
 undo-all-spec =
@@ -193,6 +210,7 @@ undo-all-spec =
     same-length-2
     same-length-3
     returns
+    add-ones
     loop-less
     loop-again
     same-length-4

@@ -29,8 +29,7 @@ returns-2 c =
     let start = c .before .before .before .before .before .before .before .before .before .before .before .before in
     let x = start .args in
     let words = encode (changeOf (x .head) (xors (part (x .at) (length (x .value .now)) (x .pages .now)) (x .value .now))) in
-    let long = record-length (x .at) (x .value .now) (x .pages .now) (start .pre .2) (x .head) in
-    (
+    let long = record-length (x .at) (x .value .now) (x .pages .now) (start .pre .2) (x .head) in (
       λ s l w lent. put-cut lent words (omega (arith, long, c .before .before .before .before .before .before .before .if1 .left)) (c .before .before .before .flush-disk .ensures s l w lent) (not-true _ (c .if2 .taken)),
       λ finished. true-false finished refl,
     )
