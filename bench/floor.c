@@ -13,7 +13,7 @@ static uint64_t anchor[148], backups[2 * WORDS], logs[DISKS * (RING + 1)];
 static uint64_t memory[WORDS], owners[WORDS], buffers[DISKS][BUFFER], copies[PAGES];
 static uint64_t heads[DISKS];  // the tails, as indices of the rings
 static uint64_t starts[DISKS], tails[DISKS], fills[DISKS], ends[DISKS], reserved[DISKS];
-static uint64_t epoch, next_number, stores;
+static uint64_t epoch, next_number, stores, ones;
 
 // An open transaction; one without an update has no first record.
 typedef struct {
@@ -72,6 +72,14 @@ static inline transaction *place_of(uint64_t number) {
     return t;
 }
 
+// The bits of a word that are 1. (gcc's own count is a call of a function here.)
+static inline uint64_t bits(uint64_t x) {
+    x -= x >> 1 & 0x5555555555555555;
+    x = (x & 0x3333333333333333) + (x >> 2 & 0x3333333333333333);
+    x = (x + (x >> 4)) & 0x0f0f0f0f0f0f0f0f;
+    return x * 0x0101010101010101 >> 56;
+}
+
 static void format(void) {
     memset(anchor, 0, sizeof anchor);
     anchor[0] = pages, anchor[1] = disks, anchor[2] = ring;
@@ -111,10 +119,14 @@ static bool update(uint64_t number, uint64_t page, uint64_t slot, const uint64_t
     record[0] = head(UPDATE, page, slot);
     record[1] = number;
     record[2] = copies[page];
+    uint64_t count = 0;
     for (uint64_t k = 0; k < width; k++) {
-        record[3 + k] = target[k] ^ value[k];
+        uint64_t word = target[k] ^ value[k];
+        record[3 + k] = word;
         target[k] = value[k];
+        count += bits(word);
     }
+    ones += count;
     owners[at] = number;
     return true;
 }
@@ -141,8 +153,9 @@ static inline uint64_t word_at(uint64_t disk, uint64_t p) {
 
 // The compensation of the update at a position.
 static void undo(uint64_t disk, uint64_t number, uint64_t p) {
-    uint64_t w = word_at(disk, p), page = w / 8 % 64, slot = w / 512 % 128, difference[32];
-    for (uint64_t k = 0; k < width; k++) difference[k] = word_at(disk, p + 3 + k);
+    uint64_t w = word_at(disk, p), page = w / 8 % 64, slot = w / 512 % 128, difference[32], count = 0;
+    for (uint64_t k = 0; k < width; k++) difference[k] = word_at(disk, p + 3 + k), count += bits(difference[k]);
+    ones += count;
     uint64_t *record = append(disk, 3 + width), *target = memory + page * page_words + slot * width;
     record[0] = head(COMPENSATION, page, slot);
     record[1] = number;
@@ -292,6 +305,7 @@ int main(void) {
     line("aborts", aborts);
     line("checkpoints", checkpoints);
     line("stores", stores);
+    line("ones", ones);
     line("words", words);
     line("before", digest(memory, all_words));
     if (p.restarts == 0) return 0;

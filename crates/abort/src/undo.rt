@@ -112,7 +112,7 @@ fn undo_group(
             return one;
         }
         after = one.progress.tip;
-        ones += one.ones;
+        ones = ones + one.ones;
     }
     let progress = Progress {
         finished: true,
@@ -167,7 +167,7 @@ pub fn undo_all(
             return part;
         }
         after = part.progress.tip;
-        ones += part.ones;
+        ones = ones + part.ones;
     }
     let progress = Progress {
         finished: true,

@@ -40,6 +40,7 @@ fn report(tally: Tally, words: u64, contents: u64) {
     line(b"aborts ", tally.aborts);
     line(b"checkpoints ", tally.checkpoints);
     line(b"stores ", tally.stores);
+    line(b"ones ", tally.ones);
     line(b"words ", words);
     line(b"before ", contents);
 }

@@ -23,6 +23,12 @@ struct Transaction {
     number: u64,
 }
 
+// The state after calls, and the bits that they answered to have changed.
+struct Changed {
+    state: State,
+    ones: u64,
+}
+
 // A begin. It is refused once at most.
 fn opened(
     count: u64,
@@ -64,13 +70,17 @@ fn closed(
     logs: &mut [u64],
     work: &mut [u64],
     budget: &mut u64,
-) -> State {
-    if aborts {
-        let undone = abort(state, number, anchor, pages, backups, logs, work, budget);
-        return undone.state;
+) -> Changed {
+    let called = if aborts {
+        abort(state, number, anchor, pages, backups, logs, work, budget)
+    } else {
+        commit(state, number, anchor, pages, backups, logs, work, budget)
+    };
+    let answer = called.answer;
+    Changed {
+        state: called.state,
+        ones: value_of(answer),
     }
-    let done = commit(state, number, anchor, pages, backups, logs, work, budget);
-    done.state
 }
 
 // The three updates, of slots and to values that the stream tells from its number `seed` on. Each is refused once at most.
@@ -86,9 +96,10 @@ fn all_updated(
     logs: &mut [u64],
     work: &mut [u64],
     budget: &mut u64,
-) -> State {
+) -> Changed {
     let mut state = from;
     let mut r = next(seed);
+    let mut ones: u64 = 0;
     let mut made: u64 = 0;
     let mut tries: u64 = 0;
     while tries < 6 && made < 3 {
@@ -124,9 +135,10 @@ fn all_updated(
         } else {
             made += 1;
             r = next(r);
+            ones = wrapping_add_u64(ones, value_of(answer));
         }
     }
-    state
+    Changed { state, ones }
 }
 
 // What the transactions come to.
@@ -135,6 +147,7 @@ pub struct Tally {
     pub aborts: u64,
     pub checkpoints: u64,
     pub stores: u64,
+    pub ones: u64,
 }
 
 fn one_if(yes: bool) -> u64 {
@@ -157,6 +170,7 @@ pub fn served(
     let mut state = begun;
     let mut r = SEED;
     let mut aborts: u64 = 0;
+    let mut ones: u64 = 0;
     let mut i: u64 = 0;
     while i < plan.transactions {
         i += 1;
@@ -173,7 +187,7 @@ pub fn served(
             &mut budget,
         );
         let number = called.number;
-        state = all_updated(
+        let updated = all_updated(
             plan,
             called.state,
             number,
@@ -187,9 +201,9 @@ pub fn served(
             &mut budget,
         );
         r = next(next(next(next(r))));
-        state = closed(
+        let ended = closed(
             aborting,
-            state,
+            updated.state,
             number,
             anchor,
             pages,
@@ -198,12 +212,15 @@ pub fn served(
             work,
             &mut budget,
         );
+        state = ended.state;
         aborts = wrapping_add_u64(aborts, one_if(aborting));
+        ones = wrapping_add_u64(ones, wrapping_add_u64(updated.ones, ended.ones));
     }
     Tally {
         taken: product(plan.transactions, 5),
         aborts,
         checkpoints: wrapping_sub_u64(get(anchor, 3), 1),
         stores: wrapping_sub_u64(18446744073709551615, budget),
+        ones,
     }
 }

@@ -4,6 +4,7 @@ use mathlib.Core.List.{List, [], _∷_}
 use lib.ListN.{getD, replicate}
 use Rattle.model.specs.declared.Sizes.{Sizes}
 use Rattle.model.specs.declared.Core.{Core}
+use Rattle.model.specs.declared.Answer.{Answer}
 use Rattle.model.specs.Sizes.{total, logWords}
 use Rattle.model.specs.World.{World}
 use Rattle.model.specs.Memory.{workWords}
@@ -28,12 +29,16 @@ play (f ∷ fs) m = let r : Result = f (m .core) (m .world) in play fs (record {
 unfoldable pub answers : List Step → Call → Machine → ℕ
 answers fs k m = let n : Machine = play fs m in numberOf (resultOf k (n .core) (n .world) .answer)
 
--- what each step of a script answers
-unfoldable pub numbers : List Step → Machine → List ℕ
-numbers [] m = []
-numbers (f ∷ fs) m =
+-- what the answer of each step of a script shows
+unfoldable pub shows : (Answer → ℕ) → List Step → Machine → List ℕ
+shows of [] m = []
+shows of (f ∷ fs) m =
     let r : Result = f (m .core) (m .world) in
-    numberOf (r .answer) ∷ numbers fs (record { core = r .core; world = r .world })
+    of (r .answer) ∷ shows of fs (record { core = r .core; world = r .world })
+
+unfoldable pub numbers : List Step → Machine → List ℕ
+unfolding shows
+numbers fs m = shows numberOf fs m
 
 -- slices of the right lengths that hold no store yet
 unfoldable pub unformatted : Sizes → Machine

@@ -16,7 +16,7 @@ use Rattle.model.specs.Scan.{Scan, end, bad, item, ringThenBuffer, Updat
 use Rattle.model.specs.World.{World}
 use Rattle.model.specs.State.{placeOf, isOpen, firstAt, hasUpdate, reservedAt}
 use Rattle.model.specs.Transaction.{diskOf}
-use Rattle.model.specs.Abort.{abortScan, updatesLeft, abortFault, onesUndone}
+use Rattle.model.specs.Abort.{abortScan, updatesLeft, abortFault}
 use Rattle.model.proofs.Members.{Every, every-nil, every-cons, every-append}
 use Rattle.model.proofs.Reading.{Item, items, Rises}
 use Rattle.model.proofs.RingThenBuffer.{parts-rise}
@@ -156,12 +156,6 @@ pub update-words-append : (us vs : List Update) → updateWords (us ++ vs) ≡ u
 unfolding updateWords
 update-words-append [] vs = sym (zero-add (updateWords vs))
 update-words-append (u ∷ us) vs = omega (arith, update-words-append us vs)
-
--- and their bits that are 1
-pub ones-undone-append : (us vs : List Update) → onesUndone (us ++ vs) ≡ onesUndone us + onesUndone vs
-unfolding onesUndone
-ones-undone-append [] vs = sym (zero-add (onesUndone vs))
-ones-undone-append (u ∷ us) vs = omega (arith, ones-undone-append us vs)
 
 -- What an abort reads is a log from its transaction's first record on, up to the tail and then on, or nothing.
 pub abort-reads : (P : Scan → Type 0) (c : Core) (w : World) (number : ℕ) → P end

@@ -9,6 +9,7 @@ use Rattle.model.specs.declared.Logs.{Logs}
 use Rattle.model.specs.declared.Core.{Core}
 use Rattle.model.specs.declared.Fault.{Fault}
 use Rattle.model.specs.declared.Fault.the-variants.{NoFault, BadRecord}
+use Rattle.model.specs.Below.{sumOver}
 use Rattle.model.specs.Word.{xored, onesOver}
 use Rattle.model.specs.Sizes.{slotBase}
 use Rattle.model.specs.Record.{change, close, encode, compensationKind, abortKind}
@@ -87,8 +88,7 @@ undoAll s l w number disk (u ∷ us) =
 
 -- "abort answers the sum over its compensations" (02, S-4), each of which has the difference of its update
 unfoldable pub onesUndone : List Update → ℕ
-onesUndone [] = 0
-onesUndone (u ∷ us) = onesOver (u .diff) + onesUndone us
+onesUndone us = sumOver (λ u. onesOver (u .diff)) us
 
 unfoldable pub abortTask : Core → World → ℕ → Task
 abortTask c w number =

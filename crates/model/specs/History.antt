@@ -8,8 +8,9 @@ use mathlib.Core.Bool.{cond}
 use lib.Dec.{eqb}
 use lib.ListN.{length, getD}
 use Rattle.model.specs.declared.Core.{Core}
+use Rattle.model.specs.Below.{sumOver}
 use Rattle.model.specs.Word.{xors, onesOver}
-use Rattle.model.specs.Record.{Record, change, close, updateKind, compensationKind, commitKind, abortKind, encodeAll}
+use Rattle.model.specs.Record.{Record, change, close, diffOf, updateKind, compensationKind, commitKind, abortKind, encodeAll}
 use Rattle.model.specs.Scan.{Update, placed, updatesIn, oldest}
 use Rattle.model.specs.World.{World}
 use Rattle.model.specs.Memory.{copyOf}
@@ -62,15 +63,9 @@ unfoldable pub compensation : Core → World → ℕ → Update → Record
 compensation c w number u =
     change compensationKind (u .page) (u .slot) number (copyOf (c .sizes) (w .work) (u .page)) (u .diff)
 
--- the difference of a record, of which a closing record has none
-abbrev pub diffOf : Record → List ℕ
-diffOf (change kind page slot number copy diff) = diff
-diffOf (close kind number) = []
-
--- the bits that are 1 over the differences of records
+-- how many bits are 1 over the differences of records
 unfoldable pub onesPut : List Put → ℕ
-onesPut [] = 0
-onesPut (p ∷ ps) = onesOver (diffOf (p .content)) + onesPut ps
+onesPut puts = sumOver (λ p. onesOver (diffOf (p .content))) puts
 
 -- a record of a transaction, on its disk
 abbrev pub putUnder : Run → ℕ → Record → Put

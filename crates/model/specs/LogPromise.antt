@@ -1,4 +1,4 @@
--- The promises on the logs, and on what the state says of them, as statements, each with its English.
+-- The promises on the logs, on what the state says of them, and on what updates and aborts answer, as statements, each with its English.
 use mathlib.Core.Path.{_≡_}
 use Prim.Native.Nat.{ℕ, _+_, _-_, _≤_, _<_}
 use mathlib.Core.List.{List, [], _∷_, _++_}
@@ -19,14 +19,14 @@ use Rattle.model.specs.Scan.{Scan, scan, placed, fateIn, updatesIn, upda
 use Rattle.model.specs.World.{World, anchor, logs}
 use Rattle.model.specs.Memory.{bufferOf, copyOf}
 use Rattle.model.specs.State.{limit, startOf, keptOf, tailOf, fillOf, endOf, isOpen, placeOf, firstAt, reservedAt, hasUpdate, withReplay}
-use Rattle.model.specs.Refusal.{numberOf, firstOf}
+use Rattle.model.specs.Refusal.{numberOf}
 use Rattle.model.specs.Causes.{whenServing, tailOn, retained}
 use Rattle.model.specs.Transaction.{diskOf}
 use Rattle.model.specs.Abort.{abortScan, updatesLeft, xorIn}
 use Rattle.model.specs.Restart.{positionOf, replays, readDisk, fateFrom, nextRecord, restartStepTask, movedTo}
 use Rattle.model.specs.Call.{Call, format, update, abort, restartBegin}
 use Rattle.model.specs.Image.{retainedWords, imageOf, logOf}
-use Rattle.model.specs.Reference.{taken, outcomeOf, slotIndex, plainTable}
+use Rattle.model.specs.Reference.{taken, outcomeOf, answered, slotIndex, plainTable}
 use Rattle.model.specs.Machine.{Machine, Event, outcome, result, Run, follow, allowedAll, formatted}
 use Rattle.model.specs.History.{Told, nothingTold, history, recordsOn, updatesPut, onesPut, putBy}
 use Rattle.model.specs.Promise.{Always}
@@ -159,16 +159,17 @@ unfoldable pub ClosingFits : Type 0
 ClosingFits = Always λ m r. whenServing (m .core .stage) ≡ true → (t : ℕ) → isOpen (m .core .table) t ≡ true → Closable (m .core) t
 
 -- 02, S-4: "how many of its bits are 1 over all its words, and update passes that number on; abort answers the sum over its
--- compensations". An update or an abort on the machine's own slices that is taken answers the bits that are 1 over the differences of
--- the records that it puts: an update its one, an abort its compensations and a closing record, which has no difference. For an update
--- that is in how many places (word, bit) the slot's value in the plain table and the new value differ, whatever number of bits a word has.
-pub record TellsOnes (x : Run) (t : Told) (k : Call) (a : Answer) : Type 0 where
-  pub updates : (number page slot : ℕ) (value : List ℕ) (budget : ℕ) → k ≡ update number page slot value budget → outcomeOf a ≡ taken
-      → firstOf a ≡ onesPut (putBy k x t)
-  pub aborts : (number budget : ℕ) → k ≡ abort number budget → outcomeOf a ≡ taken → firstOf a ≡ onesPut (putBy k x t)
-  pub places : (number page slot : ℕ) (value : List ℕ) (budget : ℕ) → k ≡ update number page slot value budget → outcomeOf a ≡ taken
+-- compensations". An update or an abort on the machine's own slices that is taken answers how many bits are 1 over the differences of the
+-- records that it puts: an update its one record, an abort its compensations and a closing record, which has no difference. For an update
+-- that is in how many places (word, bit) the slot's value in the plain table and the new value differ, for every number k of bits that
+-- all words of both keep to. `answered` is 0 where the call was refused or cut.
+pub record TellsOnes (x : Run) (t : Told) (call : Call) (a : Answer) : Type 0 where
+  pub updates : (number page slot : ℕ) (value : List ℕ) (budget : ℕ) → call ≡ update number page slot value budget → outcomeOf a ≡ taken
+      → answered a ≡ onesPut (putBy call x t)
+  pub aborts : (number budget : ℕ) → call ≡ abort number budget → outcomeOf a ≡ taken → answered a ≡ onesPut (putBy call x t)
+  pub places : (number page slot : ℕ) (value : List ℕ) (budget : ℕ) → call ≡ update number page slot value budget → outcomeOf a ≡ taken
       → let before : List ℕ = getD (plainTable (x .reference)) (slotIndex (x .reference .sizes) page slot) [] in
-      (bits : ℕ) → OfBits bits before → OfBits bits value → firstOf a ≡ placesDiffering bits before value
+      (k : ℕ) → OfBits k before → OfBits k value → answered a ≡ placesDiffering k before value
 
 unfoldable pub OnesTold : Type 0
 OnesTold =

@@ -1,4 +1,4 @@
--- The promises on the logs and on what the state says of them (specs/LogPromise.antt), and the commit point (specs/Promise.antt), for
+-- The promises on the logs, on what the state says of them and on what updates and aborts answer (specs/LogPromise.antt), and the commit point (specs/Promise.antt), for
 -- traces of the code's own calls (specs/Trace.antt).
 use mathlib.Core.Path.{_≡_}
 use Prim.Native.Nat.{ℕ, _+_, _≤_, _<_}
@@ -72,9 +72,9 @@ CommitPointsInCode =
     let tail : ℕ = tailOn (c .sizes) (o .exit) (diskOf c t) in
     (seen o ≡ taken → tail ≡ p + 2) × (seen o ≡ interrupted → tail ≤ p)
 
--- An update or an abort of the code on the slices as they were left, if it is taken, answers the bits that are 1 over the differences of
--- the records that it puts; for an update these are the places (word, bit) in which the slot's value in the plain table and the new
--- value differ.
+-- An update or an abort of the code on the slices as they were left, if it is taken, answers how many bits are 1 over the differences of
+-- the records that it puts; for an update that is in how many places (word, bit) the slot's value in the plain table and the new value
+-- differ, for every number k of bits that all words of both keep to, as the code's do to 64.
 unfoldable pub OnesToldInCode : Type 0
 OnesToldInCode =
     (o : Observed) (s : Sizes) → Formats o s

@@ -8,7 +8,7 @@ use Rattle.model.specs.declared.Table.{Table}
 use Rattle.model.specs.declared.Core.{Core}
 use Rattle.model.specs.Word.{xors, onesOver, part}
 use Rattle.model.specs.Sizes.{widthIn}
-use Rattle.model.specs.Record.{Record, change, close, encode, wordsOf, updateKind, commitKind}
+use Rattle.model.specs.Record.{Record, change, close, diffOf, encode, wordsOf, updateKind, commitKind}
 use Rattle.model.specs.World.{World, write, pages, work, each, perform}
 use Rattle.model.specs.Memory.{ownerAt, copyOf}
 use Rattle.model.specs.State.{begunWith, withLog, endOf, afterFlush, placeOf, diskAtPlace, firstAt, reservedAt, reservedOn, withPlace, withReserved, without, hasUpdate, slotPlace}
@@ -75,8 +75,8 @@ updateRows c w number page slot value =
     row 1 (stageForbids whenServing (fitsOn (updateFits number page slot c) c w) c) ∷ row 2 (anchorWrong (w .anchor)) ∷ row 5 (lengthsWrong (c .sizes) (c .bases .total) w)
     ∷ slotRows c w number page slot value
 
--- The memory changes come after the stores of a flush. The value answered is "how many" of the difference's "bits are 1 over all its
--- words" (02, S-4).
+-- The memory changes come after the stores of a flush. 02, S-4: "Whoever forms a difference now also learns how many of its bits are 1
+-- over all its words, and update passes that number on".
 unfoldable pub updateTask : Core → World → ℕ → ℕ → ℕ → List ℕ → Task
 updateTask c w number page slot value =
     record {
@@ -84,7 +84,7 @@ updateTask c w number page slot value =
           added .actions ++ each (write pages) (slotPlace c page slot) value
           ++ write work (ownerAt (c .sizes) (slotPlace c page slot)) number ∷ [];
       core = withLog c (added .logs) (updated c number (length words));
-      value = onesOver (xors (slotWords c w page slot) value);
+      value = onesOver (diffOf (updateRecord c w number page slot value));
     }
   where
     words : List ℕ

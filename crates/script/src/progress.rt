@@ -84,12 +84,7 @@ fn read_differs(progress: Progress, call: Call, book: &[u64]) -> u64 {
     let plain = progress.plain;
     let page = call.page;
     let address = address_of(shape, page, call.slot);
-    let newest = write_sets::newest(book, plain.entries, address);
-    let at = if newest > 0 {
-        write_sets::value_at(newest - 1)
-    } else {
-        write_sets::result_at(address)
-    };
+    let at = write_sets::current_at(book, plain.entries, address);
     write_sets::seen_differs(book, at, width_of(shape, page))
 }
 

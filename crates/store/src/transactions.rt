@@ -32,7 +32,7 @@ pub fn begin(
     hand_back(handed)
 }
 
-// Sets a slot, and holds it until the transaction closes.
+// Sets a slot, and holds it until the transaction closes. Answers in how many bits the old value and the new one differ.
 pub fn update(
     state: State,
     number: u64,
@@ -142,7 +142,7 @@ pub fn commit(
     hand_back(handed)
 }
 
-// Takes a transaction's updates back, newest first, and closes it.
+// Takes a transaction's updates back, newest first, and closes it. Answers in how many bits they had changed their slots, over all of them.
 pub fn abort(
     state: State,
     number: u64,

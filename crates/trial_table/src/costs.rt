@@ -5,6 +5,7 @@ use crate::budget::spend;
 use crate::calls::Call;
 use crate::calls::Kind;
 use crate::logs;
+use crate::ones;
 use crate::plain::Plain;
 use crate::refusals::refusal;
 use crate::rooms;
@@ -39,11 +40,14 @@ pub fn expected(
     charged(budget, value)
 }
 
-// A begin answers its number, a restart's run the steps that it makes, a restart's end the new c.
+// A begin answers its number, an update the bits that it changes, an abort those that it changes back, a restart's run the steps that it
+// makes, a restart's end the new c.
 fn value_of(shape: Shape, plain: Plain, call: Call, book: &[u64]) -> u64 {
     let kind = call.kind;
     match kind {
         Kind::Begin => plain.next,
+        Kind::Update => ones::update_ones(shape, plain.entries, call, book),
+        Kind::Abort => ones::abort_ones(plain.entries, call.number, book),
         Kind::RestartRun => steps_of(shape, call, book),
         Kind::RestartEnd => more(plain.epoch),
         _ => 0,

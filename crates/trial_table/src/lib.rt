@@ -5,6 +5,7 @@ mod budget;
 pub mod calls;
 pub mod costs;
 mod logs;
+mod ones;
 pub mod plain;
 pub mod random;
 mod refusals;

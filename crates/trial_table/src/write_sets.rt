@@ -63,6 +63,15 @@ pub fn newest(book: &[u64], entries: u64, address: u64) -> u64 {
     0
 }
 
+// Where an address's value stands, with the first entries laid over the results.
+pub fn current_at(book: &[u64], entries: u64, address: u64) -> u64 {
+    let above = newest(book, entries, address);
+    if above > 0 {
+        return value_at(above - 1);
+    }
+    result_at(address)
+}
+
 // Whether an entry stands and is of the address.
 fn is_of(book: &[u64], entry: u64, address: u64) -> bool {
     let at = entry_at(entry);

@@ -1,12 +1,12 @@
 -- One turn of a loop over words: each law takes what n words give to what n + 1 words give.
 use mathlib.Core.Path.{_≡_, refl, sym, ap, _∙_}
-use Prim.Native.Nat.{ℕ, zero, suc, _+_, _^_, _≤_, _<_}
+use Prim.Native.Nat.{ℕ, zero, suc, _+_, _*_, _^_, _≤_, _<_}
 use mathlib.Core.List.{List, [], _∷_, _++_, append-nil}
 use native.Mathlib.Numerals.{add-one}
 use native.Mathlib.Nat.{add-zero, add-suc, suc-add, zero-add}
 use native.Mathlib.Omega.{arith}
 use lib.ListN.{length, getD, set, take, drop, replicate, length-drop, length-replicate, drop-of-length-le}
-use lib.Bits.{bitXor, xor-lt}
+use lib.Bits.{bitXor}
 use lib.Count.{ones, ones-le}
 use lib.Seq.{sets, sets-eq, take-suc, take-add, take-length, getD-drop, drop-drop}
 use Rattle.model.specs.Word.{_⊕_, xors, onesOver, part}
@@ -112,9 +112,15 @@ difference-more l at pages from value i h k =
     (sets-more l at (xors (part from i pages) (part 0 i value)) (getD pages (from + i) 0 ⊕ getD value i 0) i
     (length-xor-part pages value from 0 i (omega arith) (omega arith)))
 
--- of the bits of a word, no more are 1 than it has
-pub xor-ones : (k a b : ℕ) → a < 2 ^ k → b < 2 ^ k → ones (bitXor a b) ≤ k
-xor-ones k a b p q = ones-le k (bitXor a b) (xor-lt k a b p q)
+-- a word has at most 64 bits that are 1, so a count of 32 words is a word
+pub ones-fit : (word : ℕ) → word < 2 ^ 64 → ones word < 2 ^ 64
+ones-fit word below = omega (arith, ones-le 64 word below)
+
+pub few-fit : (counted word : ℕ) → counted ≤ 2048 → word < 2 ^ 64 → counted + ones word < 2 ^ 64
+few-fit counted word few below = omega (arith, ones-le 64 word below)
+
+pub few-more : (counted word i : ℕ) → counted ≤ 64 * i → word < 2 ^ 64 → counted + ones word ≤ 64 * (i + 1)
+few-more counted word i few below = omega (arith, ones-le 64 word below)
 
 pub ones-more : (pages : List ℕ) (from : ℕ) (value : List ℕ) (i : ℕ) → from + i < length pages → i < length value
     → onesOver (xors (part from i pages) (part 0 i value)) + ones (bitXor (getD pages (from + i) 0) (getD value i 0))

@@ -64,9 +64,8 @@ pub fn difference(out: &mut [u64], at: usize, pages: &[u64], from: usize, value:
     let mut ones = 0;
     let mut i = 0;
     while i < n {
-        let word = pages[from + i] ^ value[i];
-        out[at + i] = word;
-        ones += u64::count_ones(word) as u64;
+        out[at + i] = pages[from + i] ^ value[i];
+        ones += u64::count_ones(out[at + i]) as u64;
         i += 1;
     }
     ones

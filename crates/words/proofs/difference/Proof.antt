@@ -1,57 +1,58 @@
 -- `words::difference` meets its contract: after i turns the first i words of the difference are written and their bits counted. Assumes
 -- nothing.
-use mathlib.Core.Path.{_≡_, refl}
-use Prim.Native.Nat.{_+_, _-_, _*_, _≤_}
+use mathlib.Core.Path.{_≡_, refl, ap₂, _∙_}
+use Prim.Native.Nat.{ℕ, _+_, _-_, _*_, _≤_}
 use native.Mathlib.Omega.{arith}
-use lib.ListN.{length}
-use lib.Seq.{sets, length-sets}
+use lib.Count.{ones}
+use lib.ListN.{length, length-set}
+use lib.Seq.{sets, getD-set-same}
 use Rattle.model.specs.Word.{xors, onesOver, part}
-use Rattle.words.proofs.Laws.{difference-more, xor-ones, ones-more, difference-whole}
+use Rattle.words.proofs.Laws.{difference-more, ones-more, ones-fit, few-fit, few-more, difference-whole}
 use Rattle.words.proofs.difference.Statement.{statement}
 use Rattle.words.proofs.difference.Tie as tie
 
 abbrev Inv-loop : tie.InvT-loop
 Inv-loop out₀ at pages from value n ones₀ i₀ out ones i =
     (n ≡ length value) × (i ≤ n) × (out ≡ sets out₀ at (xors (part from i pages) (part 0 i value)))
-    × (ones ≡ onesOver (xors (part from i pages) (part 0 i value))) × (ones ≤ 64 * i)
+    × (ones ≡ onesOver (xors (part from i pages) (part 0 i value))) × (ones ≤ 64 * i) × (length out ≡ length out₀)
 
 abbrev μ-loop : tie.MeasureT-loop
 μ-loop out₀ at pages from value n ones₀ i₀ out ones i = n - i
 
 loop-holds : tie.Need-loop-holds Inv-loop μ-loop
 unfolding part xors onesOver
-loop-holds c = (refl, omega arith, refl, refl, omega arith)
+loop-holds c = (refl, omega arith, refl, refl, omega arith, refl)
 
 slice-write-out : tie.Need-slice-write-out Inv-loop μ-loop
-slice-write-out c = rw (c .before .before .before .loop .inv .2, length-sets) (omega arith)
+slice-write-out c = omega (arith, c .before .before .before .loop .inv .5)
+
+slice-read-ones : tie.Need-slice-read-ones Inv-loop μ-loop
+slice-read-ones c = simp length-set (omega (arith, c .before .before .before .before .loop .inv .5))
 
 -- a word has at most 64 bits that are 1
 cast-ones : tie.Need-cast-ones Inv-loop μ-loop
-cast-ones c =
-    let i = c .before .before .before .loop .i in
-    let few = xor-ones 64 _ _ (c .before .shared-slice-known .given (c .before .before .before .before .args .from + i) .fits) (c .shared-slice-known2 .given i .fits) in
-    omega (arith, few)
+cast-ones c = record { fits = ones-fit _ (c .slice-known .given _ .fits) }
 
-add-ones : tie.Need-add-ones Inv-loop μ-loop
-add-ones c =
-    let l = c .before .before .before .loop in
-    let few = xor-ones 64 _ _ (c .before .shared-slice-known .given (c .before .before .before .before .args .from + l .i) .fits) (c .shared-slice-known2 .given (l .i) .fits) in
-    omega (arith, c .before .before .before .before .pre .0 .1, l .inv .4, few)
+add-ones-2 : tie.Need-add-ones-2 Inv-loop μ-loop
+add-ones-2 c =
+    let counted = c .before .before .before .before .loop .inv .4 in
+    record { fits = few-fit _ _ (omega (arith, counted, c .before .before .before .before .before .pre .0 .1)) (c .slice-known .given _ .fits) }
 
 loop-again : tie.Need-loop-again Inv-loop μ-loop
 loop-again c =
-    let s = c .before .before .before .before .args in
-    let l = c .before .before .before .loop in
-    let few = xor-ones 64 _ _ (c .before .shared-slice-known .given (s .from + l .i) .fits) (c .shared-slice-known2 .given (l .i) .fits) in (
+    let s = c .before .before .before .before .before .args in
+    let l = c .before .before .before .before .loop in (
       l .inv .0,
       omega arith,
       rw (l .inv .2) (difference-more (s .out .now) (s .at) (s .pages .now) (s .from) (s .value .now) (l .i) (omega arith) (omega arith)),
-      rw (l .inv .3) (ones-more (s .pages .now) (s .from) (s .value .now) (l .i) (omega arith) (omega arith)),
-      omega (arith, l .inv .4, few),
+      ap₂ (λ (counted word : ℕ). counted + ones word) (l .inv .3) (getD-set-same (l .out) (s .at + l .i) _ 0 (omega (arith, l .inv .5)))
+          ∙ ones-more (s .pages .now) (s .from) (s .value .now) (l .i) (omega arith) (omega arith),
+      few-more _ _ (l .i) (l .inv .4) (c .slice-known .given _ .fits),
+      length-set (l .out) (s .at + l .i) _ ∙ l .inv .5,
     )
 
 same-length : tie.Need-same-length Inv-loop μ-loop
-same-length c = rw (c .before .loop .inv .2, length-sets)
+same-length c = c .before .loop .inv .5
 
 returns : tie.Need-returns Inv-loop μ-loop
 returns c =
@@ -75,8 +76,11 @@ difference-spec =
     (λ c. omega arith)
     (λ c. omega arith)
     slice-write-out
+    (λ c. omega arith)
+    (λ c. omega arith)
+    slice-read-ones
     cast-ones
-    add-ones
+    add-ones-2
     (λ c. omega arith)
     (λ c. omega arith)
     loop-again
