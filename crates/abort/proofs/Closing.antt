@@ -29,7 +29,7 @@ use Rattle.frame.proofs.Shown.{shown-whole, shown-cut}
 use Rattle.abort.specs.declared.window.Tip.{Tip}
 use Rattle.abort.specs.declared.undo.Undone.{Undone}
 use Rattle.abort.specs.declared.scope.Target.{Target}
-use Rattle.abort.specs.Undo.{onlyLog, Did, logFrom}
+use Rattle.abort.specs.Undo.{onlyLog, Did, Counts, logFrom}
 use Rattle.abort.specs.Scope.{rollingBack, closed}
 use Rattle.abort.proofs.Apart.{same-actions, moved-alone}
 use Rattle.abort.proofs.Aborts.{Standing, scope-disk}
@@ -96,8 +96,7 @@ module _ (h : Carried) (w : World) (number budget : ℕ) {t : Target} (st : Stan
         (rollingBack (t .sizes) (onlyLog d tip) (worldOf anchor (w .pages) backups (w .logs) memory) number d
         (updatesIn number (logFrom (t .sizes) (onlyLog d tip) d (w .logs) memory from)))
         (worldOf anchor (w .pages) backups (w .logs) memory) (worldOf anchor pages backups logs body) (done .progress))
-        (counted : done .progress .finished ≡ true
-        → done .ones ≡ onesUndone (updatesIn number (logFrom (t .sizes) (onlyLog d tip) d (w .logs) memory from))) where
+        (counted : Counts (updatesIn number (logFrom (t .sizes) (onlyLog d tip) d (w .logs) memory from)) done) where
       abbrev after : World
       after = worldOf (w .anchor) pages (w .backups) logs body
 

@@ -2,11 +2,12 @@
 use mathlib.Core.Path.{_≡_}
 use mathlib.Core.List.{List, [], _∷_}
 use mathlib.Core.Bool.{true, false}
-use Prim.Native.Nat.{ℕ, _≤_}
+use Prim.Native.Nat.{ℕ}
 use native.Mathlib.Omega.{arith}
 use lib.ListN.{length}
 use Rattle.model.specs.declared.Sizes.{Sizes}
 use Rattle.model.specs.declared.Logs.{Logs}
+use Rattle.model.specs.Below.{sumOver}
 use Rattle.model.specs.Word.{xors, onesOver, part}
 use Rattle.model.specs.Sizes.{slotBase}
 use Rattle.model.specs.Record.{change, encode, compensationKind}
@@ -21,8 +22,7 @@ use Rattle.device.specs.Ran.{Ran}
 use Rattle.device.proofs.Memory.{pages-written}
 use Rattle.device.proofs.Ran.{ran-then, ran-cut}
 use Rattle.abort.specs.declared.record.Progress.{Progress}
-use Rattle.abort.specs.declared.undo.Undone.{Undone}
-use Rattle.abort.specs.Undo.{Did, Counts}
+use Rattle.abort.specs.Undo.{Did}
 
 -- a difference XORed into the page memory: no store
 ran-xor : (budget at : ℕ) (diff : List ℕ) (w : World) → Ran budget budget (xorIn at diff (w .pages)) w (withPages w (xorAt at diff (w .pages))) true
@@ -47,6 +47,6 @@ module _ (s : Sizes) (l : Logs) (w : World) (number disk : ℕ) (u : Update) {bu
       rw (← same, ← place) (record { ran = rw e (ran-then (did .ran) _ e next); state = did .state })
 
 -- the bits of its difference that are 1
-pub one-counted : (u : Update) {most : ℕ} {r : Undone} → r .ones ≡ onesOver (u .diff) → r .ones ≤ most → Counts (u ∷ []) most r
-unfolding onesUndone
-one-counted u is few = record { all = λ finished. omega (arith, is); few = few }
+pub counts-one : (u : Update) {ones : ℕ} → ones ≡ onesOver (u .diff) → ones ≡ onesUndone (u ∷ [])
+unfolding onesUndone sumOver
+counts-one u is = omega (arith, is)

@@ -7,15 +7,18 @@ use native.Mathlib.Omega.{arith}
 use lib.ListN.{length}
 use Rattle.model.specs.declared.Sizes.{Sizes}
 use Rattle.model.specs.declared.Logs.{Logs}
+use Rattle.model.specs.Below.{sumOver}
+use Rattle.model.specs.Word.{onesOver}
 use Rattle.model.specs.Sizes.{ringOf, total}
 use Rattle.model.specs.Scan.{Update, updateWords}
 use Rattle.model.specs.World.{World, worldOf}
 use Rattle.model.specs.Memory.{bufferAt}
 use Rattle.model.specs.State.{endOf}
 use Rattle.model.specs.Abort.{undoAll, onesUndone}
+use Rattle.model.proofs.Below.{sum-append}
 use Rattle.model.proofs.Members.{Every}
 use Rattle.model.proofs.Ring.{disk-within}
-use Rattle.model.proofs.Updates.{update-words-append, ones-undone-append}
+use Rattle.model.proofs.Updates.{update-words-append}
 use Rattle.model.proofs.Growth.{SizedLogs, Longer}
 use Rattle.model.proofs.Sound.Abort.{undo-grown}
 use Rattle.device.proofs.Ran.{ran-whole}
@@ -33,7 +36,7 @@ abbrev pub Counted : (read : ℕ → ℕ) (all : List ℕ) (ones : ℕ) (left : 
 Counted read all ones left = ones + onesUndone (lastFirst (updateRead read) left) ≡ onesUndone (lastFirst (updateRead read) all)
 
 pub all-counted : (read : ℕ → ℕ) (all : List ℕ) (ones : ℕ) → Counted read all ones [] → ones ≡ onesUndone (lastFirst (updateRead read) all)
-unfolding lastFirst onesUndone
+unfolding lastFirst onesUndone sumOver
 all-counted read all ones counted = omega (arith, counted)
 
 module _ (s : Sizes) (disk number : ℕ) (l₀ : Logs) (pages₀ logs₀ work₀ : List ℕ) (budget₀ : ℕ) (all : List ℕ) where
@@ -113,7 +116,8 @@ module _ (s : Sizes) (disk number : ℕ) (l₀ : Logs) (pages₀ logs₀ work₀
         words = ap updateWords split ∙ update-words-append some (taken rest)
 
         pub pending-counted : (ones : ℕ) {more : ℕ} → Counted read all ones (rest ++ group) → more ≡ onesUndone some → Counted read all (ones + more) rest
-        pending-counted ones counted is = omega (arith, counted, is, ap onesUndone split, ones-undone-append some (taken rest))
+        unfolding onesUndone
+        pending-counted ones counted is = omega (arith, counted, is, ap onesUndone split, sum-append (λ u. onesOver (u .diff)) some (taken rest))
 
         standing : (q : ℕ) → List·Memᴰ q group → Standing s now-read (endOf l disk) q
         standing q m =

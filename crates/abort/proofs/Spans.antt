@@ -8,9 +8,10 @@ use native.Mathlib.Numerals.{add-one}
 use lib.Count.{ones}
 use lib.ListN.{length, set, take, length-take}
 use lib.Seq.{sets}
+use Rattle.model.specs.Below.{sumOver}
 use Rattle.model.specs.Word.{onesOver, part}
 use Rattle.model.specs.Decode.{span}
-use Rattle.model.proofs.Ones.{ones-append}
+use Rattle.model.proofs.Below.{sum-append}
 use Rattle.model.proofs.Restart.Gain.{length-span}
 use Rattle.log.proofs.Words.{part-set}
 use Rattle.words.proofs.Laws.{sets-more}
@@ -30,8 +31,8 @@ set-span out read p n =
 
 -- and its bits counted
 pub ones-span : (read : ℕ → ℕ) (p n : ℕ) → onesOver (span read p n) + ones (read (p + n)) ≡ onesOver (span read p (n + 1))
-unfolding onesOver
-ones-span read p n = rw (add-one, span-more read p n, ones-append) (omega arith)
+unfolding onesOver sumOver
+ones-span read p n = rw (add-one, span-more read p n, sum-append) (omega arith)
 
 -- the words set at the front of a list
 pub take-span : (out : List ℕ) (read : ℕ → ℕ) (p n : ℕ) → n ≤ length out → take n (sets out 0 (span read p n)) ≡ span read p n

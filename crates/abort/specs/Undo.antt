@@ -56,10 +56,9 @@ pub record Did (disk budget rest : ℕ) (added : Appended) (before after : World
   pub ran : Ran budget rest (added .actions) before after (r .finished)
   pub state : r .finished ≡ true → onlyLog disk (r .tip) ≡ added .logs
 
--- The bits that are 1 over the differences of updates that were all taken back; no more than `most`, so that a sum of them is a word.
-pub record Counts (us : List Update) (most : ℕ) (r : Undone) : Type 0 where
-  pub all : r .progress .finished ≡ true → r .ones ≡ onesUndone us
-  pub few : r .ones ≤ most
+-- Where updates were all taken back: how many bits are 1 over their differences.
+abbrev pub Counts : List Update → Undone → Type 0
+Counts us r = r .progress .finished ≡ true → r .ones ≡ onesUndone us
 
 -- a disk's log as it is read, ring then buffer
 abbrev pub reader : Sizes → Logs → ℕ → List ℕ → List ℕ → ℕ → ℕ

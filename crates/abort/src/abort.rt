@@ -22,18 +22,16 @@ use model::Sizes;
 use words::saturating_sub;
 ghost use mathlib.Core.Path.{_≡_};
 ghost use mathlib.Core.List.{List};
-ghost use mathlib.Core.Bool.{true};
 ghost use Prim.Native.Nat.{ℕ, _≤_, _<_};
 ghost use lib.ListN.{length};
 ghost use Rattle.model.specs.Scan.{scan, updatesIn};
 ghost use Rattle.model.specs.World.{worldOf};
 ghost use Rattle.model.specs.Moments.{old, new, oldWorld};
 ghost use Rattle.model.specs.State.{places, endOf};
-ghost use Rattle.model.specs.Abort.{onesUndone};
 ghost use Rattle.model.specs.Call.{abort};
 ghost use Rattle.model.specs.View.{headWords, Serves};
 ghost use Rattle.model.specs.Fields.{putWords};
-ghost use Rattle.abort.specs.Undo.{onlyLog, Did, reader, logFrom, Undoable};
+ghost use Rattle.abort.specs.Undo.{onlyLog, Did, Counts, reader, logFrom, Undoable};
 ghost use Rattle.abort.specs.Groups.{Noted};
 ghost use Rattle.abort.specs.Scope.{rollingBack, closed, abortRefusal};
 
@@ -66,8 +64,7 @@ fn roll_back(
         (updatesIn number (logFrom sizes (onlyLog disk tip) disk (now (logs .entry)) (now (work .entry)) (notes .from))))
         (worldOf anchor (now (pages .entry)) backups (now (logs .entry)) (now (work .entry)))
         (worldOf anchor (now (pages .exit)) backups (now (logs .exit)) (now (work .exit))) (r .progress)) ⌝ }
-    ensures { λ r. ⌜ (r .progress .finished ≡ true
-        → r .ones ≡ onesUndone (updatesIn number (logFrom sizes (onlyLog disk tip) disk (now (logs .entry)) (now (work .entry)) (notes .from)))) ⌝ }
+    ensures { λ r. ⌜ Counts (updatesIn number (logFrom sizes (onlyLog disk tip) disk (now (logs .entry)) (now (work .entry)) (notes .from))) r ⌝ }
 {
     let undone = undo_all(sizes, tip, disk, number, notes, pages, logs, work, budget);
     if !undone.progress.finished {

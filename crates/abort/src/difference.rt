@@ -23,7 +23,7 @@ pub struct Site {
     pub width: u64,
 }
 
-// A difference: its words, the first of these 32, and how many of their bits are 1.
+// A difference: its words, the first of these 32, as many as the slot has, and how many of their bits are 1.
 pub struct Difference {
     pub words: [u64; 32],
     pub ones: u64,

@@ -23,13 +23,13 @@ ghost use Rattle.model.specs.Abort.{compensate, undoAll};
 ghost use Rattle.abort.specs.Undo.{onlyLog, Did, Counts, reader, logFrom, updateAt, updateRead, Compensable, Undoable};
 ghost use Rattle.abort.specs.Groups.{Noted, lastFirst, Takeable};
 
-// How far the taking back came, and how many bits are 1 over the differences of what was taken back.
+// How far the taking back came; where it was not cut, how many bits are 1 over the differences taken back.
 pub struct Undone {
     pub progress: Progress,
     pub ones: u64,
 }
 
-// Takes back the update at a site: its compensation is appended, and the slot changed back.
+// Takes back the update at a site: its compensation is appended, and the slot changed back. A difference has at most 32 words of 64 bits.
 fn undo_one(
     sizes: Sizes,
     tip: Tip,
@@ -47,7 +47,7 @@ fn undo_one(
         (updateAt sizes (onlyLog disk tip) disk (now (logs .entry)) (now (work .entry)) site))
         (worldOf anchor (now (pages .entry)) backups (now (logs .entry)) (now (work .entry)))
         (worldOf anchor (now (pages .exit)) backups (now (logs .exit)) (now (work .exit))) (r .progress)) ⌝ }
-    ensures { λ r. ⌜ Counts (updateAt sizes (onlyLog disk tip) disk (now (logs .entry)) (now (work .entry)) site ∷ []) 2048 r ⌝ }
+    ensures { λ r. ⌜ Counts (updateAt sizes (onlyLog disk tip) disk (now (logs .entry)) (now (work .entry)) site ∷ []) r × (r .ones ≤ 2048) ⌝ }
 {
     let Difference { words, ones } = difference_at(
         sizes,
@@ -80,7 +80,7 @@ fn undo_one(
     done
 }
 
-// Takes back the updates of a group, the last first, as far as the budget goes.
+// Takes back the updates of a group, 128 at most, the last first, as far as the budget goes.
 fn undo_group(
     sizes: Sizes,
     tip: Tip,
@@ -98,7 +98,7 @@ fn undo_group(
         (lastFirst (updateRead (reader sizes (onlyLog disk tip) disk (now (logs .entry)) (now (work .entry)))) (take (group .count) (group .at))))
         (worldOf anchor (now (pages .entry)) backups (now (logs .entry)) (now (work .entry)))
         (worldOf anchor (now (pages .exit)) backups (now (logs .exit)) (now (work .exit))) (r .progress)) ⌝ }
-    ensures { λ r. ⌜ Counts (lastFirst (updateRead (reader sizes (onlyLog disk tip) disk (now (logs .entry)) (now (work .entry)))) (take (group .count) (group .at))) 262144 r ⌝ }
+    ensures { λ r. ⌜ Counts (lastFirst (updateRead (reader sizes (onlyLog disk tip) disk (now (logs .entry)) (now (work .entry)))) (take (group .count) (group .at))) r × (r .ones ≤ 262144) ⌝ }
 {
     let at = group.at;
     let mut after = tip;
@@ -151,7 +151,7 @@ pub fn undo_all(
         (updatesIn number (logFrom sizes (onlyLog disk tip) disk (now (logs .entry)) (now (work .entry)) (notes .from))))
         (worldOf anchor (now (pages .entry)) backups (now (logs .entry)) (now (work .entry)))
         (worldOf anchor (now (pages .exit)) backups (now (logs .exit)) (now (work .exit))) (r .progress)) ⌝ }
-    ensures { λ r. ⌜ Counts (updatesIn number (logFrom sizes (onlyLog disk tip) disk (now (logs .entry)) (now (work .entry)) (notes .from))) 33554432 r ⌝ }
+    ensures { λ r. ⌜ Counts (updatesIn number (logFrom sizes (onlyLog disk tip) disk (now (logs .entry)) (now (work .entry)) (notes .from))) r ⌝ }
 {
     let end = tip.tail + tip.fill;
     let mut after = tip;

@@ -1,7 +1,7 @@
 -- A slot's difference as the code builds it, and a slot set in the memories.
 use mathlib.Core.Path.{_≡_, refl, sym, ap, _∙_}
 use mathlib.Core.List.{List, [], _∷_, _++_, append-assoc}
-use mathlib.Core.Bool.{Bool, true, false}
+use mathlib.Core.Bool.{true, false}
 use Prim.Native.Nat.{ℕ, suc, _+_, _*_, _≤_}
 use native.Mathlib.Omega.{arith}
 use lib.ListN.{length, set}
@@ -11,14 +11,14 @@ use Rattle.model.specs.declared.Sizes.{Sizes}
 use Rattle.model.specs.declared.Logs.{Logs}
 use Rattle.model.specs.Word.{xors, onesOver, part}
 use Rattle.model.specs.Record.{header, encode}
-use Rattle.model.specs.World.{World, Action, write, pages, work, cost, act, perform, stores, covered, run, made, finishes, each}
+use Rattle.model.specs.World.{World, Action, write, pages, work, cost, act, perform, stores, made, finishes, each}
 use Rattle.model.specs.Memory.{ownerAt}
 use Rattle.model.specs.Append.{append}
 use Rattle.model.proofs.Booleans.{true-false}
 use Rattle.model.proofs.Parts.{length-part}
 use Rattle.model.proofs.Run.{perform-append, stores-append, stores-written, perform-pages, finished-run}
 use Rattle.model.proofs.Xor.{length-xors}
-use Rattle.device.specs.Ran.{Ran, withSlices}
+use Rattle.device.specs.Ran.{Ran}
 use Rattle.device.proofs.Ran.{ran-then, ran-cut}
 use Rattle.log.specs.declared.write.Head.{Head}
 use Rattle.log.specs.Write.{changeOf, Appends}

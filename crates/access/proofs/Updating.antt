@@ -14,7 +14,6 @@ use Rattle.model.specs.declared.Carried.{Carried}
 use Rattle.model.specs.declared.Logs.{Logs}
 use Rattle.model.specs.declared.Table.{Table}
 use Rattle.model.specs.declared.Handed.{Handed}
-use Rattle.model.specs.Word.{xors, part}
 use Rattle.model.specs.Record.{encode}
 use Rattle.model.specs.World.{World, worldOf}
 use Rattle.model.specs.State.{tailOf, fillOf, withLog, withPlace, withReserved}
@@ -22,7 +21,7 @@ use Rattle.model.specs.Causes.{whenShut}
 use Rattle.model.specs.Refusal.{verdict, accepted}
 use Rattle.model.specs.Transaction.{slotWords, updateRecord, updated, updateRows, updateTask}
 use Rattle.model.specs.Call.{update}
-use Rattle.model.specs.View.{headWords, ownWork, coreOf, carriedOf, headLists, headOf, bodyOf, Serves}
+use Rattle.model.specs.View.{headWords, ownWork, coreOf, carriedOf, headOf, bodyOf, Serves}
 use Rattle.model.specs.Fields.{putWords, entering, filling}
 use Rattle.model.proofs.View.Laid.{setIn}
 use Rattle.model.proofs.View.Head.{own-work, carried-back}
@@ -30,7 +29,7 @@ use Rattle.model.proofs.View.Fields.{putLists, Within as within-head, head-put}
 use Rattle.log.specs.declared.write.Head.{Head}
 use Rattle.log.specs.declared.write.Home.{Home}
 use Rattle.access.specs.declared.change.Changed.{Changed}
-use Rattle.log.specs.Write.{Within, Encodable, changeOf, Lent}
+use Rattle.log.specs.Write.{Within, Encodable, Lent}
 use Rattle.frame.specs.Handed.{refusedTo, finishedTo, cutTo}
 use Rattle.frame.specs.Home.{homeOf, withDisk}
 use Rattle.frame.proofs.Homes.{home-lent}
@@ -155,7 +154,7 @@ module _ (h : Carried) (w : World) (own : ownWork h (w .work) ≡ true) {number 
       carried-after = refl
 
       value-is : updateTask c (bodyOf w) number page slot value .value ≡ r .ones
-      unfolding updateTask slotWords
+      unfolding updateTask updateRecord slotWords
       value-is = rw (← plans .same-width, ← plans .at) (sym (did .ones finished))
 
       pub update-finished : {work : List ℕ}

@@ -27,6 +27,7 @@ replacing s l w disk head at value =
     let added : Appended = append s l (w .work) disk (encode (changeOf head (xors (part at (length value) (w .pages)) value))) in
     record { actions = added .actions ++ each (write pages) at value ++ write work (ownerAt s at) (head .number) ∷ []; logs = added .logs }
 
+-- These actions run as far as a budget goes; where they were not cut, where the disk's log ends, and how many bits of the difference are 1.
 pub record Replaced (budget rest : ℕ) (s : Sizes) (l : Logs) (disk : ℕ) (head : Head) (at : ℕ) (value : List ℕ) (before after : World) (r : Changed) : Type 0 where
   pub ran : Ran budget rest (replacing s l before disk head at value .actions) before after (r .logged .finished)
   pub state : r .logged .finished ≡ true → replacing s l before disk head at value .logs ≡ withDisk l disk (r .logged .tail) (r .logged .fill)

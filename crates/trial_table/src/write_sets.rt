@@ -63,7 +63,7 @@ pub fn newest(book: &[u64], entries: u64, address: u64) -> u64 {
     0
 }
 
-// Where an address's value stands, with the first entries laid over the results.
+// Where an address's value stands, with the first `entries` entries laid over the results.
 pub fn current_at(book: &[u64], entries: u64, address: u64) -> u64 {
     let above = newest(book, entries, address);
     if above > 0 {

@@ -9,10 +9,11 @@ use lib.ListN.{length, getD, set, take, drop, replicate, length-drop, length-rep
 use lib.Bits.{bitXor}
 use lib.Count.{ones, ones-le}
 use lib.Seq.{sets, sets-eq, take-suc, take-add, take-length, getD-drop, drop-drop}
+use Rattle.model.specs.Below.{sumOver}
 use Rattle.model.specs.Word.{_⊕_, xors, onesOver, part}
 use Rattle.model.specs.Image.{xorAt}
 use Rattle.model.proofs.Xor.{length-xors-same}
-use Rattle.model.proofs.Ones.{ones-append}
+use Rattle.model.proofs.Below.{sum-append}
 use Rattle.model.proofs.Parts.{getD-sets-behind}
 use Rattle.model.proofs.Parts.{length-part}
 
@@ -112,7 +113,7 @@ difference-more l at pages from value i h k =
     (sets-more l at (xors (part from i pages) (part 0 i value)) (getD pages (from + i) 0 ⊕ getD value i 0) i
     (length-xor-part pages value from 0 i (omega arith) (omega arith)))
 
--- a word has at most 64 bits that are 1, so a count of 32 words is a word
+-- A word has at most 64 bits that are 1, so a count of 32 words is a word.
 pub ones-fit : (word : ℕ) → word < 2 ^ 64 → ones word < 2 ^ 64
 ones-fit word below = omega (arith, ones-le 64 word below)
 
@@ -125,9 +126,9 @@ few-more counted word i few below = omega (arith, ones-le 64 word below)
 pub ones-more : (pages : List ℕ) (from : ℕ) (value : List ℕ) (i : ℕ) → from + i < length pages → i < length value
     → onesOver (xors (part from i pages) (part 0 i value)) + ones (bitXor (getD pages (from + i) 0) (getD value i 0))
     ≡ onesOver (xors (part from (i + 1) pages) (part 0 (i + 1) value))
-unfolding onesOver _⊕_
+unfolding onesOver sumOver _⊕_
 ones-more pages from value i h k =
-    rw (xor-part-more pages value from 0 i h (omega arith), zero-add, ones-append) (omega arith)
+    rw (xor-part-more pages value from 0 i h (omega arith), zero-add, sum-append) (omega arith)
 
 -- at the loop's end the value is used up
 pub difference-whole : (pages : List ℕ) (from : ℕ) (value : List ℕ) (i : ℕ) → i ≡ length value

@@ -53,10 +53,11 @@ pub fn fill_words(target: &mut [u64], at: usize, n: usize, value: u64)
 }
 
 // Writes a slot's difference, before XOR after, into out at `at`, and hands back how many of its bits are 1 over all its words.
-// Before is the slot as it is, at `from` in pages; after is value.
+// Before is the slot as it is, at `from` in pages; after is value. A slot has at most 32 words, so the count is a word.
 pub fn difference(out: &mut [u64], at: usize, pages: &[u64], from: usize, value: &[u64]) -> u64
-    requires { ⌜ (at + length (now value) ≤ length (now out)) × (length (now value) ≤ 32) ⌝ }
+    requires { ⌜ at + length (now value) ≤ length (now out) ⌝ }
     requires { ⌜ from + length (now value) ≤ length (now pages) ⌝ }
+    requires { ⌜ length (now value) ≤ 32 ⌝ }
     ensures { λ r. ⌜ (now (out .exit) ≡ sets (now (out .entry)) at (xors (part from (length (now (value .entry))) (now (pages .entry))) (now (value .entry))))
         × (r ≡ onesOver (xors (part from (length (now (value .entry))) (now (pages .entry))) (now (value .entry)))) ⌝ }
 {

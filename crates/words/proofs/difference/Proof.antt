@@ -6,6 +6,7 @@ use native.Mathlib.Omega.{arith}
 use lib.Count.{ones}
 use lib.ListN.{length, length-set}
 use lib.Seq.{sets, getD-set-same}
+use Rattle.model.specs.Below.{sumOver}
 use Rattle.model.specs.Word.{xors, onesOver, part}
 use Rattle.words.proofs.Laws.{difference-more, ones-more, ones-fit, few-fit, few-more, difference-whole}
 use Rattle.words.proofs.difference.Statement.{statement}
@@ -20,7 +21,7 @@ abbrev μ-loop : tie.MeasureT-loop
 μ-loop out₀ at pages from value n ones₀ i₀ out ones i = n - i
 
 loop-holds : tie.Need-loop-holds Inv-loop μ-loop
-unfolding part xors onesOver
+unfolding part xors onesOver sumOver
 loop-holds c = (refl, omega arith, refl, refl, omega arith, refl)
 
 slice-write-out : tie.Need-slice-write-out Inv-loop μ-loop
@@ -36,7 +37,7 @@ cast-ones c = record { fits = ones-fit _ (c .slice-known .given _ .fits) }
 add-ones-2 : tie.Need-add-ones-2 Inv-loop μ-loop
 add-ones-2 c =
     let counted = c .before .before .before .before .loop .inv .4 in
-    record { fits = few-fit _ _ (omega (arith, counted, c .before .before .before .before .before .pre .0 .1)) (c .slice-known .given _ .fits) }
+    record { fits = few-fit _ _ (omega (arith, counted, c .before .before .before .before .before .pre .1 .1)) (c .slice-known .given _ .fits) }
 
 loop-again : tie.Need-loop-again Inv-loop μ-loop
 loop-again c =

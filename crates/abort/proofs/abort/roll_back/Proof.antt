@@ -25,7 +25,7 @@ returns-2 : tie.Need-returns-2
 returns-2 c =
     let undone = c .before .before .before .before .before .before .before .before .before .before .before .before .before .before .before .before .before .undo-all .ensures in
     let whole = not-false _ (c .before .before .before .before .before .before .before .before .before .if1 .left) in
-    (λ anchor backups. rolled-whole _ _ _ _ _ _ (undone .0 anchor backups) whole (c .before .before .before .before .log-close .ensures anchor _ backups), λ f. undone .1 .all whole)
+    (λ anchor backups. rolled-whole _ _ _ _ _ _ (undone .0 anchor backups) whole (c .before .before .before .before .log-close .ensures anchor _ backups), λ f. undone .1 whole)
 
 pub roll-back-spec : {M : Type 1} → statement M
 roll-back-spec =

@@ -2,13 +2,14 @@
 use mathlib.Core.Path.{_≡_, refl, _∙_}
 use Prim.Native.Nat.{ℕ, _-_, _*_, _≤_}
 use native.Mathlib.Omega.{arith}
-use lib.Count.{ones-le}
 use lib.ListN.{length, length-set}
 use lib.Seq.{sets}
 use Rattle.model.specs.declared.Sizes.{Sizes}
+use Rattle.model.specs.Below.{sumOver}
 use Rattle.model.specs.Word.{onesOver}
 use Rattle.model.specs.Decode.{readLog, span}
 use Rattle.log.specs.Reading.{LiesAt}
+use Rattle.words.proofs.Laws.{ones-fit, few-fit, few-more}
 use Rattle.abort.proofs.Spans.{set-span, ones-span}
 use borrow.Author.Needs.{needs}
 use Rattle.abort.proofs.difference.copy_words_of_log.Statement.{statement}
@@ -25,7 +26,7 @@ abbrev μ-loop : tie.MeasureT-loop
 μ-loop out₀ logs buffer position n place ring tail ones₀ i₀ out ones i = n - i
 
 loop-holds : tie.Need-loop-holds Inv-loop μ-loop
-unfolding span onesOver
+unfolding span onesOver sumOver
 loop-holds c = (omega arith, refl, λ s disk lies. (refl, refl), omega arith)
 
 add-read-word : tie.Need-add-read-word Inv-loop μ-loop
@@ -38,10 +39,12 @@ slice-write-out : tie.Need-slice-write-out Inv-loop μ-loop
 slice-write-out c = omega (arith, c .before .before .loop .inv .1)
 
 cast-ones : tie.Need-cast-ones Inv-loop μ-loop
-cast-ones c = omega (arith, ones-le 64 (c .read-word .result) (search needs))
+cast-ones c = record { fits = ones-fit (c .read-word .result) (search needs) }
 
 add-ones : tie.Need-add-ones Inv-loop μ-loop
-add-ones c = omega (arith, ones-le 64 (c .read-word .result) (search needs), c .before .before .loop .inv .3)
+add-ones c =
+    let counted = c .before .before .loop .inv .3 in
+    record { fits = few-fit _ (c .read-word .result) (omega (arith, counted, c .before .before .before .before .before .before .pre .1 .2)) (search needs) }
 
 add-i : tie.Need-add-i Inv-loop μ-loop
 add-i c = omega arith
@@ -62,7 +65,7 @@ loop-again c =
             rw (done .0, word) (set-span (a .out .now) read (a .position) (l .i)),
             rw (done .1, word) (ones-span read (a .position) (l .i)),
           ),
-      omega (arith, ones-le 64 (c .read-word .result) (search needs), l .inv .3),
+      few-more _ (c .read-word .result) (l .i) (l .inv .3) (search needs),
     )
 
 same-length : tie.Need-same-length Inv-loop μ-loop

@@ -143,11 +143,11 @@ returns c =
     let cut = not-true _ (c .if1 .taken) in (
       λ anchor backups.
           group-cut _ _ _ _ _ _ _ _ ok (turn .k) (omega (arith, some)) (turn .inv .1) noted (turn .inv .0) size got anchor backups (part .0 anchor backups) cut,
-      record { all = λ f. true-false f cut; few = omega (arith, part .1 .few) },
+      λ f. true-false f cut,
     )
 
 add-ones : tie.Need-add-ones Inv-loop μ-loop
-add-ones c = omega (arith, c .before .before .before .before .before .before .before .before .before .before .before .before .before .before .before .before .before .before .before .before .before .loop .inv .3, c .before .before .before .before .before .before .before .before .before .before .before .before .before .before .before .before .before .before .before .before .loop-test .taken, c .before .before .before .before .before .before .before .before .before .before .undo-group .ensures .1 .few)
+add-ones c = omega (arith, c .before .before .before .before .before .before .before .before .before .before .before .before .before .before .before .before .before .before .before .before .before .loop .inv .3, c .before .before .before .before .before .before .before .before .before .before .before .before .before .before .before .before .before .before .before .before .loop-test .taken, c .before .before .before .before .before .before .before .before .before .before .undo-group .ensures .1 .1)
 
 loop-less : tie.Need-loop-less Inv-loop μ-loop
 loop-less c = let some = c .before .before .before .before .before .before .before .before .before .before .before .before .before .before .before .before .before .before .before .before .loop-test .taken in omega arith
@@ -166,8 +166,8 @@ loop-again c =
     let whole = not-false _ (c .before .before .if1 .left) in (
       omega (arith, turn .inv .0),
       group-step _ _ _ _ _ _ _ _ ok (turn .k) (omega (arith, some)) (turn .inv .1) noted (turn .inv .0) size got whole (part .0),
-      group-counted _ _ _ _ _ _ _ _ ok (turn .k) (omega (arith, some)) (turn .inv .1) noted (turn .inv .0) size got (turn .ones) (turn .inv .2) (part .1 .all whole),
-      omega (arith, turn .inv .3, some, part .1 .few),
+      group-counted _ _ _ _ _ _ _ _ ok (turn .k) (omega (arith, some)) (turn .inv .1) noted (turn .inv .0) size got (turn .ones) (turn .inv .2) (part .1 .0 whole),
+      omega (arith, turn .inv .3, some, part .1 .1),
     )
 
 same-length-4 : tie.Need-same-length-4 Inv-loop μ-loop
@@ -186,7 +186,7 @@ returns-2 c =
     let none : turn .k ≡ 0 = omega arith in
     let all = all-updates _ _ _ _ _ _ _ _ ok in (
       λ anchor backups. rw all (pending-last _ _ _ _ _ _ _ _ _ (all-takeable _ _ _ _ _ _ _ _ ok) (rw none at (turn .inv .1)) anchor backups),
-      record { all = λ f. rw all (all-counted _ _ (turn .ones) (rw none at (turn .inv .2))); few = omega (arith, turn .inv .3) },
+      λ f. rw all (all-counted _ _ (turn .ones) (rw none at (turn .inv .2))),
     )
 
 pub undo-all-spec : {M : Type 1} → statement M

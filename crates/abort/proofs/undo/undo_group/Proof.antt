@@ -73,11 +73,11 @@ returns c =
       λ anchor backups.
           one-cut _ _ _ _ _ _ _ _ _ (start .pre .1) (turn .n) (start .args .group .at) (omega (arith, some)) (omega (arith, turn .inv .0, turn .inv .1)) (turn .inv .2)
           (c .before .before .before .before .before .before .before .before .before .before .before .before .before .site-at .ensures) anchor backups (one .0 anchor backups) cut,
-      record { all = λ f. true-false f cut; few = omega (arith, one .1 .few) },
+      (λ f. true-false f cut, omega (arith, one .1 .1)),
     )
 
 add-ones : tie.Need-add-ones Inv-loop μ-loop
-add-ones c = omega (arith, c .before .before .before .before .before .before .before .before .before .before .before .before .before .before .before .before .before .before .before .loop .inv .4, c .before .before .before .before .before .before .before .before .before .before .before .before .before .before .before .before .before .before .loop-test .taken, c .before .before .before .before .before .before .before .before .before .before .undo-one .ensures .1 .few)
+add-ones c = omega (arith, c .before .before .before .before .before .before .before .before .before .before .before .before .before .before .before .before .before .before .before .loop .inv .4, c .before .before .before .before .before .before .before .before .before .before .before .before .before .before .before .before .before .before .loop-test .taken, c .before .before .before .before .before .before .before .before .before .before .undo-one .ensures .1 .1)
 
 loop-less : tie.Need-loop-less Inv-loop μ-loop
 loop-less c = let some = c .before .before .before .before .before .before .before .before .before .before .before .before .before .before .before .before .before .before .loop-test .taken in omega arith
@@ -94,8 +94,8 @@ loop-again c =
       one-step _ _ _ _ _ _ _ _ _ (start .pre .1) (turn .n) (start .args .group .at) (omega (arith, some)) (omega (arith, turn .inv .0, turn .inv .1)) (turn .inv .2)
           (c .before .before .before .before .before .before .before .before .before .before .before .before .before .before .before .site-at .ensures) whole (one .0),
       one-counted _ _ _ _ _ _ _ _ _ (start .pre .1) (turn .n) (start .args .group .at) (omega (arith, some)) (omega (arith, turn .inv .0, turn .inv .1)) (turn .inv .2)
-          (c .before .before .before .before .before .before .before .before .before .before .before .before .before .before .before .site-at .ensures) (turn .ones) (turn .inv .3) (one .1 .all whole),
-      omega (arith, turn .inv .4, some, one .1 .few),
+          (c .before .before .before .before .before .before .before .before .before .before .before .before .before .before .before .site-at .ensures) (turn .ones) (turn .inv .3) (one .1 .0 whole),
+      omega (arith, turn .inv .4, some, one .1 .1),
     )
 
 same-length-4 : tie.Need-same-length-4 Inv-loop μ-loop
@@ -113,7 +113,7 @@ returns-2 c =
     let turn = c .before .loop in
     let none : turn .n ≡ 0 = omega arith in (
       pending-last _ _ _ _ _ _ _ _ _ (pre .1) (rw none at (turn .inv .2)),
-      record { all = λ f. all-counted _ _ (turn .ones) (rw none at (turn .inv .3)); few = omega (arith, turn .inv .4) },
+      (λ f. all-counted _ _ (turn .ones) (rw none at (turn .inv .3)), omega (arith, turn .inv .4)),
     )
 
 pub undo-group-spec : {M : Type 1} → statement M

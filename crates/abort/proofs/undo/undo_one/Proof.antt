@@ -7,7 +7,7 @@ use Rattle.model.proofs.Geometry.{slot-end-total}
 use Rattle.abort.specs.Undo.{updateAt}
 use Rattle.abort.proofs.Disks.{slim, low-slot}
 use Rattle.abort.proofs.Spans.{lent-difference, lent-fits}
-use Rattle.abort.proofs.Compensated.{compensated-cut, compensated-whole, one-counted}
+use Rattle.abort.proofs.Compensated.{compensated-cut, compensated-whole, counts-one}
 use borrow.Author.Needs.{needs}
 use Rattle.abort.proofs.undo.undo_one.Statement.{statement}
 use Rattle.abort.proofs.undo.undo_one.Tie as tie
@@ -35,7 +35,7 @@ returns c =
     let difference-at = c .before .before .before .before .before .before .before .before .before .before .before .before .difference-at in
     let log-compensation = c .before .before .before .before .before .before .log-compensation in (
       λ anchor backups. compensated-cut _ _ _ _ _ _ (difference-at .ensures .0) (log-compensation .ensures anchor _ backups) (not-true _ (c .if1 .taken)),
-      one-counted _ (difference-at .ensures .1) (difference-at .ensures .2),
+      (λ f. counts-one _ (difference-at .ensures .1), difference-at .ensures .2),
     )
 
 slot-base-requires : tie.Need-slot-base-requires
@@ -61,7 +61,7 @@ returns-2 c =
     let test1 = c .before .before .before .before .before .before .if1 in
     let slot-base = c .before .before .before .before .before .slot-base in (
       λ anchor backups. compensated-whole _ _ _ _ _ _ (difference-at .ensures .0) (log-compensation .ensures anchor _ backups) (not-false _ (test1 .left)) refl (slot-base .ensures .0) _ (c .before .before .xor-in .ensures),
-      one-counted _ (difference-at .ensures .1) (difference-at .ensures .2),
+      (λ f. counts-one _ (difference-at .ensures .1), difference-at .ensures .2),
     )
 
 pub undo-one-spec : {M : Type 1} → statement M

@@ -17,7 +17,7 @@ slice-write-work-3 c = simp length-set (omega arith)
 difference-requires : tie.Need-difference-requires
 difference-requires c κs =
     let pre = c .before .before .before .before .before .before .before .pre in
-    ((simp length-set (omega arith), pre .0 .width-small), pre .2)
+    (simp length-set (omega arith), (pre .2, pre .0 .width-small))
 
 same-length : tie.Need-same-length
 same-length c = rw (c .before .before .difference .ensures .0, length-sets) (simp length-set refl)
