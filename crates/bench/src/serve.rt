@@ -10,6 +10,7 @@ use crate::stream::product;
 use crate::stream::spread;
 use std::num::wrapping_add_u64;
 use std::num::wrapping_sub_u64;
+use store::Called;
 use store::State;
 use store::transactions::abort;
 use store::transactions::begin;
@@ -27,6 +28,15 @@ struct Transaction {
 struct Changed {
     state: State,
     ones: u64,
+}
+
+fn changed_by(called: Called) -> Changed {
+    let answer = called.answer;
+    let state = called.state;
+    Changed {
+        state,
+        ones: value_of(answer),
+    }
 }
 
 // A begin. It is refused once at most.
@@ -71,16 +81,12 @@ fn closed(
     work: &mut [u64],
     budget: &mut u64,
 ) -> Changed {
-    let called = if aborts {
-        abort(state, number, anchor, pages, backups, logs, work, budget)
-    } else {
-        commit(state, number, anchor, pages, backups, logs, work, budget)
-    };
-    let answer = called.answer;
-    Changed {
-        state: called.state,
-        ones: value_of(answer),
+    if aborts {
+        let undone = abort(state, number, anchor, pages, backups, logs, work, budget);
+        return changed_by(undone);
     }
+    let done = commit(state, number, anchor, pages, backups, logs, work, budget);
+    changed_by(done)
 }
 
 // The three updates, of slots and to values that the stream tells from its number `seed` on. Each is refused once at most.

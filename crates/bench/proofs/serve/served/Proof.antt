@@ -8,12 +8,12 @@ use Rattle.bench.proofs.serve.served.Statement.{statement}
 use Rattle.bench.proofs.serve.served.Tie as tie
 
 abbrev Inv-loop : tie.InvT-loop
-Inv-loop plan value₀ anchor₀ pages₀ backups₀ logs₀ work₀ budget₀ state₀ r₀ aborts₀ i₀ value anchor pages backups logs work budget state r aborts i =
+Inv-loop plan value₀ anchor₀ pages₀ backups₀ logs₀ work₀ budget₀ state₀ r₀ aborts₀ ones₀ i₀ value anchor pages backups logs work budget state r aborts ones i =
     (i ≤ plan .transactions) × (length value ≡ length value₀) × (length anchor ≡ length anchor₀) × (length pages ≡ length pages₀)
     × (length backups ≡ length backups₀) × (length logs ≡ length logs₀) × (length work ≡ length work₀)
 
 abbrev μ-loop : tie.MeasureT-loop
-μ-loop plan value₀ anchor₀ pages₀ backups₀ logs₀ work₀ budget₀ state₀ r₀ aborts₀ i₀ value anchor pages backups logs work budget state r aborts i = plan .transactions - i
+μ-loop plan value₀ anchor₀ pages₀ backups₀ logs₀ work₀ budget₀ state₀ r₀ aborts₀ ones₀ i₀ value anchor pages backups logs work budget state r aborts ones i = plan .transactions - i
 
 loop-less : tie.Need-loop-less Inv-loop μ-loop
 loop-less c = omega (arith, c .before .before .before .before .before .before .before .before .before .before .before .before .before .before .before .before .before .before .before .before .before .before .before .before .before .before .before .before .before .before .before .before .before .before .before .before .before .before .before .before .before .before .before .before .before .before .before .before .before .before .before .before .before .before .before .before .before .before .if1 .taken)
@@ -38,6 +38,8 @@ served-spec =
     μ-loop
     (λ c. search needs)
     (λ c. search needs)
+    (λ c κs. search needs)
+    (λ c κs. search needs)
     (λ c κs. search needs)
     (λ c κs. search needs)
     (λ c κs. search needs)
