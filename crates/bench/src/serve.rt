@@ -10,7 +10,6 @@ use crate::stream::product;
 use crate::stream::spread;
 use std::num::wrapping_add_u64;
 use std::num::wrapping_sub_u64;
-use store::Called;
 use store::State;
 use store::transactions::abort;
 use store::transactions::begin;
@@ -22,21 +21,6 @@ use trial_table::words::get;
 struct Transaction {
     state: State,
     number: u64,
-}
-
-// The state after calls, and the bits that they answered to have changed.
-struct Changed {
-    state: State,
-    ones: u64,
-}
-
-fn changed_by(called: Called) -> Changed {
-    let answer = called.answer;
-    let state = called.state;
-    Changed {
-        state,
-        ones: value_of(answer),
-    }
 }
 
 // A begin. It is refused once at most.
@@ -69,7 +53,7 @@ fn opened(
     Transaction { state, number }
 }
 
-// The close: an abort for one transaction in fifty.
+// The close: an abort for one transaction in fifty, which answers how many bits it changed back.
 fn closed(
     aborts: bool,
     state: State,
@@ -80,16 +64,20 @@ fn closed(
     logs: &mut [u64],
     work: &mut [u64],
     budget: &mut u64,
-) -> Changed {
+    ones: &mut u64,
+) -> State {
     if aborts {
         let undone = abort(state, number, anchor, pages, backups, logs, work, budget);
-        return changed_by(undone);
+        let answer = undone.answer;
+        *ones = wrapping_add_u64(*ones, value_of(answer));
+        return undone.state;
     }
     let done = commit(state, number, anchor, pages, backups, logs, work, budget);
-    changed_by(done)
+    done.state
 }
 
-// The three updates, of slots and to values that the stream tells from its number `seed` on. Each is refused once at most.
+// The three updates, of slots and to values that the stream tells from its number `seed` on. Each is refused once at most, and answers how
+// many bits it changed.
 fn all_updated(
     plan: Plan,
     from: State,
@@ -102,10 +90,10 @@ fn all_updated(
     logs: &mut [u64],
     work: &mut [u64],
     budget: &mut u64,
-) -> Changed {
+    ones: &mut u64,
+) -> State {
     let mut state = from;
     let mut r = next(seed);
-    let mut ones: u64 = 0;
     let mut made: u64 = 0;
     let mut tries: u64 = 0;
     while tries < 6 && made < 3 {
@@ -141,10 +129,10 @@ fn all_updated(
         } else {
             made += 1;
             r = next(r);
-            ones = wrapping_add_u64(ones, value_of(answer));
+            *ones = wrapping_add_u64(*ones, value_of(answer));
         }
     }
-    Changed { state, ones }
+    state
 }
 
 // What the transactions come to.
@@ -193,7 +181,7 @@ pub fn served(
             &mut budget,
         );
         let number = called.number;
-        let updated = all_updated(
+        state = all_updated(
             plan,
             called.state,
             number,
@@ -205,11 +193,12 @@ pub fn served(
             logs,
             work,
             &mut budget,
+            &mut ones,
         );
         r = next(next(next(next(r))));
-        let ended = closed(
+        state = closed(
             aborting,
-            updated.state,
+            state,
             number,
             anchor,
             pages,
@@ -217,10 +206,9 @@ pub fn served(
             logs,
             work,
             &mut budget,
+            &mut ones,
         );
-        state = ended.state;
         aborts = wrapping_add_u64(aborts, one_if(aborting));
-        ones = wrapping_add_u64(ones, wrapping_add_u64(updated.ones, ended.ones));
     }
     Tally {
         taken: product(plan.transactions, 5),

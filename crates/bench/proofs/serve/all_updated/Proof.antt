@@ -8,12 +8,12 @@ use Rattle.bench.proofs.serve.all_updated.Statement.{statement}
 use Rattle.bench.proofs.serve.all_updated.Tie as tie
 
 abbrev Inv-loop : tie.InvT-loop
-Inv-loop plan number seed value₀ anchor₀ pages₀ backups₀ logs₀ work₀ budget₀ state₀ r₀ ones₀ made₀ tries₀ value anchor pages backups logs work budget state r ones made tries =
+Inv-loop plan number seed value₀ anchor₀ pages₀ backups₀ logs₀ work₀ budget₀ ones₀ state₀ r₀ made₀ tries₀ value anchor pages backups logs work budget ones state r made tries =
     (tries ≤ 6) × (made ≤ tries) × (length value ≡ length value₀) × (length anchor ≡ length anchor₀) × (length pages ≡ length pages₀)
     × (length backups ≡ length backups₀) × (length logs ≡ length logs₀) × (length work ≡ length work₀)
 
 abbrev μ-loop : tie.MeasureT-loop
-μ-loop plan number seed value₀ anchor₀ pages₀ backups₀ logs₀ work₀ budget₀ state₀ r₀ ones₀ made₀ tries₀ value anchor pages backups logs work budget state r ones made tries = 6 - tries
+μ-loop plan number seed value₀ anchor₀ pages₀ backups₀ logs₀ work₀ budget₀ ones₀ state₀ r₀ made₀ tries₀ value anchor pages backups logs work budget ones state r made tries = 6 - tries
 
 loop-less : tie.Need-loop-less Inv-loop μ-loop
 loop-less c = omega (arith, c .before .before .before .before .before .before .before .before .before .before .before .before .before .before .before .before .before .before .before .before .before .before .before .before .before .before .before .before .before .before .before .before .before .before .before .before .before .before .before .before .loop-test .taken)
@@ -35,19 +35,19 @@ add-made : tie.Need-add-made Inv-loop μ-loop
 add-made c = omega (arith, c .before .before .before .before .before .before .before .before .before .before .before .before .before .before .before .before .before .before .before .before .before .before .before .before .loop-test .taken, c .before .before .before .before .before .before .before .before .before .before .before .before .before .before .before .before .before .before .before .before .before .before .before .before .before .loop .inv .1)
 
 loop-less-2 : tie.Need-loop-less-2 Inv-loop μ-loop
-loop-less-2 c = omega (arith, c .before .before .before .before .before .before .before .before .before .before .before .before .before .before .before .before .before .before .before .before .before .before .before .before .before .before .before .loop-test .taken)
+loop-less-2 c = omega (arith, c .before .before .before .before .before .before .before .before .before .before .before .before .before .before .before .before .before .before .before .before .before .before .before .before .before .before .before .before .loop-test .taken)
 
 loop-again-2 : tie.Need-loop-again-2 Inv-loop μ-loop
 loop-again-2 c =
-    let inv = c .before .before .before .before .before .before .before .before .before .before .before .before .before .before .before .before .before .before .before .before .before .before .before .before .before .before .before .before .loop .inv in (
-      omega (arith, c .before .before .before .before .before .before .before .before .before .before .before .before .before .before .before .before .before .before .before .before .before .before .before .before .before .before .before .loop-test .taken),
+    let inv = c .before .before .before .before .before .before .before .before .before .before .before .before .before .before .before .before .before .before .before .before .before .before .before .before .before .before .before .before .before .loop .inv in (
+      omega (arith, c .before .before .before .before .before .before .before .before .before .before .before .before .before .before .before .before .before .before .before .before .before .before .before .before .before .before .before .before .loop-test .taken),
       omega (arith, inv .1),
-      search (needs, inv .2, c .before .before .before .before .before .before .before .before .before .before .before .before .before .before .before .before .before .before .before .before .before .before .before .value),
+      search (needs, inv .2, c .before .before .before .before .before .before .before .before .before .before .before .before .before .before .before .before .before .before .before .before .before .before .before .before .value),
       search (needs, inv .3),
-      search (needs, inv .4, c .before .before .before .before .before .before .before .before .before .before .before .pages),
+      search (needs, inv .4, c .before .before .before .before .before .before .before .before .before .before .before .before .pages),
       search (needs, inv .5),
-      search (needs, inv .6, c .before .before .before .before .before .before .before .before .before .logs),
-      search (needs, inv .7, c .before .before .before .before .before .before .before .work),
+      search (needs, inv .6, c .before .before .before .before .before .before .before .before .before .before .logs),
+      search (needs, inv .7, c .before .before .before .before .before .before .before .before .work),
     )
 
 pub all-updated-spec : {M : Type 1} → statement M
