@@ -1,5 +1,5 @@
--- The promises on the logs, on what the state says of them and on what updates and aborts answer (specs/LogPromise.antt), and the commit point (specs/Promise.antt), for
--- traces of the code's own calls (specs/Trace.antt).
+-- The promises on the logs, on what the state says of them and on what updates and aborts answer (specs/LogPromise.antt), and the commit
+-- point (specs/Promise.antt), for traces of the code's own calls (specs/Trace.antt).
 use mathlib.Core.Path.{_≡_}
 use Prim.Native.Nat.{ℕ, _+_, _≤_, _<_}
 use mathlib.Core.List.{List, [], _∷_}
