@@ -1,30 +1,20 @@
 -- What is known of a decoded record, and which words it depends on.
 use Prim.Native.Nat.{ℕ, _+_, _/_, _≤_, _<_}
-use mathlib.Core.Path.{_≡_, refl, ap, subst}
+use mathlib.Core.Path.{_≡_, refl, subst}
 use mathlib.Core.Bool.{false}
 use native.Mathlib.Omega.{arith}
 use lib.Dec.{ltb, eqb}
-use borrow.Author.Tests.{lt-ltb, le-ltb, ltb-true, ltb-false, leb-false, eqb-true, eqb-false, not-false}
+use borrow.Author.Tests.{ltb-true, ltb-false, leb-false, eqb-true, eqb-false, not-false}
 use Rattle.model.specs.declared.Sizes.{Sizes}
+use Rattle.model.specs.declared.RecordSize.{RecordSize}
+use Rattle.model.specs.declared.RecordSize.the-variants.{Words, NoKind}
 use Rattle.model.specs.declared.Decoded.{Decoded}
 use Rattle.model.specs.declared.Decoded.the-variants.{Change, Close, Malformed}
 use Rattle.model.specs.Sizes.{slotsIn, widthIn}
-use Rattle.model.specs.Record.{wordsOf}
-use Rattle.model.specs.Decode.{kindField, pageField, slotField, widthField, misplaced, decodeWords, decodeAt}
+use Rattle.model.specs.Record.{recordSize}
+use Rattle.model.specs.Decode.{kindField, pageField, slotField, widthField, misplaced, decodeSized, decodeWords, decodeAt}
 use Rattle.model.proofs.Booleans.{or-none, cond-all, cond-cong}
-
--- the words of a record by its kind
-pub words-change : (kind width : ℕ) → kind < 2 → wordsOf kind width ≡ 3 + width
-unfolding wordsOf
-words-change kind width h = simp (lt-ltb kind 2 h)
-
-pub words-close : (kind width : ℕ) → 2 ≤ kind → wordsOf kind width ≡ 2
-unfolding wordsOf
-words-close kind width h = simp (le-ltb kind 2 h)
-
-pub words-ge : (kind width : ℕ) → 2 ≤ wordsOf kind width
-unfolding wordsOf
-words-ge kind width = cond-all (λ (x : ℕ). 2 ≤ x) (ltb kind 2) (λ e. omega arith) (λ e. omega arith)
+use Rattle.model.proofs.RecordSizes.{sized}
 
 -- A change decoded at p: its fields are the page's, and it ends at or before the stop.
 pub record ChangeAt (s : Sizes) (stop p kind page slot number width next : ℕ) : Type 0 where
@@ -67,42 +57,53 @@ in-place s w e =
       width-eq = eqb-true _ _ (not-false _ (both .1));
     }
 
+-- What is decoded is a change, a closing record or malformed. A property of it is shown for the three: the first two with all that the
+-- tests have asked.
+pub record Formed (stop p number size : ℕ) : Type 0 where
+  pub fits : p + size ≤ stop
+  pub numbered : number ≡ 0 → ⊥
+
+module _ (P : Decoded → Type 0) (s : Sizes) (stop p w number copy : ℕ) where
+  pub decoded-all : P Malformed
+      → (kindField w < 2 → Formed stop p number (3 + widthField w) → misplaced s w ≡ false
+      → P (Change (kindField w) (pageField w) (slotField w) number copy (widthField w) (p + (3 + widthField w))))
+      → (2 ≤ kindField w → kindField w < 4 → Formed stop p number 2 → w / 8 ≡ 0 → P (Close (kindField w) number (p + 2)))
+      → P (decodeWords s stop p w number copy)
+  unfolding decodeWords
+  decoded-all none changed closed = go (recordSize (kindField w) (widthField w)) refl
+    where
+      go : (z : RecordSize) → recordSize (kindField w) (widthField w) ≡ z → P (decodeSized s stop p w number copy z)
+      go NoKind e = none
+      go (Words n) e =
+          let is = sized (kindField w) (widthField w) n e in
+          cond-all P (ltb stop (p + n)) (λ _. none)
+          (λ l. cond-all P (eqb number 0) (λ _. none)
+          (λ pos.
+          let formed : Formed stop p number n = record { fits = ltb-false _ _ l; numbered = eqb-false number 0 pos } in
+          cond-all P (ltb (kindField w) 2)
+          (λ k. cond-all P (misplaced s w) (λ _. none)
+          (λ m. let long = is .change (ltb-true _ _ k) in rw long (changed (ltb-true _ _ k) (rw long at formed) m)))
+          (λ k. cond-all P (eqb (w / 8) 0)
+          (λ z. let short = is .close (ltb-false _ _ k) in rw short (closed (ltb-false _ _ k) (is .kind-lt) (rw short at formed) (eqb-true _ _ z)))
+          (λ _. none))))
+
 found-words : (s : Sizes) (stop p w number copy : ℕ) → Found s stop p (decodeWords s stop p w number copy)
-unfolding decodeWords
 found-words s stop p w number copy =
-    cond-all P (ltb 3 (kindField w)) (λ _. tt)
-    (λ k3. cond-all P (ltb stop (p + size)) (λ _. tt)
-    (λ fits. cond-all P (eqb number 0) (λ _. tt)
-    (λ pos. cond-all P (ltb (kindField w) 2)
-    (λ k. cond-all P (misplaced s w) (λ _. tt)
-    (λ m.
+    decoded-all (λ (d : Decoded). Found s stop p d) s stop p w number copy tt
+    (λ k f m.
     let i = in-place s w m in
     record {
-      kind-lt = ltb-true _ _ k;
+      kind-lt = k;
       page-in = i .page-in;
       page-lt = omega arith;
       slot-in = i .slot-in;
       slot-lt = omega arith;
-      number-pos = omega (arith, eqb-false number 0 pos);
+      number-pos = omega (arith, f .numbered);
       width-eq = i .width-eq;
-      next-eq = ap (λ (x : ℕ). p + x) (words-change (kindField w) (widthField w) (ltb-true _ _ k));
-      next-le = ltb-false _ _ fits;
-    }))
-    (λ k. cond-all P (eqb (w / 8) 0)
-    (λ z. record {
-      kind-ge = ltb-false _ _ k;
-      kind-lt = omega (arith, ltb-false 3 (kindField w) k3);
-      number-pos = omega (arith, eqb-false number 0 pos);
-      next-eq = ap (λ (x : ℕ). p + x) (words-close (kindField w) (widthField w) (ltb-false _ _ k));
-      next-le = ltb-false _ _ fits;
+      next-eq = refl;
+      next-le = f .fits;
     })
-    (λ _. tt)))))
-  where
-    P : Decoded → Type 0
-    P d = Found s stop p d
-
-    size : ℕ
-    size = wordsOf (kindField w) (widthField w)
+    (λ k l f z. record { kind-ge = k; kind-lt = l; number-pos = omega (arith, f .numbered); next-eq = refl; next-le = f .fits })
 
 -- what is found at a position is a record of the sizes, and ends at or before the stop
 pub found : (s : Sizes) (read : ℕ → ℕ) (stop p : ℕ) → Found s stop p (decodeAt s read stop p)
@@ -123,19 +124,20 @@ module _ (s : Sizes) (read : ℕ → ℕ) (stop : ℕ) where
 words-cong : (s : Sizes) (stop p w m n e f : ℕ) → (p + 2 ≤ stop → m ≡ n) → (p + 3 ≤ stop → e ≡ f)
     → decodeWords s stop p w m e ≡ decodeWords s stop p w n f
 unfolding decodeWords
-words-cong s stop p w m n e f number copy =
-    cond-cong (ltb 3 (kindField w)) (λ _. refl)
-    (λ _. cond-cong (ltb stop (p + size)) (λ _. refl)
-    (λ l.
-    let fits : p + size ≤ stop = ltb-false _ _ l in
-    let same : m ≡ n = number (omega (arith, words-ge (kindField w) (widthField w))) in
-    rw same (cond-cong (eqb n 0) (λ _. refl)
-    (λ _. cond-cong (ltb (kindField w) 2)
-    (λ k. let three = words-change (kindField w) (widthField w) (ltb-true _ _ k) in rw (copy (omega arith)))
-    (λ _. refl)))))
+words-cong s stop p w m n e f number copy = go (recordSize (kindField w) (widthField w)) refl
   where
-    size : ℕ
-    size = wordsOf (kindField w) (widthField w)
+    go : (z : RecordSize) → recordSize (kindField w) (widthField w) ≡ z → decodeSized s stop p w m e z ≡ decodeSized s stop p w n f z
+    go NoKind is = refl
+    go (Words size) is =
+        let known = sized (kindField w) (widthField w) size is in
+        cond-cong (ltb stop (p + size)) (λ _. refl)
+        (λ l.
+        let fits : p + size ≤ stop = ltb-false _ _ l in
+        let same : m ≡ n = number (omega (arith, known .least)) in
+        rw same (cond-cong (eqb n 0) (λ _. refl)
+        (λ _. cond-cong (ltb (kindField w) 2)
+        (λ k. let three = known .change (ltb-true _ _ k) in rw (copy (omega arith)))
+        (λ _. refl))))
 
 pub decode-cong : (s : Sizes) (read other : ℕ → ℕ) (stop p : ℕ) → p < stop
     → ((q : ℕ) → p ≤ q → q < stop → read q ≡ other q) → decodeAt s read stop p ≡ decodeAt s other stop p

@@ -21,6 +21,7 @@ pub mod Xor
 pub mod Ones
 pub mod Differential
 pub mod Reader
+pub mod RecordSizes
 pub mod Decode
 pub mod Scan
 pub mod RingThenBuffer

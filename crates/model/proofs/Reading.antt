@@ -3,19 +3,18 @@ use mathlib.Core.Path.{_≡_, refl}
 use mathlib.Core.Logic.{_⊎_, inl, inr}
 use mathlib.Core.List.{List, [], _∷_}
 use mathlib.Core.Bool.{Bool, true, false, cond}
-use Prim.Native.Nat.{ℕ, zero, suc, _+_, _-_, _/_, _≤_, _<_}
+use Prim.Native.Nat.{ℕ, zero, suc, _+_, _-_, _≤_, _<_}
 use native.Mathlib.Omega.{arith}
-use lib.Dec.{ltb, eqb}
+use lib.Dec.{ltb}
 use borrow.Author.Tests.{ltb-true, ltb-false}
 use Rattle.model.specs.declared.Sizes.{Sizes}
 use Rattle.model.specs.declared.Decoded.{Decoded}
 use Rattle.model.specs.declared.Decoded.the-variants.{Change, Close, Malformed}
-use Rattle.model.specs.Record.{Record, change, close, wordsOf}
-use Rattle.model.specs.Decode.{span, kindField, widthField, misplaced, decodeWords, decodeAt}
+use Rattle.model.specs.Record.{Record, change, close}
+use Rattle.model.specs.Decode.{span, decodeAt}
 use Rattle.model.specs.Scan.{Scan, end, bad, item, scanned, scanAtMost, scan}
 use Rattle.model.proofs.Members.{Every, every-nil, every-cons}
-use Rattle.model.proofs.Booleans.{cond-all}
-use Rattle.model.proofs.Decode.{words-ge}
+use Rattle.model.proofs.Decode.{decoded-all}
 
 -- A record of a log with its position, and all of them.
 pub record Item : Type 0 where
@@ -60,17 +59,9 @@ Past p (Close kind number next) = p < next
 Past p Malformed = Unit {0}
 
 past : (s : Sizes) (read : ℕ → ℕ) (stop p : ℕ) → Past p (decodeAt s read stop p)
-unfolding decodeAt decodeWords
+unfolding decodeAt
 past s read stop p =
-    let w = read p in
-    let size = words-ge (kindField w) (widthField w) in
-    let P : Decoded → Type 0 = λ d. Past p d in
-    cond-all P (ltb 3 (kindField w)) (λ _. tt)
-    (λ _. cond-all P (ltb stop (p + wordsOf (kindField w) (widthField w))) (λ _. tt)
-    (λ _. cond-all P (eqb (read (p + 1)) 0) (λ _. tt)
-    (λ _. cond-all P (ltb (kindField w) 2)
-    (λ _. cond-all P (misplaced s w) (λ _. tt) (λ _. omega arith))
-    (λ _. cond-all P (eqb (w / 8) 0) (λ _. omega arith) (λ _. tt)))))
+    decoded-all (λ (d : Decoded). Past p d) s stop p (read p) (read (p + 1)) (read (p + 2)) tt (λ k f m. omega arith) (λ k l f z. omega arith)
 
 module _ (s : Sizes) (read : ℕ → ℕ) (stop : ℕ) where
   reads-at-most : (n p : ℕ) → stop - p ≤ n → Reads s read stop p (scanAtMost s read stop n p)

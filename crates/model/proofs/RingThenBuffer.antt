@@ -9,11 +9,13 @@ use native.Mathlib.Decide.{decLt}
 use lib.Dec.{ltb}
 use borrow.Author.Tests.{le-ltb, ltb-false}
 use Rattle.model.specs.declared.Sizes.{Sizes}
+use Rattle.model.specs.declared.RecordSize.{RecordSize}
+use Rattle.model.specs.declared.RecordSize.the-variants.{Words, NoKind}
 use Rattle.model.specs.declared.Decoded.{Decoded}
 use Rattle.model.specs.declared.Decoded.the-variants.{Change, Close, Malformed}
 use Rattle.model.specs.declared.Fault.{Fault}
-use Rattle.model.specs.Record.{change, close, wordsOf}
-use Rattle.model.specs.Decode.{span, kindField, widthField, decodeWords, decodeAt}
+use Rattle.model.specs.Record.{change, close, recordSize}
+use Rattle.model.specs.Decode.{span, kindField, widthField, decodeSized, decodeWords, decodeAt}
 use Rattle.model.specs.Scan.{Scan, end, bad, item, scan, andThen, ringThenBuffer, faultIn}
 use Rattle.model.proofs.Members.{Every, every-cons}
 use Rattle.model.proofs.Decode.{found-change, found-close}
@@ -49,19 +51,21 @@ then-rises m k (item p r more) b l h low g =
     (h .0, then-rises (suc p) k more b (low _ (List·Memᴰ·head refl)) (h .1) (λ i x. low i (List·Memᴰ·tail x)) g)
 
 -- A record that ends before the tail is the same where the log goes on behind it.
-further : (a b c : Bool) (x : Decoded) → (cond a Malformed (cond b Malformed x) ≡ Malformed → ⊥) → (b ≡ false → c ≡ false)
-    → cond a Malformed (cond c Malformed x) ≡ cond a Malformed (cond b Malformed x)
-further true b c x formed later = refl
-further false true c x formed later = absurd (formed refl)
-further false false c x formed later = rw (later refl)
+further : (b c : Bool) (x : Decoded) → (cond b Malformed x ≡ Malformed → ⊥) → (b ≡ false → c ≡ false) → cond c Malformed x ≡ cond b Malformed x
+further true c x formed later = absurd (formed refl)
+further false c x formed later = rw (later refl) refl
 
 module _ (s : Sizes) (read : ℕ → ℕ) (tail stop : ℕ) (within : tail ≤ stop) where
   decode-further : (p : ℕ) → (decodeAt s read tail p ≡ Malformed → ⊥) → decodeAt s read stop p ≡ decodeAt s read tail p
   unfolding decodeAt decodeWords
-  decode-further p formed =
-      let w = read p in
-      let next : ℕ = p + wordsOf (kindField w) (widthField w) in
-      further (ltb 3 (kindField w)) (ltb tail next) (ltb stop next) _ formed (λ e. le-ltb stop next (omega (arith, ltb-false tail next e)))
+  decode-further p formed = go (recordSize (kindField (read p)) (widthField (read p))) formed
+    where
+      at : ℕ → RecordSize → Decoded
+      at to z = decodeSized s to p (read p) (read (p + 1)) (read (p + 2)) z
+
+      go : (z : RecordSize) → (at tail z ≡ Malformed → ⊥) → at stop z ≡ at tail z
+      go NoKind h = refl
+      go (Words n) h = further (ltb tail (p + n)) (ltb stop (p + n)) _ h (λ e. le-ltb stop (p + n) (omega (arith, ltb-false tail (p + n) e)))
 
   -- Where no record that begins before the tail is malformed, or none at all, the log is read as one.
   through : (n p : ℕ) → tail - p ≤ n → p ≤ tail → ending (scan s read tail p) ≡ end

@@ -14,7 +14,7 @@ use Rattle.model.specs.Decode.{readLog, span, kindField, pageField, slot
 use Rattle.model.specs.Scan.{Update, end, item, scan, placed, updatesIn}
 use Rattle.model.specs.World.{World, perform, each}
 use Rattle.model.specs.Append.{storeLog}
-use Rattle.model.proofs.Decode.{words-change, words-close}
+use Rattle.model.proofs.RecordSizes.{size-change, size-close}
 use Rattle.model.proofs.Reader.{Holds, holds-append, holds-agree, span-holds, read-ring, read-holds}
 use Rattle.model.proofs.Scan.{scan-end, scan-change, scan-close}
 use Rattle.model.proofs.Ring.{lay-holds}
@@ -61,7 +61,6 @@ module _ (s : Sizes) (stop p : ℕ) where
       ≡ Change kind page slot number copy (length diff) (p + (3 + length diff))
   unfolding decodeWords misplaced
   decode-change-words kind page slot number copy diff f l =
-      let k3 : kind ≤ 3 = omega arith in
       let nz : ¬ (number ≡ 0) = omega arith in
       let h = fields-of kind page slot (length diff) (omega arith) (f .page-lt) (f .slot-lt) in
       simp (
@@ -69,8 +68,7 @@ module _ (s : Sizes) (stop p : ℕ) where
         h .page-is,
         h .slot-is,
         h .width-is,
-        words-change kind (length diff) (f .kind-lt),
-        le-ltb 3 kind k3,
+        size-change kind (length diff) (f .kind-lt),
         lt-ltb kind 2 (f .kind-lt),
         le-ltb stop (p + (3 + length diff)) l,
         ne-eqb number 0 nz,
@@ -86,14 +84,12 @@ module _ (s : Sizes) (stop p : ℕ) where
       let w : kind + 8 * 0 + 512 * 0 + 65536 * 0 ≡ kind = omega arith in
       let e : kind % 8 ≡ kind = omega arith in
       let z : kind / 8 ≡ 0 = omega arith in
-      let k3 : kind ≤ 3 = omega arith in
       let nz : ¬ (number ≡ 0) = omega arith in
       simp (
         w,
         e,
         z,
-        words-close kind (kind / 65536) (f .kind-ge),
-        le-ltb 3 kind k3,
+        size-close kind (kind / 65536) (f .kind-ge) (f .kind-lt),
         le-ltb kind 2 (f .kind-ge),
         le-ltb stop (p + 2) l,
         ne-eqb number 0 nz,

@@ -5,10 +5,12 @@ use mathlib.Core.Bool.{Bool, cond, not, _||_}
 use lib.ListN.{length, getD}
 use lib.Dec.{leb, ltb, eqb}
 use Rattle.model.specs.declared.Sizes.{Sizes}
+use Rattle.model.specs.declared.RecordSize.{RecordSize}
+use Rattle.model.specs.declared.RecordSize.the-variants.{Words, NoKind}
 use Rattle.model.specs.declared.Decoded.{Decoded}
 use Rattle.model.specs.declared.Decoded.the-variants.{Change, Close, Malformed}
 use Rattle.model.specs.Sizes.{slotsIn, widthIn, ringWord}
-use Rattle.model.specs.Record.{Record, change, close, wordsOf}
+use Rattle.model.specs.Record.{Record, change, close, recordSize}
 
 -- A log is read through a function from position to word: below the tail the ring's word, from the tail on the buffer's.
 unfoldable pub readLog : Sizes → List ℕ → ℕ → ℕ → List ℕ → ℕ → ℕ
@@ -38,21 +40,24 @@ misplaced s w =
     leb (s .pages) (pageField w) || leb (slotsIn s (pageField w)) (slotField w)
     || not (eqb (widthField w) (widthIn s (pageField w)))
 
--- a record whose first three words are w, number and copy, at position p of a log that ends at `end` (round-trip in
--- proofs/RoundTrip.antt: what was encoded is decoded)
-unfoldable pub decodeWords : Sizes → ℕ → ℕ → ℕ → ℕ → ℕ → Decoded
-decodeWords s end p w number copy =
-    -- "kind above 3"
-    cond (ltb 3 (kindField w)) Malformed
+-- a record of this size, whose first three words are w, number and copy, at position p of a log that ends at `end`
+abbrev pub decodeSized : Sizes → ℕ → ℕ → ℕ → ℕ → ℕ → RecordSize → Decoded
+-- "kind above 3"
+decodeSized s end p w number copy NoKind = Malformed
+decodeSized s end p w number copy (Words n) =
     -- "end past the tail"
-    (cond (ltb end (p + wordsOf (kindField w) (widthField w))) Malformed
+    cond (ltb end (p + n)) Malformed
     -- "number 0"
     (cond (eqb number 0) Malformed
     (cond (ltb (kindField w) 2)
     (cond (misplaced s w) Malformed
-    (Change (kindField w) (pageField w) (slotField w) number copy (widthField w) (p + wordsOf (kindField w) (widthField w))))
+    (Change (kindField w) (pageField w) (slotField w) number copy (widthField w) (p + n)))
     -- "set fields in a close"
-    (cond (eqb (w / 8) 0) (Close (kindField w) number (p + wordsOf (kindField w) (widthField w))) Malformed))))
+    (cond (eqb (w / 8) 0) (Close (kindField w) number (p + n)) Malformed)))
+
+-- a record by its first three words (round-trip in proofs/RoundTrip.antt: what was encoded is decoded)
+unfoldable pub decodeWords : Sizes → ℕ → ℕ → ℕ → ℕ → ℕ → Decoded
+decodeWords s end p w number copy = decodeSized s end p w number copy (recordSize (kindField w) (widthField w))
 
 unfoldable pub decodeAt : Sizes → (ℕ → ℕ) → ℕ → ℕ → Decoded
 decodeAt s read end p = decodeWords s end p (read p) (read (p + 1)) (read (p + 2))

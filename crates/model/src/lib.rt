@@ -82,6 +82,12 @@ pub enum Answer {
     },
 }
 
+// How many words a record of a kind has, or that there is no such kind.
+pub enum RecordSize {
+    Words { n: u64 },
+    NoKind,
+}
+
 // What stands at a position of a log.
 pub enum Decoded {
     Change {

@@ -17,6 +17,7 @@ use Rattle.model.specs.Causes.{whenServing}
 use Rattle.model.specs.Append.{append}
 use Rattle.model.specs.Transaction.{diskOf, beginRows, begun, beginTask, slotWords, updateRecord, updated, updateRows, updateTask, commitRows, commitTask}
 use Rattle.model.proofs.Xor.{length-xors}
+use Rattle.model.proofs.RecordSizes.{words-change}
 use Rattle.model.proofs.Bounds.{bounded}
 use Rattle.model.proofs.Store.Rows.{serving-sound, sizes-sound, next-sound, disk-sound}
 use Rattle.model.proofs.Sound.Test.{Sized, Passing}
@@ -54,13 +55,13 @@ begin-passes c w sized s ok =
 -- the words of an update record, at most those that its room was found for
 update-words : (c : Core) (w : World) (number page slot : ℕ) (value : List ℕ) → length value ≡ widthIn (c .sizes) page
     → length (encode (updateRecord c w number page slot value)) ≤ wordsOf updateKind (widthIn (c .sizes) page)
-unfolding encode updateRecord wordsOf
+unfolding encode updateRecord
 update-words c w number page slot value long =
-    omega (arith, length-xors (slotWords c w page slot) value)
+    omega (arith, length-xors (slotWords c w page slot) value, words-change updateKind (widthIn (c .sizes) page) (omega arith))
 
 short-words : (c : Core) (page : ℕ) → servingSound c ≡ true → page < c .sizes .pages → wordsOf updateKind (widthIn (c .sizes) page) ≤ 35
-unfolding wordsOf
-short-words c page ok h = omega (arith, bounded (c .sizes) (sizes-sound c ok) .used page h .width-max)
+short-words c page ok h =
+    omega (arith, words-change updateKind (widthIn (c .sizes) page) (omega arith), bounded (c .sizes) (sizes-sound c ok) .used page h .width-max)
 
 module _ (c : Core) (serving : whenServing (c .stage) ≡ true) (s : sound c ≡ true) (sized : Sized c) (number : ℕ)
     (o : isOpen (c .table) number ≡ true) (r : ℕ) (l : Logs) (g : Longer (c .sizes) (diskOf c number) r (c .logs) l) where

@@ -9,7 +9,7 @@ use borrow.Author.Tests.{leb-false, ne-eqb}
 use Rattle.model.specs.declared.Table.{Table}
 use Rattle.model.specs.declared.Core.{Core}
 use Rattle.model.specs.Sizes.{widthIn, slotBase, ringOf}
-use Rattle.model.specs.Record.{Record, encode, wordsOf}
+use Rattle.model.specs.Record.{Record, encode, updateKind}
 use Rattle.model.specs.World.{World, Action, write, pages, work, cost, act, perform, stores, run, finishes, each}
 use Rattle.model.specs.Memory.{ownerAt, ownerOf}
 use Rattle.model.specs.State.{limit, keptOf, endOf, withLog, isOpen, placeOf, firstAt, reservedAt, hasUpdate, withPlace, servingSound, sound, slotPlace, baseOf, withReserved, reservedOn}
@@ -19,6 +19,7 @@ use Rattle.model.specs.Transaction.{diskOf, slotWords, updateRecord, upd
 use Rattle.model.specs.Call.{update}
 use Rattle.model.specs.Reference.{Reference, afterTaken}
 use Rattle.model.specs.History.{Told, also, putBy}
+use Rattle.model.proofs.RecordSizes.{words-change}
 use Rattle.model.proofs.Bounds.{bounded}
 use Rattle.model.proofs.KeptBases.{place-kept, lock-of}
 use Rattle.model.proofs.Run.{perform-append, perform-pages, run-cut, stores-append, stores-written}
@@ -66,8 +67,9 @@ module _ {c : Core} {w : World} {number page slot : ℕ} {value : List ℕ} (s :
   -- the record fits the ring and the bound of positions
   update-room : (endOf (c .logs) (diskOf c number) + (3 + widthIn (c .sizes) page) ≤ keptOf (c .logs) (diskOf c number) + ringOf (c .sizes) (diskOf c number))
       × (endOf (c .logs) (diskOf c number) + (3 + widthIn (c .sizes) page) ≤ limit)
-  unfolding wordsOf
-  update-room = (omega (arith, a .room .ring), omega (arith, a .room .top))
+  update-room =
+      let size = words-change updateKind (widthIn (c .sizes) page) (omega arith) in
+      (omega (arith, a .room .ring, size), omega (arith, a .room .top, size))
 
 -- cut before a part without stores, a list is cut inside what stands before it
 cut-short : (budget : ℕ) (l m : List Action) → stores m ≡ 0 → finishes budget (l ++ m) ≡ false → budget < stores l
