@@ -51,7 +51,7 @@ length-read read p = length-span read (p + 3) (widthField (read p))
 
 -- each has four words or more
 pub four-each : (read : ℕ → ℕ) (ps : List ℕ) → Every (λ p. 1 ≤ widthField (read p)) ps → 4 * length ps ≤ updateWords (lastFirst (updateRead read) ps)
-unfolding lastFirst updateWords
+unfolding lastFirst
 four-each read [] h = omega arith
 four-each read (p ∷ ps) h =
     omega (

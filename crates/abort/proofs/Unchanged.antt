@@ -109,7 +109,7 @@ pub undo-reads : (s : Sizes) (l : Logs) (w : World) (number disk : ℕ) (us : Li
     → reader s (undoAll s l w number disk us .logs) disk (perform (undoAll s l w number disk us .actions) w .logs)
     (perform (undoAll s l w number disk us .actions) w .work) q
     ≡ reader s l disk (w .logs) (w .work) q
-unfolding undoAll updateWords perform
+unfolding undoAll perform
 undo-reads s l w number disk [] sized small used below disk-fits buffer-fits short q before room = refl
 undo-reads s l w number disk (u ∷ us) sized small used below disk-fits buffer-fits short q before room =
     let one : Appended = compensate s l w number disk u in

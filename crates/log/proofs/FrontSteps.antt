@@ -38,7 +38,7 @@ pub record Step (s : Sizes) (t : ℕ) (here : Scan) (p size : ℕ) (b : Bool) (r
 module _ (s : Sizes) (t : ℕ) (read : ℕ → ℕ) (p : ℕ) where
   step-change : (kind page slot n copy width : ℕ) → (sizesInBounds s ≡ true → 1 ≤ width) → (rest : Scan)
       → Step s t (item p (change kind page slot n copy (span read (p + 3) width)) rest) p (3 + width) (eqb kind updateKind && eqb n t) rest
-  unfolding positionsIn updatesIn updateWords faultIn
+  unfolding positionsIn updatesIn faultIn
   step-change kind page slot n copy width some rest =
       record {
         positions = refl;
@@ -55,7 +55,7 @@ module _ (s : Sizes) (t : ℕ) (read : ℕ → ℕ) (p : ℕ) where
       go false = refl
 
   step-close : (kind n : ℕ) {b : Bool} → b ≡ false → (rest : Scan) → Step s t (item p (close kind n) rest) p 2 b rest
-  unfolding positionsIn updatesIn updateWords faultIn
+  unfolding positionsIn updatesIn faultIn
   step-close kind n e rest = rw e (record { positions = refl; words = omega arith; faults = λ disk f. refl; four = λ sound x. true-false x refl })
 
 -- At p stands a record, and behind it the rest.

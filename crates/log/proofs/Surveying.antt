@@ -96,11 +96,11 @@ module _ (t : ℕ) (log : ℕ → Scan) (from : ℕ) where
 
     -- at the end, and at a malformed record
     pub surveyed-end : (disk : ℕ) → log p ≡ end → Surveyed disk t log from (record { fault = NoFault; count = count; words = words }) notes
-    unfolding positionsIn updatesIn updateWords faultIn
+    unfolding positionsIn updatesIn faultIn
     surveyed-end disk e = surveyed disk (rw e refl) (rw e refl) (rw e refl)
 
     pub surveyed-bad : (disk : ℕ) → log p ≡ bad p → Surveyed disk t log from (record { fault = BadRecord disk p; count = count; words = words }) notes
-    unfolding positionsIn updatesIn updateWords faultIn
+    unfolding positionsIn updatesIn faultIn
     surveyed-bad disk e = surveyed disk (rw e refl) (rw e refl) (rw e refl)
 
 -- n updates gathered, one at a time: so many are, and the others are found from p on

@@ -1,22 +1,25 @@
 -- A transaction's updates as an abort finds them: all of them, and the newest first.
-use mathlib.Core.Path.{_≡_, refl, sym, ap}
+use mathlib.Core.Path.{_≡_, refl, ap}
 use mathlib.Core.Logic.{_⊎_, inl, inr}
 use mathlib.Core.List.{List, [], _∷_, _++_, List·Memᴰ, List·Memᴰ·head, List·Memᴰ·tail, List·Memᴰ·not-nil, List·Memᴰ·cases-cons, append-nil, Memᴰ·append-left, Memᴰ·append-right}
 use mathlib.Core.Bool.{Bool, true, false, and-eq-true-iff, cond, _&&_}
 use Prim.Native.Nat.{ℕ, suc, _+_, _≤_, _<_, _-_}
 use native.Mathlib.Omega.{arith}
-use native.Mathlib.Nat.{zero-add}
+use lib.ListN.{length}
 use lib.Dec.{eqb, ltb}
 use borrow.Author.Tests.{eqb-true, eq-eqb, ltb-false}
 use Rattle.model.specs.Causes.{faultRow}
 use Rattle.model.specs.declared.Fault.the-variants.{NoFault, BadRecord}
 use Rattle.model.specs.declared.Core.{Core}
-use Rattle.model.specs.Record.{Record, change, close, updateKind}
+use Rattle.model.specs.Below.{sumOver}
+use Rattle.model.specs.Record.{Record, change, close, wordsOf, updateKind}
 use Rattle.model.specs.Scan.{Scan, end, bad, item, ringThenBuffer, Update, updatesIn, updateWords}
 use Rattle.model.specs.World.{World}
 use Rattle.model.specs.State.{placeOf, isOpen, firstAt, hasUpdate, reservedAt}
 use Rattle.model.specs.Transaction.{diskOf}
 use Rattle.model.specs.Abort.{abortScan, updatesLeft, abortFault}
+use Rattle.model.proofs.Below.{sum-append}
+use Rattle.model.proofs.RecordSizes.{words-change}
 use Rattle.model.proofs.Members.{Every, every-nil, every-cons, every-append}
 use Rattle.model.proofs.Reading.{Item, items, Rises}
 use Rattle.model.proofs.RingThenBuffer.{parts-rise}
@@ -151,11 +154,18 @@ module _ (number : ℕ) where
       go true f = falls-last (updatesIn number rest) u f (updates-above (suc p) rest (h .1))
       go false f = rw append-nil f
 
--- the words of two lists of updates
+-- the words of no update, of one more, and of two lists
+pub update-words-none : updateWords [] ≡ 0
+unfolding updateWords sumOver
+update-words-none = refl
+
+pub update-words-first : (u : Update) (us : List Update) → updateWords (u ∷ us) ≡ 3 + length (u .diff) + updateWords us
+unfolding updateWords sumOver
+update-words-first u us = ap (λ (n : ℕ). n + updateWords us) (words-change updateKind (length (u .diff)) (omega arith))
+
 pub update-words-append : (us vs : List Update) → updateWords (us ++ vs) ≡ updateWords us + updateWords vs
 unfolding updateWords
-update-words-append [] vs = sym (zero-add (updateWords vs))
-update-words-append (u ∷ us) vs = omega (arith, update-words-append us vs)
+update-words-append us vs = sum-append (λ u. wordsOf updateKind (length (u .diff))) us vs
 
 -- What an abort reads is a log from its transaction's first record on, up to the tail and then on, or nothing.
 pub abort-reads : (P : Scan → Type 0) (c : Core) (w : World) (number : ℕ) → P end

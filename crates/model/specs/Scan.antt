@@ -11,7 +11,8 @@ use Rattle.model.specs.declared.Fate.{Fate}
 use Rattle.model.specs.declared.Fate.the-variants.{Closed, Unclosed, Unreadable}
 use Rattle.model.specs.declared.Fault.{Fault}
 use Rattle.model.specs.declared.Fault.the-variants.{BadRecord}
-use Rattle.model.specs.Record.{Record, change, close, encode, updateKind}
+use Rattle.model.specs.Below.{sumOver}
+use Rattle.model.specs.Record.{Record, change, close, encode, wordsOf, updateKind}
 use Rattle.model.specs.Decode.{decodeAt, span}
 
 -- A log as it is read: each record with its position, up to the end or to the first malformed one.
@@ -87,8 +88,7 @@ updatesIn number (item p (change kind page slot n copy diff) rest) =
 
 -- the words of their records
 unfoldable pub updateWords : List Update → ℕ
-updateWords [] = 0
-updateWords (u ∷ us) = 3 + length (u .diff) + updateWords us
+updateWords us = sumOver (λ u. wordsOf updateKind (length (u .diff))) us
 
 -- the position of the oldest of them, 0 where there is none
 unfoldable pub oldest : List Update → ℕ

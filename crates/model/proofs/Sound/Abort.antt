@@ -23,7 +23,7 @@ use Rattle.model.specs.Abort.{updatesLeft, abortRows, compensate, undoAl
 use Rattle.model.proofs.Members.{Every, every-nil}
 use Rattle.model.proofs.Reading.{items, Decodes, scan-items}
 use Rattle.model.proofs.RingThenBuffer.{parts-items}
-use Rattle.model.proofs.Updates.{updates-from, abort-reads}
+use Rattle.model.proofs.Updates.{updates-from, update-words-none, update-words-first, abort-reads}
 use Rattle.model.proofs.Decode.{found-change}
 use Rattle.model.proofs.Bounds.{Bounded, bounded}
 use Rattle.model.proofs.Restart.Gain.{length-span}
@@ -70,13 +70,14 @@ one-grown s l w number d u sized small below short =
 
 pub undo-grown : (s : Sizes) (l : Logs) (w : World) (number d : ℕ) (us : List Update) → SizedLogs l → Small s l → d < 8
     → Every (λ u. length (u .diff) ≤ 32) us → Longer s d (updateWords us) l (undoAll s l w number d us .logs)
-unfolding undoAll updateWords
-undo-grown s l w number d [] sized small below short = longer-none l sized small
+unfolding undoAll
+undo-grown s l w number d [] sized small below short = rw update-words-none (longer-none l sized small)
 undo-grown s l w number d (u ∷ us) sized small below short =
     let one : Appended = compensate s l w number d u in
     let first = one-grown s l w number d u sized small below (short u (List·Memᴰ·head refl)) in
-    longer-then first
-    (undo-grown s (one .logs) (perform (one .actions) w) number d us (first .sized) (first .small) below (λ v m. short v (List·Memᴰ·tail m)))
+    rw (update-words-first u us)
+    (longer-then first
+    (undo-grown s (one .logs) (perform (one .actions) w) number d us (first .sized) (first .small) below (λ v m. short v (List·Memᴰ·tail m))))
 
 -- The log of its disk grows by the words of the updates taken back and the two of the closing record.
 pub abort-grown : (c : Core) (w : World) (number : ℕ) → Sized c → sound c ≡ true → Aborting c w number

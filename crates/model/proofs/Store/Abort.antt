@@ -20,6 +20,7 @@ use Rattle.model.specs.Call.{abort}
 use Rattle.model.specs.Reference.{Reference, afterTaken}
 use Rattle.model.specs.History.{Told, also, putBy}
 use Rattle.model.proofs.Xor.{⊕-self}
+use Rattle.model.proofs.Updates.{update-words-none}
 use Rattle.model.proofs.Run.{perform-append, stores-append, run-append, run-cut}
 use Rattle.model.proofs.Places.{open-place}
 use Rattle.model.proofs.Ledger.Entry.{Entry, sum}
@@ -95,7 +96,7 @@ module _ {home : ℕ → ℕ} {puts : Told} {c : Core} {w : World} {r : Referenc
     same : (i : ℕ) → more i ≡ ofTxn i t (F ++ B)
 
   cancelled : Cancelled
-  unfolding undoAll updateWords sumUpdates sum
+  unfolding undoAll sumUpdates sum
   cancelled = go (hasUpdate (c .table) (placeOf (c .table) t)) refl
     where
       go : (b : Bool) → hasUpdate (c .table) (placeOf (c .table) t) ≡ b → Cancelled
@@ -110,7 +111,7 @@ module _ {home : ℕ → ℕ} {puts : Told} {c : Core} {w : World} {r : Referenc
       go false none =
           record {
             more = λ i. 0;
-            work = rw (none-left g t (may .opened) (may .below) none) (none-undone (abort-begins t g) (may .small) d);
+            work = rw (none-left g t (may .opened) (may .below) none, update-words-none) (none-undone (abort-begins t g) (may .small) d);
             same = λ i. sym (none-logged g t (may .opened) (may .below) none i);
           }
 

@@ -11,7 +11,7 @@ use Rattle.model.specs.declared.Core.{Core}
 use Rattle.model.specs.declared.Fault.{Fault}
 use Rattle.model.specs.declared.Fault.the-variants.{NoFault}
 use Rattle.model.specs.Record.{encode}
-use Rattle.model.specs.Scan.{Scan, faultIn, updatesIn, updateWords}
+use Rattle.model.specs.Scan.{Scan, Update, faultIn, updatesIn, updateWords}
 use Rattle.model.specs.World.{World}
 use Rattle.model.specs.State.{placeOf, isOpen, reservedAt, hasUpdate}
 use Rattle.model.specs.Transaction.{diskOf}
@@ -19,7 +19,7 @@ use Rattle.model.specs.Abort.{abortScan, updatesLeft, abortFault}
 use Rattle.model.specs.Reference.{Reference}
 use Rattle.model.specs.History.{Told}
 use Rattle.model.proofs.Places.{open-place}
-use Rattle.model.proofs.Updates.{update-words-append}
+use Rattle.model.proofs.Updates.{update-words-none, update-words-first, update-words-append}
 use Rattle.model.proofs.Ledger.Entry.{Entry, recordOf, isClose, All}
 use Rattle.model.proofs.Ledger.Order.{sizeOf, on, entriesScan}
 use Rattle.model.proofs.Ledger.Sums.{all-map}
@@ -31,8 +31,8 @@ use Rattle.model.proofs.Store.WordsFor.{words-for-picked}
 
 -- the updates of a transaction have the words of its entries, if all of these are updates
 pub update-words : (t : ℕ) (l : List Entry) → All (λ q. q .number ≡ t → q .kind ≡ 0) l → updateWords (updatesIn t (entriesScan l)) ≡ wordsFor t l
-unfolding updatesIn updateWords entriesScan wordsFor recordOf isClose sizeOf encode
-update-words t [] h = refl
+unfolding updatesIn entriesScan wordsFor recordOf isClose sizeOf encode
+update-words t [] h = update-words-none
 update-words t (q ∷ l) h = go (isClose q) refl (eqb (q .number) t) refl (update-words t l (h .1))
   where
     go : (b : Bool) → isClose q ≡ b → (k : Bool) → eqb (q .number) t ≡ k → updateWords (updatesIn t (entriesScan l)) ≡ wordsFor t l
@@ -41,7 +41,8 @@ update-words t (q ∷ l) h = go (isClose q) refl (eqb (q .number) t) refl (updat
     go true e false x ih = rw e (ih ∙ sym (zero-add (wordsFor t l)))
     go false e true x ih =
         rw (e, eq-eqb (q .kind) 0 (h .0 (eqb-true (q .number) t x)), x)
-        (omega (arith, update-words-append (updatesIn t (entriesScan l)) (record { position = q .position; page = q .page; slot = q .slot; diff = q .diff } ∷ [])))
+        (let u : Update = record { position = q .position; page = q .page; slot = q .slot; diff = q .diff } in
+        omega (arith, update-words-append (updatesIn t (entriesScan l)) (u ∷ []), update-words-first u [], update-words-none))
     go false e false x ih = rw (e, x, and-false, append-nil) (ih ∙ sym (zero-add (wordsFor t l)))
 
 -- no entry is malformed
@@ -58,8 +59,8 @@ none-bad c w t clean fits = clean _ ∙ rw (le-ltb _ _ fits)
 
 -- a transaction that is not open, or has no update: nothing is read
 pub nothing-bad : (c : Core) (w : World) (t : ℕ) → isOpen (c .table) t && hasUpdate (c .table) (placeOf (c .table) t) ≡ false → abortFault c w t ≡ NoFault
-unfolding abortScan updatesLeft updatesIn updateWords faultIn
-nothing-bad c w t none = none-bad c w t (λ rest. rw none) (rw none (omega arith))
+unfolding abortScan updatesLeft updatesIn faultIn
+nothing-bad c w t none = none-bad c w t (λ rest. rw none) (rw (none, update-words-none) (omega arith))
 
 module _ {home : ℕ → ℕ} {puts : Told} {c : Core} {w : World} {r : Reference} {F B : List Entry} (g : Serving 0 home puts c w r F B)
     (t : ℕ) (opened : isOpen (c .table) t ≡ true) (has : hasUpdate (c .table) (placeOf (c .table) t) ≡ true) where

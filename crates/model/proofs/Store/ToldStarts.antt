@@ -21,6 +21,7 @@ use Rattle.model.specs.History.{Told, updatesPut, startPut, orOldest}
 use Rattle.model.specs.LogPromise.{logScan}
 use Rattle.model.proofs.Booleans.{true-false, or-right}
 use Rattle.model.proofs.Meaning.{Holds, new-start}
+use Rattle.model.proofs.Updates.{update-words-none, update-words-first}
 use Rattle.model.proofs.Growth.{kept-start}
 use Rattle.model.proofs.Places.{open-place, place-open, place-holds, served-is, served-here}
 use Rattle.model.proofs.Ledger.Entry.{Entry, onDisk}
@@ -113,14 +114,14 @@ module _ {home : ℕ → ℕ} {puts : Told} {c : Core} {w : World} {r : Referenc
 
   -- no open transaction has a record before the new start
   none-before : (t : ℕ) → isOpen (c .table) t ≡ true → NoneBefore (newStart c d) (updatesPut puts d t)
-  unfolding NoneBefore hasUpdate updateWords diskOf
+  unfolding NoneBefore hasUpdate diskOf
   none-before t o = go (ℕ-discrete (diskOf c t) d)
     where
       own : (here : diskOf c t ≡ d) (us : List Update) → updatesPut puts d t ≡ us → NoneBefore (newStart c d) us
       own here [] e = tt
       own here (u ∷ us) e =
           let at = open-place (c .table) t o in
-          let words = ap updateWords e in
+          let words = ap updateWords e ∙ update-words-first u us in
           let has : ltb 2 (reservedAt (c .table) (placeOf (c .table) t)) ≡ true =
           lt-ltb 2 (reservedAt (c .table) (placeOf (c .table) t)) (omega (arith, words-told t o here, words)) in
           let there : numberAt (c .table) (placeOf (c .table) t) ≡ t = place-holds (c .table) t (at .1) in
@@ -133,7 +134,7 @@ module _ {home : ℕ → ℕ} {puts : Told} {c : Core} {w : World} {r : Referenc
 
   -- the told start is no later than the first position of a place that counts
   reached : (i : ℕ) → i < places → Holds (c .table) d i → startPut puts (r .writeSets) d ≤ firstAt (c .table) i
-  unfolding NoneBefore hasUpdate updateWords diskOf
+  unfolding NoneBefore hasUpdate diskOf
   reached i l h =
       let t : ℕ = numberAt (c .table) i in
       let at = served-is (c .table) d i (h .0) in
@@ -146,7 +147,7 @@ module _ {home : ℕ → ℕ} {puts : Told} {c : Core} {w : World} {r : Referenc
           → (us : List Update) → updatesPut puts d t ≡ us → NoneBefore (startPut puts (r .writeSets) d) us
           → startPut puts (r .writeSets) d ≤ firstAt (c .table) (placeOf (c .table) t)
       own t o here has [] e k =
-          absurd (omega (arith, ltb-true 2 (reservedAt (c .table) (placeOf (c .table) t)) has, words-told t o here, ap updateWords e))
+          absurd (omega (arith, ltb-true 2 (reservedAt (c .table) (placeOf (c .table) t)) has, words-told t o here, ap updateWords e ∙ update-words-none))
       own t o here has (u ∷ us) e k = omega (arith, sym (ap oldest e) ∙ first-told t o here has)
 
   -- so the new start is the told one

@@ -17,6 +17,7 @@ use Rattle.model.specs.Abort.{undoAll}
 use Rattle.model.specs.Reference.{Reference}
 use Rattle.model.specs.History.{Put, compensation, Told, also}
 use Rattle.model.proofs.Xor.{⊕-assoc, ⊕-zero-r}
+use Rattle.model.proofs.Updates.{update-words-none, update-words-first}
 use Rattle.model.proofs.Run.{perform-append, stores-append, run-append, run-cut}
 use Rattle.model.proofs.Ledger.Entry.{Entry, All, sum}
 use Rattle.model.proofs.Ledger.Word.{ofTxn}
@@ -80,14 +81,14 @@ module _ {t : ℕ} {home : ℕ → ℕ} {c : Core} {w : World} {r : Reference} {
   same-compensations a us = ap (λ (f : Update → Put). map f us) (fun-ext (λ u. rw (a .copies (u .page))))
 
   -- the first of some updates and then the others
-  first-undone : {d m n : ℕ} {f h : ℕ → ℕ} {one rest : Appended} (puts : Told) (u : Update) (us : List Update)
+  first-undone : {d k m n : ℕ} {f h : ℕ → ℕ} {one rest : Appended} (puts : Told) (u : Update) (us : List Update)
       (a : Compensated t home (also puts (compensations c w t (u ∷ []))) c w r F B d m f one)
       → Compensated t home (also (also puts (compensations c w t (u ∷ []))) (compensations (withLog c (one .logs) (c .table)) (perform (one .actions) w) t us))
-      (withLog c (one .logs) (c .table)) (perform (one .actions) w) r (a .flushed) (a .buffered) d n h rest
-      → Compensated t home (also puts (compensations c w t (u ∷ us))) c w r F B d (m + n) (λ i. f i ⊕ h i)
+      (withLog c (one .logs) (c .table)) (perform (one .actions) w) r (a .flushed) (a .buffered) d n h rest → k ≡ m + n
+      → Compensated t home (also puts (compensations c w t (u ∷ us))) c w r F B d k (λ i. f i ⊕ h i)
       (record { actions = one .actions ++ rest .actions; logs = rest .logs })
-  first-undone {one = one} puts u us a b =
-      rw (← append-assoc (puts .puts) (compensations c w t (u ∷ [])) (compensations c w t us), ← same-compensations a us)
+  first-undone {one = one} puts u us a b sum =
+      rw (sum, ← append-assoc (puts .puts) (compensations c w t (u ∷ [])) (compensations c w t us), ← same-compensations a us)
       (then-undone (compensations (withLog c (one .logs) (c .table)) (perform (one .actions) w) t us) a b)
 
 -- all of them, with room for their records
@@ -98,9 +99,10 @@ pub undone : {t : ℕ} {home : ℕ → ℕ} {puts : Told} {c : Core} {w : World}
     → endOf (c .logs) (diskOf c t) + updateWords us ≤ limit
     → Compensated t home (also puts (compensations c w t us)) c w r F B (diskOf c t) (updateWords us) (λ i. sumUpdates (c .sizes) i us)
     (undoAll (c .sizes) (c .logs) w t (diskOf c t) us)
-unfolding undoAll updateWords sumUpdates sum withLog diskOf
-undone {t} {puts = puts} {c = c} g opened has below small [] slotted room short = none-undone g small (diskOf c t)
+unfolding undoAll sumUpdates sum withLog diskOf
+undone {t} {puts = puts} {c = c} g opened has below small [] slotted room short = rw update-words-none (none-undone g small (diskOf c t))
 undone {t} {puts = puts} {c = c} {w = w} g opened has below small (u ∷ us) slotted room short =
+    let first = update-words-first u us in
     let one =
     compensated g u
     (record {
@@ -114,4 +116,4 @@ undone {t} {puts = puts} {c = c} {w = w} g opened has below small (u ∷ us) slo
     }) in
     first-undone puts u us one
     (undone (one .serving) opened has below (one .small) us (slotted .1) (omega (arith, one .kept (diskOf c t), one .ends))
-    (omega (arith, one .ends)))
+    (omega (arith, one .ends))) first
