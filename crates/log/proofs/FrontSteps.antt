@@ -18,10 +18,11 @@ use Rattle.model.specs.Decode.{span, kindField, widthField, decodeWords, decode
 use Rattle.model.specs.Scan.{Scan, bad, item, scan, andThen, ringThenBuffer, faultIn, Update, updatesIn, updateWords}
 use Rattle.model.proofs.Booleans.{true-false}
 use Rattle.model.proofs.Bounds.{bounded}
-use Rattle.model.proofs.Decode.{found-change, found-close, words-change}
+use Rattle.model.proofs.Decode.{found-change, found-close}
+use Rattle.model.proofs.RecordSizes.{words-change, words-close}
 use Rattle.model.proofs.Scan.{scan-end, scan-change, scan-close, scan-bad}
 use Rattle.model.proofs.Restart.Gain.{length-span}
-use Rattle.model.proofs.Updates.{update-words-append}
+use Rattle.model.proofs.Updates.{update-words-none, update-words-first, update-words-append}
 use Rattle.log.specs.declared.front.Front.{Front}
 use Rattle.log.specs.Reading.{positionsIn}
 use Rattle.log.specs.Front.{FrontAt, isUpdateOf, EndsAt, Measured}
@@ -51,8 +52,8 @@ module _ (s : Sizes) (t : ℕ) (read : ℕ → ℕ) (p : ℕ) where
       u = record { position = p; page = page; slot = slot; diff = span read (p + 3) width }
 
       go : (b : Bool) → updateWords (cond b (u ∷ []) []) ≡ cond b (3 + width) 0
-      go true = omega (arith, length-span read (p + 3) width)
-      go false = refl
+      go true = omega (arith, update-words-first u [], update-words-none, length-span read (p + 3) width)
+      go false = update-words-none
 
   step-close : (kind n : ℕ) {b : Bool} → b ≡ false → (rest : Scan) → Step s t (item p (close kind n) rest) p 2 b rest
   unfolding positionsIn updatesIn faultIn
@@ -101,10 +102,6 @@ module _ (s : Sizes) (read : ℕ → ℕ) (stop t : ℕ) {p : ℕ} (h : p < stop
   pub stands : EndsAt (p + words) (decodeAt s read stop p) → Stands s t (scan s read stop p) p words (isUpdateOf t f) (scan s read stop (p + words))
   stands ends = stands-by ends (decodeAt s read stop p) refl
 
-close-words : (kind width : ℕ) → 2 ≤ kind → wordsOf kind width ≡ 2
-unfolding wordsOf
-close-words kind width k = simp (le-ltb kind 2 k)
-
 -- where an update is still to be found, a record stands, and its first word tells its words
 module _ (s : Sizes) (read : ℕ → ℕ) (stop t p : ℕ) where
   abbrev size : ℕ
@@ -131,7 +128,7 @@ module _ (s : Sizes) (read : ℕ → ℕ) (stop t p : ℕ) where
   more-by h some (Close kind n next) e =
       let c = found-close s read stop e in
       let said = subst (λ (d : Decoded). Told (read p) (read (p + 1)) d) e (told s read stop p) in
-      let long : size ≡ 2 = rw (← said) (close-words kind (widthField (read p)) (c .kind-ge)) in
+      let long : size ≡ 2 = rw (← said) (words-close kind (widthField (read p)) (c .kind-ge) (c .kind-lt)) in
       record { inside = h; fits = omega (arith, long, c .next-eq, c .next-le); two = omega (arith, long); ends = rw e (omega (arith, long, c .next-eq)) }
   more-by h some Malformed e = absurd (omega (arith, some, ap (λ (x : Scan). length (positionsIn t x)) (scan-bad s read stop h e)))
 

@@ -10,18 +10,20 @@ use lib.Dec.{ltb, eqb}
 use lib.ListN.{getD}
 use borrow.Author.Tests.{lt-ltb, le-ltb, eq-eqb, ne-eqb}
 use Rattle.model.specs.declared.Sizes.{Sizes}
+use Rattle.model.specs.declared.RecordSize.the-variants.{Words, NoKind}
 use Rattle.model.specs.declared.Decoded.{Decoded}
 use Rattle.model.specs.declared.Decoded.the-variants.{Change, Close, Malformed}
 use Rattle.model.specs.Sizes.{ringWord, ringOf, diskAt}
-use Rattle.model.specs.Record.{wordsOf}
+use Rattle.model.specs.Record.{recordSize}
 use Rattle.model.specs.Decode.{readLog, kindField, pageField, slotField, widthField, misplaced, decodeWords, decodeAt}
-use Rattle.model.proofs.Booleans.{cond-all}
-use Rattle.model.proofs.Decode.{words-ge}
+use Rattle.model.proofs.Booleans.{true-false}
+use Rattle.model.proofs.RecordSizes.{sized}
+use Rattle.model.proofs.Decode.{Formed, decoded-all}
 use Rattle.log.specs.declared.front.Turn.{Turn}
 use Rattle.log.specs.declared.front.Front.{Front}
 use Rattle.log.specs.Reading.{LiesAt, decodedChange, decodedClose}
 use Rattle.log.specs.Front.{InTurn, FrontAt, EndsAt, Measured}
-use Rattle.log.proofs.Decoding.{decode-kind, decode-past, decode-zero, decode-is-change, decode-is-close}
+use Rattle.log.proofs.Decoding.{decode-none, decode-past, decode-is-change, decode-is-close}
 
 -- the turn that a position lies in, up to a position; none; and a turn for a later position
 pub turn-here : (ring tail p near : ℕ) → near ≤ tail → near ≤ p - p % ring + ring → InTurn ring tail p (record { low = p - p % ring; near = near })
@@ -57,77 +59,51 @@ module _ (s : Sizes) (stop p w n copy : ℕ) where
   abbrev here : Decoded
   here = decodeWords s stop p w n copy
 
+  -- malformed, if neither a change nor a closing record can stand here
+  malformed : (kindField w < 2 → Formed stop p n (3 + widthField w) → misplaced s w ≡ false → ⊥)
+      → (2 ≤ kindField w → kindField w < 4 → Formed stop p n 2 → w / 8 ≡ 0 → ⊥) → here ≡ Malformed
+  malformed no-change no-close =
+      decoded-all (λ (d : Decoded). d ≡ Malformed) s stop p w n copy refl (λ k f m. absurd (no-change k f m)) (λ k l f z. absurd (no-close k l f z))
+
   no-words : here ≡ Malformed → Measured here stop p 0
   no-words e = record { none = λ _. e; past = λ _. e; whole = λ h. absurd (omega arith) }
 
-  either : (a b : Bool) → cond a Malformed (cond b Malformed Malformed) ≡ Malformed
-  either true b = refl
-  either false true = refl
-  either false false = refl
-
   pub measured-zero : n ≡ 0 → Measured here stop p 0
-  unfolding decodeWords
-  measured-zero z = no-words (rw (eq-eqb n 0 z) (either (ltb 3 (w % 8)) (ltb stop (p + wordsOf (w % 8) (w / 65536)))))
+  measured-zero z = no-words (malformed (λ k f m. f .numbered z) (λ k l f y. f .numbered z))
+
+  pub measured-none : recordSize (w % 8) (w / 65536) ≡ NoKind → Measured here stop p 0
+  measured-none e = no-words (sym (decode-none s stop p w n copy e))
 
   pub measured-outside : w % 8 < 2 → misplaced s w ≡ true → Measured here stop p 0
-  unfolding decodeWords
-  measured-outside k m = no-words (rw (lt-ltb (w % 8) 2 k, m) (any (ltb 3 (w % 8)) (ltb stop (p + wordsOf (w % 8) (w / 65536))) (eqb n 0)))
-    where
-      any : (a b c : Bool) → cond a Malformed (cond b Malformed (cond c Malformed Malformed)) ≡ Malformed
-      any true b c = refl
-      any false true c = refl
-      any false false true = refl
-      any false false false = refl
+  measured-outside k outside = no-words (malformed (λ _ f m. true-false outside m) (λ h l f z. absurd (omega arith)))
 
-  pub measured-change : (n ≡ 0 → ⊥) → w % 8 < 2 → misplaced s w ≡ false → Measured here stop p (3 + w / 65536)
-  unfolding wordsOf
-  measured-change pos k m =
-      let is : 3 + w / 65536 ≡ wordsOf (w % 8) (w / 65536) = simp (lt-ltb (w % 8) 2 k) in
-      record {
-        none = λ z. absurd (omega arith);
-        past = λ l. sym (decode-past s stop p w n copy (3 + w / 65536) is (omega arith) l);
-        whole = λ _ fits.
-            subst (λ (d : Decoded). EndsAt (p + (3 + w / 65536)) d)
-            (decode-is-change s stop p w n copy (3 + w / 65536) is (omega arith) fits pos k)
-            (rw m refl);
-      }
+  pub measured-set : 2 ≤ w % 8 → (w / 8 ≡ 0 → ⊥) → Measured here stop p 0
+  measured-set k set = no-words (malformed (λ h f m. absurd (omega arith)) (λ h l f z. set z))
 
-  pub measured-close : (n ≡ 0 → ⊥) → 2 ≤ w % 8 → w < 4 → Measured here stop p 2
-  unfolding wordsOf
-  measured-close pos k low =
-      let is : 2 ≡ wordsOf (w % 8) (w / 65536) = simp (le-ltb (w % 8) 2 k) in
-      let unset : w / 8 ≡ 0 = omega arith in
-      record {
-        none = λ z. absurd (omega arith);
-        past = λ l. sym (decode-past s stop p w n copy 2 is (omega arith) l);
-        whole = λ _ fits.
-            subst (λ (d : Decoded). EndsAt (p + 2) d) (decode-is-close s stop p w n copy 2 is (omega arith) fits pos k)
-            (rw (eq-eqb (w / 8) 0 unset) refl);
-      }
+  module _ (pos : n ≡ 0 → ⊥) (size : ℕ) (is : recordSize (w % 8) (w / 65536) ≡ Words size) where
+    measured-whole : (p + size ≤ stop → EndsAt (p + size) here) → Measured here stop p size
+    measured-whole ends =
+        record {
+          none = λ z. absurd (omega (arith, sized (w % 8) (w / 65536) size is .least));
+          past = λ l. sym (decode-past s stop p w n copy size is l);
+          whole = λ _ fits. ends fits;
+        }
 
-  pub measured-other : 2 ≤ w % 8 → 4 ≤ w → Measured here stop p 0
-  unfolding decodeWords
-  measured-other k high = no-words (go (decLt 3 (w % 8)))
-    where
-      any : (b c : Bool) → cond b Malformed (cond c Malformed Malformed) ≡ Malformed
-      any true c = refl
-      any false true = refl
-      any false false = refl
+    pub measured-change : w % 8 < 2 → misplaced s w ≡ false → Measured here stop p size
+    measured-change k m =
+        measured-whole
+        (λ fits. subst (λ (d : Decoded). EndsAt (p + size) d) (decode-is-change s stop p w n copy size is fits pos k) (rw m refl))
 
-      go : Dec (3 < w % 8) → decodeWords s stop p w n copy ≡ Malformed
-      go (yes l) = sym (decode-kind s stop p w n copy _ refl l)
-      go (no l) =
-          let known : w % 8 ≤ 3 = omega arith in
-          let set : w / 8 ≡ 0 → ⊥ = λ e. omega arith in
-          rw (le-ltb 3 (w % 8) known, le-ltb (w % 8) 2 k, ne-eqb (w / 8) 0 set) (any (ltb stop (p + wordsOf (w % 8) (w / 65536))) (eqb n 0))
+    pub measured-close : 2 ≤ w % 8 → w / 8 ≡ 0 → Measured here stop p size
+    measured-close k unset =
+        measured-whole
+        (λ fits.
+        subst (λ (d : Decoded). EndsAt (p + size) d) (decode-is-close s stop p w n copy size is fits pos k)
+        (rw (eq-eqb (w / 8) 0 unset) refl))
 
   -- a record has two words or more
   pub short-malformed : stop < p + 2 → here ≡ Malformed
-  short-malformed l = go (decLt 3 (w % 8))
-    where
-      go : Dec (3 < w % 8) → here ≡ Malformed
-      go (yes k) = sym (decode-kind s stop p w n copy _ refl k)
-      go (no k) = sym (decode-past s stop p w n copy _ refl (omega arith) (omega (arith, words-ge (w % 8) (w / 65536))))
+  short-malformed l = malformed (λ k f m. absurd (omega (arith, f .fits))) (λ k h f z. absurd (omega (arith, f .fits)))
 
 -- the second word counts only where it lies before the stop
 module _ (s : Sizes) (read : ℕ → ℕ) (end stop p : ℕ) (within : stop ≤ end) {f : Front} (front : FrontAt read end p f) (words : ℕ) where
@@ -153,16 +129,7 @@ Told w n (Close kind number next) = kind ≡ kindField w
 Told w n Malformed = Unit {0}
 
 pub told : (s : Sizes) (read : ℕ → ℕ) (stop p : ℕ) → Told (read p) (read (p + 1)) (decodeAt s read stop p)
-unfolding decodeAt decodeWords
+unfolding decodeAt
 told s read stop p =
-    cond-all P (ltb 3 (kindField w)) (λ _. tt)
-    (λ _. cond-all P (ltb stop (p + wordsOf (kindField w) (widthField w))) (λ _. tt)
-    (λ _. cond-all P (eqb (read (p + 1)) 0) (λ _. tt)
-    (λ _. cond-all P (ltb (kindField w) 2) (λ _. cond-all P (misplaced s w) (λ _. tt) (λ _. (refl, refl, refl)))
-    (λ _. cond-all P (eqb (w / 8) 0) (λ _. refl) (λ _. tt)))))
-  where
-    w : ℕ
-    w = read p
-
-    P : Decoded → Type 0
-    P d = Told w (read (p + 1)) d
+    decoded-all (λ (d : Decoded). Told (read p) (read (p + 1)) d) s stop p (read p) (read (p + 1)) (read (p + 2)) tt
+    (λ k f m. (refl, refl, refl)) (λ k l f z. refl)

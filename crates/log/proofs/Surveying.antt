@@ -15,6 +15,7 @@ use Rattle.model.specs.declared.Fault.{Fault}
 use Rattle.model.specs.declared.Fault.the-variants.{NoFault, BadRecord}
 use Rattle.model.specs.Scan.{Scan, end, bad, faultIn, updatesIn, updateWords}
 use Rattle.model.proofs.Booleans.{cond-all}
+use Rattle.model.proofs.Updates.{update-words-none}
 use Rattle.log.specs.Reading.{positionsIn}
 use Rattle.log.specs.Front.{NotedAt, Surveyed}
 use Rattle.log.proofs.FrontSteps.{Step}
@@ -97,11 +98,11 @@ module _ (t : ℕ) (log : ℕ → Scan) (from : ℕ) where
     -- at the end, and at a malformed record
     pub surveyed-end : (disk : ℕ) → log p ≡ end → Surveyed disk t log from (record { fault = NoFault; count = count; words = words }) notes
     unfolding positionsIn updatesIn faultIn
-    surveyed-end disk e = surveyed disk (rw e refl) (rw e refl) (rw e refl)
+    surveyed-end disk e = surveyed disk (rw e refl) (rw e update-words-none) (rw e refl)
 
     pub surveyed-bad : (disk : ℕ) → log p ≡ bad p → Surveyed disk t log from (record { fault = BadRecord disk p; count = count; words = words }) notes
     unfolding positionsIn updatesIn faultIn
-    surveyed-bad disk e = surveyed disk (rw e refl) (rw e refl) (rw e refl)
+    surveyed-bad disk e = surveyed disk (rw e refl) (rw e update-words-none) (rw e refl)
 
 -- n updates gathered, one at a time: so many are, and the others are found from p on
 module _ (n count : ℕ) (at : List ℕ) (long : length at ≡ 128) (few : count ≤ 128) (whole rest : List ℕ) (inv : whole ≡ take count at ++ rest) where

@@ -1,8 +1,10 @@
 // A record by its first two words: what an abort looks at of those of other transactions. A position of the ring is not divided by
 // its size but where a turn of the ring begins.
+use crate::kinds::record_size;
 use crate::read::Extent;
 use crate::read::read_word;
 use crate::ring::is_outside;
+use model::RecordSize;
 ghost use mathlib.Core.Path.{_≡_};
 ghost use mathlib.Core.Bool.{cond};
 ghost use Prim.Native.Nat.{ℕ, _≤_, _<_, _^_};
@@ -73,16 +75,20 @@ pub fn record_words(slots: &[u8], widths: &[u8], front: Front) -> u64
         → (stop p copy : ℕ) → Measured (decodeWords s stop p (front .first) (front .number) copy) stop p r) ⌝ }
 {
     let w = front.first;
+    let kind = w % 8;
     if front.number == 0 {
         return 0;
     }
-    if w % 8 < 2 {
+    let RecordSize::Words { n } = record_size(kind, w / 65536) else {
+        return 0;
+    };
+    if kind < 2 {
         if is_outside(slots, widths, w) {
             return 0;
         }
-        return 3 + w / 65536;
+        return n;
     }
-    if w < 4 { 2 } else { 0 }
+    if w / 8 == 0 { n } else { 0 }
 }
 
 // Is it an update record of the transaction?

@@ -1,12 +1,13 @@
 // Reading a log: a word, and a record.
+use crate::kinds::record_size;
 use layout::disks::disk_at;
 use layout::disks::ring_of;
 use model::Decoded;
+use model::RecordSize;
 use model::Sizes;
 ghost use mathlib.Core.Path.{_≡_};
-ghost use Prim.Native.Nat.{ℕ, _+_, _≤_, _<_, _^_};
+ghost use Prim.Native.Nat.{ℕ, _+_, _≤_, _<_};
 ghost use lib.ListN.{length};
-ghost use Rattle.model.specs.Record.{wordsOf};
 ghost use Rattle.model.specs.Decode.{readLog, misplaced, decodeAt};
 ghost use Rattle.log.specs.Reading.{decodedChange, decodedClose, PagesOf, LiesAt, extentOf, Readable};
 
@@ -43,17 +44,6 @@ pub fn read_word(logs: &[u64], place: u64, ring: u64, tail: u64, buffer: &[u64],
     }
     let at = (p - tail) as usize;
     buffer[at]
-}
-
-// The words of a record of a kind, with a difference of width words.
-pub fn words_of(kind: u64, width: u64) -> u64
-    requires { ⌜ width < 2 ^ 48 ⌝ }
-    ensures { λ r. ⌜ r ≡ wordsOf kind width ⌝ }
-{
-    match kind {
-        0 | 1 => 3 + width,
-        _ => 2,
-    }
 }
 
 // Are the fields of a change's first word not those of a page? The two lists are any numbers.
@@ -133,10 +123,10 @@ pub fn decode_at(
     let end = extent.end;
     let w = read_word(logs, place, ring, tail, buffer, p);
     let kind = w % 8;
-    if 3 < kind {
+    let RecordSize::Words { n } = record_size(kind, w / 65536) else {
         return Decoded::Malformed;
-    }
-    let next = p + words_of(kind, w / 65536);
+    };
+    let next = p + n;
     if end < next {
         return Decoded::Malformed;
     }

@@ -1,7 +1,8 @@
 // Reading a disk's ring on by index: no position is divided by the ring's size but the first.
+use crate::kinds::record_size;
 use crate::read::decode_close;
-use crate::read::words_of;
 use model::Decoded;
+use model::RecordSize;
 use model::Sizes;
 ghost use mathlib.Core.Path.{_≡_};
 ghost use Prim.Native.Nat.{ℕ, _+_, _%_, _≤_, _<_};
@@ -78,10 +79,10 @@ pub fn decode_ring(slots: &[u8], widths: &[u8], ring: &[u64], tail: u64, p: u64,
     let size = ring.len() as u64;
     let w = word_at(ring, at);
     let kind = w % 8;
-    if 3 < kind {
+    let RecordSize::Words { n } = record_size(kind, w / 65536) else {
         return Decoded::Malformed;
-    }
-    let next = p + words_of(kind, w / 65536);
+    };
+    let next = p + n;
     if tail < next {
         return Decoded::Malformed;
     }

@@ -11,7 +11,6 @@ use Rattle.model.specs.Decode.{readLog}
 use Rattle.model.specs.Scan.{scan}
 use Rattle.log.specs.Reading.{LiesAt, positionsIn}
 use Rattle.log.specs.Front.{InTurn}
-use Rattle.log.proofs.Decoding.{words-le}
 use Rattle.log.proofs.Fronts.{turn-none, turn-later}
 use Rattle.log.proofs.FrontSteps.{more-at, more-fits, more-step}
 use Rattle.log.proofs.Surveying.{gather-more, gather-one, gather-done}
