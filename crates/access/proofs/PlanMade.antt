@@ -10,6 +10,7 @@ use borrow.Author.Tests.{eqb-true}
 use Rattle.model.specs.declared.Stage.{Stage}
 use Rattle.model.specs.declared.Carried.{Carried}
 use Rattle.model.specs.Anchor.{anchorWords}
+use Rattle.model.specs.Record.{wordsOf, updateKind}
 use Rattle.model.specs.World.{World}
 use Rattle.model.specs.Memory.{bufferAt, ownerOf}
 use Rattle.model.specs.State.{limit, inTable}
@@ -78,7 +79,7 @@ module _ (h : Carried) (w : World) {stage : Stage} {pages disks ring t : ℕ} (t
     (first : early ≡ earlyOf (f .refusal) (e .refusal) (eqb (length (w .anchor)) anchorWords) (eqb width (f .width))) (passed : early ≡ 0)
     {start : ℕ} (starts : start ≡ getD (h .starts) (e .disk) 0) {late : ℕ}
     (second : late ≡ cond (inTable (coreOf h (w .work) .table) (ownerOf (coreOf h (w .work) .sizes) (drop headWords (w .work)) (f .at)) && not (eqb (ownerOf (coreOf h (w .work) .sizes) (drop headWords (w .work)) (f .at)) number)) 11
-    (cond (roomFor start (e .tail + e .fill) (e .sum) ring (2 * (3 + f .width))) 0 14)) (taken : late ≡ 0)
+    (cond (roomFor start (e .tail + e .fill) (e .sum) ring (2 * wordsOf updateKind (f .width))) 0 14)) (taken : late ≡ 0)
   where
     pub planned-made : (p : Plan)
         → p ≡ planOf f e (bufferAt disks + 64 + f .at) (getD (w .work) (headWords + (bufferAt disks + page)) 0) (getD (w .work) (headFirsts + e .place) 0)

@@ -120,14 +120,14 @@ module _ (h : Carried) (w : World) {stage : Stage} {pages disks ring t : ℕ} (t
 
         module _ (passed : early ≡ 0) {start : ℕ} (starts : start ≡ getD (h .starts) (e .disk) 0) {late : ℕ}
             (second : late ≡ cond (inTable (c .table) (ownerOf (c .sizes) (drop headWords (w .work)) (f .at)) && not (eqb (ownerOf (c .sizes) (drop headWords (w .work)) (f .at)) number)) 11
-            (cond (roomFor start (e .tail + e .fill) (e .sum) ring (2 * (3 + f .width))) 0 14))
+            (cond (roomFor start (e .tail + e .fill) (e .sum) ring (2 * wordsOf updateKind (f .width))) 0 14))
           where
             abbrev nones : (f .refusal ≡ 0) × (e .refusal ≡ 0)
             nones = (early-none (f .refusal) (e .refusal) _ _ (sym first ∙ passed) .0, early-none (f .refusal) (e .refusal) _ _ (sym first ∙ passed) .1)
 
             room-here : hasRoom c (2 * wordsOf updateKind (widthIn (c .sizes) page)) (diskOf c number)
-                ≡ roomFor start (e .tail + e .fill) (e .sum) ring (2 * (3 + f .width))
-            unfolding hasRoom roomFor wordsOf diskOf ringOf keptOf startOf endOf coreOf
+                ≡ roomFor start (e .tail + e .fill) (e .sum) ring (2 * wordsOf updateKind (f .width))
+            unfolding hasRoom roomFor diskOf ringOf keptOf startOf endOf coreOf
             room-here =
                 let found = entered .ready (nones .1) in
                 rw (← finds .width (nones .0), ← found .place, ← found .disk, ← found .tail, ← found .fill, ← found .sum, starts, told .same-ring) refl
@@ -136,4 +136,4 @@ module _ (h : Carried) (w : World) {stage : Stage} {pages disks ring t : ℕ} (t
             update-late =
                 decided
                 ∙ rw (eq-eqb early 0 passed, locked-here h w number page slot (finds .place (nones .0)) refl, room-here, second)
-                (by-late _ (roomFor start (e .tail + e .fill) (e .sum) ring (2 * (3 + f .width))))
+                (by-late _ (roomFor start (e .tail + e .fill) (e .sum) ring (2 * wordsOf updateKind (f .width))))

@@ -8,6 +8,7 @@ use lib.ListN.{length}
 use Rattle.model.specs.declared.Core.{Core}
 use Rattle.model.specs.declared.Carried.{Carried}
 use Rattle.model.specs.Sizes.{widthIn}
+use Rattle.model.specs.Record.{wordsOf, updateKind}
 use Rattle.model.specs.World.{World}
 use Rattle.model.specs.Memory.{ownerAt, copyOf}
 use Rattle.model.specs.State.{tailOf, fillOf, endOf, placeOf, firstAt, reservedAt, reservedOn, hasUpdate, slotPlace}
@@ -36,11 +37,11 @@ planOf found entry owner copy first =
       copy = copy;
       place = entry .place;
       first = cond (ltb 2 (entry .reserved)) first (entry .tail + entry .fill);
-      reserved = entry .reserved + (3 + found .width);
+      reserved = entry .reserved + wordsOf updateKind (found .width);
       disk = entry .disk;
       tail = entry .tail;
       fill = entry .fill;
-      sum = entry .sum + (3 + found .width);
+      sum = entry .sum + wordsOf updateKind (found .width);
     }
 
 -- What an update that no row refuses goes on with: its numbers are those of a state, and lie within the slices of a world.

@@ -1,4 +1,5 @@
 // The work of an update: its record appended, the slot changed, its owner set.
+use log::kinds::words_of;
 use log::write::Head;
 use log::write::Home;
 use log::write::Logged;
@@ -66,7 +67,7 @@ fn log_change(
         (withSlices w (now (logs .exit)) (now (work .exit))) (r .logged))
         × (r .logged .finished ≡ true → r .ones ≡ onesOver (xors (part at (length (now (value .entry))) (now (pages .entry))) (now (value .entry)))) ⌝ }
 {
-    let n = 3 + value.len() as u64;
+    let n = words_of(head.kind, value.len() as u64);
     let buffer = home.buffer;
     let tail = home.tail;
     let fill = home.fill;

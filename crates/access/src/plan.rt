@@ -10,6 +10,8 @@ use head::places::HEAD_WORDS;
 use layout::anchor::ANCHOR_WORDS;
 use layout::memory::copy_place;
 use layout::memory::owner_place;
+use log::kinds::UPDATE;
+use log::kinds::words_of;
 use model::Stage;
 use table::place::CLOSE_WORDS;
 use table::room::fits_ring;
@@ -22,6 +24,7 @@ ghost use lib.ListN.{length, getD, drop};
 ghost use Rattle.model.specs.declared.Carried.{Carried};
 ghost use Rattle.model.specs.Moments.{old, oldWorld};
 ghost use Rattle.model.specs.Anchor.{anchorWords};
+ghost use Rattle.model.specs.Record.{wordsOf, updateKind};
 ghost use Rattle.model.specs.Memory.{bufferAt, ownerOf};
 ghost use Rattle.model.specs.State.{limit, inTable};
 ghost use Rattle.model.specs.View.{headFirsts, headWords, ownWork, coreOf};
@@ -101,12 +104,12 @@ fn late_refusal(
     ensures { λ r. ⌜ ((h : Carried) → ownWork h (old work) ≡ true → h .disks ≡ disks
         → r ≡ cond (inTable (coreOf h (old work) .table) (ownerOf (coreOf h (old work) .sizes) (drop headWords (old work)) (found .at))
         && not (eqb (ownerOf (coreOf h (old work) .sizes) (drop headWords (old work)) (found .at)) number)) 11
-        (cond (roomFor start (entry .tail + entry .fill) (entry .sum) ring (2 * (3 + found .width))) 0 14)) ⌝ }
+        (cond (roomFor start (entry .tail + entry .fill) (entry .sum) ring (2 * wordsOf updateKind (found .width))) 0 14)) ⌝ }
 {
     if is_locked(work, disks, found.at, number) {
         return 11;
     }
-    let need = 2 * (3 + found.width as u64);
+    let need = 2 * words_of(UPDATE, found.width as u64);
     if fits_ring(start, entry.tail + entry.fill, entry.sum, ring, need) {
         0
     } else {
@@ -133,7 +136,7 @@ fn make_plan(found: Slot, entry: Entry, work: &[u64], disks: u64, page: u64) -> 
         work[FIRSTS_AT + place],
         entry.tail + entry.fill,
     );
-    let words = 3 + found.width as u64;
+    let words = words_of(UPDATE, found.width as u64);
     Plan {
         refusal: 0,
         at: found.at,

@@ -1,4 +1,5 @@
 // Writing: a record's words into a disk's buffer, and a buffer's words into the ring.
+use crate::kinds::words_of;
 use device::store_ring;
 use device::store_word;
 use words::copy_words;
@@ -160,5 +161,6 @@ pub fn append_change(
     let mut words = [0u64; 35];
     put_record(&mut words, 3, difference);
     encode_change(&mut words, head, n as u64);
-    append(logs, work, home, &words[..3 + n], budget)
+    let size = words_of(head.kind, n as u64) as usize;
+    append(logs, work, home, &words[..size], budget)
 }
