@@ -10,12 +10,14 @@ use lib.Seq.{getD-drop}
 use Rattle.model.specs.declared.Core.{Core}
 use Rattle.model.specs.declared.Carried.{Carried}
 use Rattle.model.specs.Sizes.{logWords, diskAt}
+use Rattle.model.specs.Record.{updateKind}
 use Rattle.model.specs.World.{World}
 use Rattle.model.specs.Memory.{bufferAt, copyAt, ownerAt, workWords, copyOf}
 use Rattle.model.specs.State.{limit, endOf, firstAt, hasUpdate}
 use Rattle.model.specs.Transaction.{diskOf}
 use Rattle.model.specs.View.{headFirsts, headWords, ownWork, coreOf, bodyOf}
 use Rattle.model.specs.Fields.{firsts}
+use Rattle.model.proofs.RecordSizes.{words-change}
 use Rattle.model.proofs.View.Head.{carried-back}
 use Rattle.model.proofs.View.Fields.{field-read}
 use Rattle.log.specs.Write.{Within}
@@ -115,7 +117,7 @@ module _ (h : Carried) (w : World) (own : ownWork h (w .work) ≡ true) (ready :
             tail = found .tail;
             fill = found .fill;
             first = first-here found;
-            reserved = rw (same, ← found .reserved) refl;
-            sum = rw (same, ← found .sum) refl;
+            reserved = rw (same, ← found .reserved, words-change updateKind (f .width) (omega arith)) refl;
+            sum = rw (same, ← found .sum, words-change updateKind (f .width) (omega arith)) refl;
             home = home-here found;
           }
