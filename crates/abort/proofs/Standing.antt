@@ -2,24 +2,23 @@
 use mathlib.Core.Path.{_≡_, refl, sym, ap, _∙_}
 use mathlib.Core.List.{List, [], _∷_, _++_, append-assoc, append-nil, List·Memᴰ·head, List·Memᴰ·tail}
 use mathlib.Core.Bool.{Bool, true, false, cond, _&&_}
-use Prim.Native.Nat.{ℕ, zero, suc, _+_, _*_, _-_, _/_, _≤_, _<_}
+use Prim.Native.Nat.{ℕ, zero, suc, _+_, _*_, _-_, _≤_, _<_}
 use native.Mathlib.Omega.{arith}
 use native.Mathlib.Decide.{decLt}
-use lib.Dec.{ltb, eqb}
+use lib.Dec.{eqb}
 use lib.ListN.{length}
 use Rattle.model.specs.declared.Sizes.{Sizes}
 use Rattle.model.specs.declared.Decoded.{Decoded}
 use Rattle.model.specs.declared.Decoded.the-variants.{Change, Close, Malformed}
-use Rattle.model.specs.Record.{updateKind, wordsOf}
-use Rattle.model.specs.Decode.{kindField, pageField, slotField, widthField, misplaced, span, decodeWords, decodeAt}
+use Rattle.model.specs.Record.{updateKind}
+use Rattle.model.specs.Decode.{pageField, slotField, widthField, span, decodeAt}
 use Rattle.model.specs.Scan.{Scan, scan, Update, updatesIn, updateWords}
-use Rattle.model.proofs.Booleans.{cond-all}
 use Rattle.model.proofs.Members.{Every, every-nil, every-cons, every-append}
-use Rattle.model.proofs.Decode.{found-change, found-close}
+use Rattle.model.proofs.Decode.{found-change, found-close, decoded-all}
 use Rattle.model.proofs.Reader.{span-cong}
 use Rattle.model.proofs.Restart.Gain.{length-span}
 use Rattle.model.proofs.Scan.{scan-end, scan-change, scan-close, scan-bad}
-use Rattle.model.proofs.Updates.{update-words-append}
+use Rattle.model.proofs.Updates.{update-words-first, update-words-append}
 use Rattle.log.specs.Reading.{positionsIn}
 use Rattle.abort.specs.Undo.{updateRead}
 use Rattle.abort.specs.Groups.{lastFirst, Standing}
@@ -57,6 +56,7 @@ four-each read (p ∷ ps) h =
     omega (
       arith,
       update-words-append (lastFirst (updateRead read) ps) (updateRead read p ∷ []),
+      update-words-first (updateRead read p) [],
       length-read read p,
       h p (List·Memᴰ·head refl),
       four-each read ps (λ q m. h q (List·Memᴰ·tail m)),
@@ -79,22 +79,9 @@ Fields w (Close kind number next) = Unit {0}
 Fields w Malformed = Unit {0}
 
 fields : (s : Sizes) (read : ℕ → ℕ) (stop p : ℕ) → Fields (read p) (decodeAt s read stop p)
-unfolding decodeAt decodeWords
+unfolding decodeAt
 fields s read stop p =
-    cond-all P (ltb 3 (kindField w)) (λ _. tt)
-    (λ _. cond-all P (ltb stop (p + size)) (λ _. tt)
-    (λ _. cond-all P (eqb (read (p + 1)) 0) (λ _. tt)
-    (λ _. cond-all P (ltb (kindField w) 2) (λ _. cond-all P (misplaced s w) (λ _. tt) (λ _. (refl, refl, refl)))
-    (λ _. cond-all P (eqb (w / 8) 0) (λ _. tt) (λ _. tt)))))
-  where
-    w : ℕ
-    w = read p
-
-    size : ℕ
-    size = wordsOf (kindField w) (widthField w)
-
-    P : Decoded → Type 0
-    P d = Fields w d
+    decoded-all (λ (d : Decoded). Fields (read p) d) s stop p (read p) (read (p + 1)) (read (p + 2)) tt (λ k f m. (refl, refl, refl)) (λ k l f z. tt)
 
 module _ (s : Sizes) (read : ℕ → ℕ) (stop t : ℕ) where
   abbrev on : ℕ → List ℕ

@@ -27,6 +27,7 @@ use Rattle.model.proofs.Flush.{flush-reads}
 use Rattle.model.proofs.Growth.{SizedLogs, Small, Longer, fill-set, tail-flushed}
 use Rattle.model.proofs.Members.{Every, every-nil, every-cons}
 use Rattle.model.proofs.Sound.Abort.{undo-grown}
+use Rattle.model.proofs.Updates.{update-words-none, update-words-first}
 use Rattle.log.proofs.Words.{change-length}
 use Rattle.abort.specs.Undo.{reader}
 
@@ -115,6 +116,8 @@ undo-reads s l w number disk (u ∷ us) sized small used below disk-fits buffer-
     let one : Appended = compensate s l w number disk u in
     let v : World = perform (one .actions) w in
     let narrow = short u (List·Memᴰ·head refl) in
+    let first = update-words-first u us in
+    let only : updateWords (u ∷ []) ≡ 3 + length (u .diff) = update-words-first u [] ∙ rw update-words-none (omega arith) in
     let grown : Longer s disk (updateWords (u ∷ [])) l (one .logs) =
     undo-grown s l w number disk (u ∷ []) sized small below (every-cons (λ (v : Update). length (v .diff) ≤ 32) u [] narrow (every-nil _)) in
     let same = perform-lengths (one .actions) w in
