@@ -10,12 +10,12 @@ use head::table::leave;
 use head::table::set_fill;
 use layout::anchor::ANCHOR_WORDS;
 use log::kinds::COMMIT;
+use log::kinds::words_of;
 use log::write::Home;
 use log::write::append_close;
 use log::write::flush_disk;
 use model::Carried;
 use model::Handed;
-use table::place::CLOSE_WORDS;
 use words::saturating_sub;
 ghost use mathlib.Core.Path.{_≡_};
 ghost use Prim.Native.Nat.{_+_, _≤_, _<_};
@@ -119,7 +119,7 @@ pub fn commit(
     let disk = entry.disk as usize;
     close_place(work, entry.place, disk, entry.sum - entry.reserved);
     let mut tails = carried.tails;
-    tails[disk] = entry.tail + entry.fill + CLOSE_WORDS;
+    tails[disk] = entry.tail + entry.fill + words_of(COMMIT, 0);
     let stores = saturating_sub(before, *budget);
     finished(Carried { tails, ..carried }, stores, 0)
 }
