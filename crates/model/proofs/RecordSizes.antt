@@ -71,6 +71,14 @@ pub words-close : (kind width : ℕ) → 2 ≤ kind → kind < 4 → wordsOf kin
 unfolding wordsOf
 words-close kind width h l = ap sizeWords (size-close kind width h l)
 
+pub words-most : (kind width : ℕ) → wordsOf kind width ≤ 3 + width
+unfolding wordsOf
+words-most kind width = go (recordSize kind width) refl
+  where
+    go : (z : RecordSize) → recordSize kind width ≡ z → sizeWords z ≤ 3 + width
+    go NoKind e = omega arith
+    go (Words n) e = sized kind width n e .most
+
 -- A record is written with as many words as its kind has: kind and difference belong together where a change has kind 0 or 1 and a
 -- closing record 2 or 3.
 abbrev pub SizeWritten : Record → Type 0

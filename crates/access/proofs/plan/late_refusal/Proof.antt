@@ -3,7 +3,7 @@ use mathlib.Core.Path.{refl}
 use native.Mathlib.Omega.{arith}
 use borrow.Author.Needs.{needs}
 use Rattle.model.specs.Record.{updateKind}
-use Rattle.model.proofs.RecordSizes.{words-change}
+use Rattle.model.proofs.RecordSizes.{words-most}
 use Rattle.access.proofs.plan.late_refusal.Statement.{statement}
 use Rattle.access.proofs.plan.late_refusal.Tie as tie
 
@@ -13,12 +13,12 @@ returns c h own same = rw (← c .before .is-locked .ensures h own same, c .if1 
 mul-need : tie.Need-mul-need
 mul-need c =
     let start = c .before .before .before .before in
-    omega (arith, c .words-of .ensures, words-change updateKind (start .args .found .width) (omega arith), start .pre .0 .2)
+    omega (arith, c .words-of .ensures, words-most updateKind (start .args .found .width), start .pre .0 .2)
 
 fits-ring-requires : tie.Need-fits-ring-requires
 fits-ring-requires c κs =
     let start = c .before .before .before .before .before in
-    omega (arith, c .before .words-of .ensures, words-change updateKind (start .args .found .width) (omega arith), start .pre .0 .2, start .pre .1)
+    omega (arith, c .before .words-of .ensures, words-most updateKind (start .args .found .width), start .pre .0 .2, start .pre .1)
 
 returns-2 : tie.Need-returns-2
 returns-2 c h own same = rw (← c .before .before .before .before .before .is-locked .ensures h own same, c .before .before .before .before .if1 .left, ← c .before .before .before .words-of .ensures, ← c .before .fits-ring .ensures, c .if2 .taken) refl

@@ -3,7 +3,7 @@ use Prim.Native.Nat.{ℕ, _≤_}
 use mathlib.Core.Path.{_≡_, refl}
 use native.Mathlib.Omega.{arith}
 use Rattle.model.specs.Record.{wordsOf, updateKind}
-use Rattle.model.proofs.RecordSizes.{words-change}
+use Rattle.model.proofs.RecordSizes.{words-most}
 use Rattle.layout.specs.Raw.{countsOf}
 use Rattle.access.proofs.SlotBounds.{owner-at, copy-at}
 use borrow.Author.Needs.{needs}
@@ -17,7 +17,7 @@ shared-slice-read-t12 c =
 
 -- the words of an update record are few
 few : {width words : ℕ} → words ≡ wordsOf updateKind width → width ≤ 32 → words ≤ 35
-few {width} is narrow = omega (arith, is, words-change updateKind width (omega arith))
+few {width} is narrow = omega (arith, is, words-most updateKind width)
 
 add-t13 : tie.Need-add-t13
 add-t13 c =

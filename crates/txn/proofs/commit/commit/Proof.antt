@@ -1,4 +1,5 @@
 -- `txn::commit::commit` meets its contract: each refusal is the first row that applies, and then the task. Assumes nothing.
+use Prim.Native.Nat.{_≤_}
 use mathlib.Core.Path.{_≡_, refl, _∙_}
 use native.Mathlib.Omega.{arith}
 use lib.ListN.{length}
@@ -6,7 +7,7 @@ use borrow.Author.Tests.{not-true, not-false}
 use Rattle.model.specs.Record.{commitKind}
 use Rattle.model.specs.World.{worldOf}
 use Rattle.model.specs.Call.{commit}
-use Rattle.model.proofs.RecordSizes.{words-close}
+use Rattle.model.proofs.RecordSizes.{words-close, words-most}
 use Rattle.frame.proofs.Behind.{lent-behind, behind-back}
 use Rattle.frame.proofs.FirstChecks.{lent-ready, own-ready}
 use Rattle.frame.proofs.Shown.{shown-refused}
@@ -101,7 +102,8 @@ add-tails-2 c =
     let x = c .before .before .before .before .before .before .before .before .before .before .before .before .before .before .before .before .before .before .before .before .before .before .before .before .before .before .before .before .before .before .before .before .before .args in
     let w = worldOf (x .anchor .now) (x .pages .now) (x .backups .now) (x .logs .now) (x .work .now) in
     let s = commit-standing (x .t1) w (x .number) (c .before .before .before .before .before .before .before .before .before .before .before .before .before .before .before .before .before .before .before .before .before .before .before .before .before .before .before .lent-refusal .ensures) (c .before .before .before .before .before .before .before .before .before .before .before .before .before .before .before .before .before .before .before .before .before .before .before .before .before .before .if1 .left) (λ own. c .before .before .before .before .before .before .before .before .before .before .before .before .before .before .before .before .before .before .before .before .before .find-entry .ensures (x .t1) own refl refl) (c .before .before .before .before .before .before .before .before .before .before .before .before .before .before .before .before .before .before .before .before .commit-refusal .ensures) (c .before .before .before .before .before .before .before .before .before .before .before .before .before .before .before .before .before .before .before .if2 .left) in
-    omega (arith, c .words-of .ensures, words-close commitKind 0 (omega arith) (omega arith), s .placed .end-small, s .placed .own-min, s .placed .own-part)
+    let few : c .words-of .result ≤ 3 = rw (c .words-of .ensures) (words-most _ 0) in
+    omega (arith, few, s .placed .end-small, s .placed .own-min, s .placed .own-part)
 
 mul-tails : tie.Need-mul-tails
 mul-tails c =
