@@ -2,7 +2,7 @@
 use mathlib.Core.Path.{_≡_, refl, sym, ap, _∙_}
 use mathlib.Core.List.{List, [], _∷_}
 use mathlib.Core.Bool.{Bool, true, false, cond, not, _&&_, _||_}
-use Prim.Native.Nat.{ℕ, _+_, _*_, _≤_, _<_}
+use Prim.Native.Nat.{ℕ, _+_, _*_}
 use native.Mathlib.Omega.{arith}
 use lib.Dec.{leb, eqb}
 use lib.ListN.{length, getD, drop}
@@ -15,14 +15,13 @@ use Rattle.model.specs.Record.{wordsOf, updateKind}
 use Rattle.model.specs.Anchor.{anchorWords}
 use Rattle.model.specs.World.{World}
 use Rattle.model.specs.Memory.{ownerOf}
-use Rattle.model.specs.State.{startOf, keptOf, endOf, placeOf, inTable, isOpen, baseOf, reservedOn}
+use Rattle.model.specs.State.{startOf, keptOf, endOf, placeOf, inTable, isOpen, baseOf}
 use Rattle.model.specs.Room.{hasRoom}
-use Rattle.model.specs.Refusal.{Row, row, verdict, accepted, rejected}
+use Rattle.model.specs.Refusal.{Row, row, verdict, rejected}
 use Rattle.model.specs.Causes.{whenServing, anchorWrong, slotMissing, notOpen, valueWrong, locked}
 use Rattle.model.specs.Reads.{slotFits, placeFits, homeFits, updateFits}
 use Rattle.model.specs.Transaction.{diskOf, slotRows, updateRows}
 use Rattle.model.specs.View.{headWords, coreOf, bodyOf}
-use Rattle.model.proofs.View.Head.{carried-back}
 use Rattle.table.specs.Parts.{roomFor}
 use Rattle.frame.specs.declared.entry.Entry.{Entry}
 use Rattle.frame.specs.Checks.{verdictOf}

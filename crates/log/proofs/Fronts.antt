@@ -2,26 +2,25 @@
 use Prim.Native.Nat.{ℕ, _+_, _-_, _*_, _/_, _%_, _≤_, _<_}
 use mathlib.Core.Path.{_≡_, refl, sym, ap, subst, _∙_}
 use mathlib.Core.List.{List}
-use mathlib.Core.Bool.{Bool, true, false, cond}
+use mathlib.Core.Bool.{true, false}
 use native.Mathlib.Omega.{arith}
-use native.Mathlib.Nat.{mod-eq-of-lt, mod-add-mod, mod-le, zero-mod, div-add-mod, mul-mod-right}
+use native.Mathlib.Nat.{mod-eq-of-lt, mod-add-mod, zero-mod, div-add-mod, mul-mod-right}
 use native.Mathlib.Decide.{decLt}
-use lib.Dec.{ltb, eqb}
 use lib.ListN.{getD}
-use borrow.Author.Tests.{lt-ltb, le-ltb, eq-eqb, ne-eqb}
+use borrow.Author.Tests.{lt-ltb, eq-eqb}
 use Rattle.model.specs.declared.Sizes.{Sizes}
 use Rattle.model.specs.declared.RecordSize.the-variants.{Words, NoKind}
 use Rattle.model.specs.declared.Decoded.{Decoded}
 use Rattle.model.specs.declared.Decoded.the-variants.{Change, Close, Malformed}
-use Rattle.model.specs.Sizes.{ringWord, ringOf, diskAt}
+use Rattle.model.specs.Sizes.{ringWord}
 use Rattle.model.specs.Record.{recordSize}
-use Rattle.model.specs.Decode.{readLog, kindField, pageField, slotField, widthField, misplaced, decodeWords, decodeAt}
+use Rattle.model.specs.Decode.{readLog, kindField, widthField, misplaced, decodeWords, decodeAt}
 use Rattle.model.proofs.Booleans.{true-false}
-use Rattle.model.proofs.RecordSizes.{sized}
+use Rattle.model.proofs.RecordSizes.{has-size}
 use Rattle.model.proofs.Decode.{Formed, decoded-all}
 use Rattle.log.specs.declared.front.Turn.{Turn}
 use Rattle.log.specs.declared.front.Front.{Front}
-use Rattle.log.specs.Reading.{LiesAt, decodedChange, decodedClose}
+use Rattle.log.specs.Reading.{LiesAt}
 use Rattle.log.specs.Front.{InTurn, FrontAt, EndsAt, Measured}
 use Rattle.log.proofs.Decoding.{decode-none, decode-past, decode-is-change, decode-is-close}
 
@@ -84,7 +83,7 @@ module _ (s : Sizes) (stop p w n copy : ℕ) where
     measured-whole : (p + size ≤ stop → EndsAt (p + size) here) → Measured here stop p size
     measured-whole ends =
         record {
-          none = λ z. absurd (omega (arith, sized (w % 8) (w / 65536) size is .least));
+          none = λ z. absurd (omega (arith, has-size (w % 8) (w / 65536) size is .least));
           past = λ l. sym (decode-past s stop p w n copy size is l);
           whole = λ _ fits. ends fits;
         }

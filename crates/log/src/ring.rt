@@ -10,7 +10,7 @@ ghost use lib.ListN.{length};
 ghost use Rattle.model.specs.Word.{part};
 ghost use Rattle.model.specs.Decode.{misplaced, decodeAt};
 ghost use Rattle.log.specs.Reading.{decodedChange};
-ghost use Rattle.log.specs.Ring.{readRing, Ring, InRing, EntriesOf, Entries};
+ghost use Rattle.log.specs.Ring.{readRing, Ring, InRing, EntriesOf};
 
 // The words of the ring whose tail word is at `place`.
 pub fn ring_words<'a>(logs: &'a [u64], place: u64, size: u64) -> &'a [u64]

@@ -14,7 +14,7 @@ use Rattle.model.specs.Sizes.{slotsIn, widthIn}
 use Rattle.model.specs.Record.{recordSize}
 use Rattle.model.specs.Decode.{kindField, pageField, slotField, widthField, misplaced, decodeSized, decodeWords, decodeAt}
 use Rattle.model.proofs.Booleans.{or-none, cond-all, cond-cong}
-use Rattle.model.proofs.RecordSizes.{sized}
+use Rattle.model.proofs.RecordSizes.{has-size}
 
 -- A change decoded at p: its fields are the page's, and it ends at or before the stop.
 pub record ChangeAt (s : Sizes) (stop p kind page slot number width next : ℕ) : Type 0 where
@@ -75,7 +75,7 @@ module _ (P : Decoded → Type 0) (s : Sizes) (stop p w number copy : ℕ) where
       go : (z : RecordSize) → recordSize (kindField w) (widthField w) ≡ z → P (decodeSized s stop p w number copy z)
       go NoKind e = none
       go (Words n) e =
-          let is = sized (kindField w) (widthField w) n e in
+          let is = has-size (kindField w) (widthField w) n e in
           cond-all P (ltb stop (p + n)) (λ _. none)
           (λ l. cond-all P (eqb number 0) (λ _. none)
           (λ pos.
@@ -129,7 +129,7 @@ words-cong s stop p w m n e f number copy = go (recordSize (kindField w) (widthF
     go : (z : RecordSize) → recordSize (kindField w) (widthField w) ≡ z → decodeSized s stop p w m e z ≡ decodeSized s stop p w n f z
     go NoKind is = refl
     go (Words size) is =
-        let known = sized (kindField w) (widthField w) size is in
+        let known = has-size (kindField w) (widthField w) size is in
         cond-cong (ltb stop (p + size)) (λ _. refl)
         (λ l.
         let fits : p + size ≤ stop = ltb-false _ _ l in

@@ -13,7 +13,7 @@ use Rattle.model.specs.declared.Decoded.the-variants.{Change, Close, Mal
 use Rattle.model.specs.declared.RecordSize.{RecordSize}
 use Rattle.model.specs.declared.RecordSize.the-variants.{Words, NoKind}
 use Rattle.model.specs.Record.{Record, change, close, encode, updateKind, compensationKind, commitKind, abortKind, recordSize, sizeWords, wordsOf}
-use Rattle.model.specs.Decode.{kindField, pageField, slotField, widthField, misplaced, decodeWords}
+use Rattle.model.specs.Decode.{kindField, pageField, slotField, widthField, misplaced, decodeWords, decodeAt}
 
 pub size-change : (kind width : ℕ) → kind < 2 → recordSize kind width ≡ Words (3 + width)
 unfolding recordSize
@@ -37,7 +37,7 @@ size-none kind width h =
     rw (ne-eqb kind 0 (omega arith), ne-eqb kind 1 (omega arith), ne-eqb kind 2 (omega arith), ne-eqb kind 3 (omega arith)) refl
 
 -- What a size tells: the kind is one of the four, and which of the two sizes it is.
-pub record Sized (kind width n : ℕ) : Type 0 where
+pub record HasSize (kind width n : ℕ) : Type 0 where
   pub kind-lt : kind < 4
   pub change : kind < 2 → n ≡ 3 + width
   pub close : 2 ≤ kind → n ≡ 2
@@ -47,10 +47,10 @@ pub record Sized (kind width n : ℕ) : Type 0 where
 same-words : {m n : ℕ} → Words m ≡ Words n → n ≡ m
 same-words e = sym (ap sizeWords e)
 
-pub sized : (kind width n : ℕ) → recordSize kind width ≡ Words n → Sized kind width n
-sized kind width n e = go (decLt kind 2) (decLt kind 4)
+pub has-size : (kind width n : ℕ) → recordSize kind width ≡ Words n → HasSize kind width n
+has-size kind width n e = go (decLt kind 2) (decLt kind 4)
   where
-    go : Dec (kind < 2) → Dec (kind < 4) → Sized kind width n
+    go : Dec (kind < 2) → Dec (kind < 4) → HasSize kind width n
     go (yes k) l =
         let is : n ≡ 3 + width = same-words (sym (size-change kind width k) ∙ e) in
         record { kind-lt = omega arith; change = λ _. is; close = λ h. absurd (omega arith); least = omega arith; most = omega arith }
@@ -77,10 +77,9 @@ words-most kind width = go (recordSize kind width) refl
   where
     go : (z : RecordSize) → recordSize kind width ≡ z → sizeWords z ≤ 3 + width
     go NoKind e = omega arith
-    go (Words n) e = sized kind width n e .most
+    go (Words n) e = has-size kind width n e .most
 
--- A record is written with as many words as its kind has: kind and difference belong together where a change has kind 0 or 1 and a
--- closing record 2 or 3.
+-- The size of a record is the number of words that it is written with, a change being of kind 0 or 1 and a closing record of 2 or 3.
 abbrev pub SizeWritten : Record → Type 0
 SizeWritten (change kind page slot number copy diff) =
     kind < 2 → recordSize kind (length diff) ≡ Words (length (encode (change kind page slot number copy diff)))
@@ -139,3 +138,9 @@ decoding-kept s end p w number copy = go (decLt 3 (kindField w))
     go : Dec (3 < kindField w) → decodeWords s end p w number copy ≡ decodedBefore s end p w number copy
     go (yes k) = rw (size-none (kindField w) (widthField w) k, lt-ltb 3 (kindField w) k) refl
     go (no k) = rw (size-before (kindField w) (widthField w) (omega arith), le-ltb 3 (kindField w) (omega arith)) refl
+
+-- so at every position of every log
+pub decoding-kept-at : (s : Sizes) (read : ℕ → ℕ) (end p : ℕ)
+    → decodeAt s read end p ≡ decodedBefore s end p (read p) (read (p + 1)) (read (p + 2))
+unfolding decodeAt
+decoding-kept-at s read end p = decoding-kept s end p (read p) (read (p + 1)) (read (p + 2))

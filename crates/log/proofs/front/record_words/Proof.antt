@@ -2,7 +2,7 @@
 use mathlib.Core.Path.{sym, _∙_}
 use native.Mathlib.Omega.{arith}
 use borrow.Author.Needs.{needs}
-use Rattle.model.proofs.RecordSizes.{sized}
+use Rattle.model.proofs.RecordSizes.{has-size}
 use Rattle.log.proofs.Fronts.{measured-zero, measured-none, measured-outside, measured-change, measured-close, measured-set}
 use Rattle.log.proofs.front.record_words.Statement.{statement}
 use Rattle.log.proofs.front.record_words.Tie as tie
@@ -27,7 +27,7 @@ returns-4 c =
     let words = c .before .before .before .before in
     let size = words .before .before in
     let is = sym (size .record-size .ensures) ∙ words .n .given .1 in (
-      omega (arith, sized _ _ _ is .most),
+      omega (arith, has-size _ _ _ is .most),
       λ s e stop p copy. measured-change s stop p _ _ copy (size .before .if1 .left) _ is (c .before .before .if2 .taken)
           (sym (c .before .is-outside .ensures s e) ∙ c .if3 .left),
     )
@@ -37,7 +37,7 @@ returns-5 c =
     let words = c .before .before .before in
     let size = words .before .before in
     let is = sym (size .record-size .ensures) ∙ words .n .given .1 in (
-      omega (arith, sized _ _ _ is .most),
+      omega (arith, has-size _ _ _ is .most),
       λ s e stop p copy. measured-close s stop p _ _ copy (size .before .if1 .left) _ is (c .before .if2 .left) (c .if4 .taken),
     )
 

@@ -3,7 +3,7 @@ use mathlib.Core.Path.{sym, _∙_}
 use native.Mathlib.Omega.{arith}
 use borrow.Author.Needs.{needs}
 use Rattle.model.specs.Decode.{decodeAt}
-use Rattle.model.proofs.RecordSizes.{sized}
+use Rattle.model.proofs.RecordSizes.{has-size}
 use Rattle.log.proofs.Decoding.{decode-none, decode-past, decode-zero, decode-is-change, decode-is-close}
 use Rattle.log.proofs.read.decode_at.Statement.{statement}
 use Rattle.log.proofs.read.decode_at.Tie as tie
@@ -18,7 +18,7 @@ returns c =
 add-next : tie.Need-add-next
 add-next c =
     let words = c .before in
-    omega (arith, sized _ _ _ (sym (words .before .before .record-size .ensures) ∙ words .n .given .1) .most)
+    omega (arith, has-size _ _ _ (sym (words .before .before .record-size .ensures) ∙ words .n .given .1) .most)
 
 returns-2 : tie.Need-returns-2
 unfolding decodeAt
@@ -32,7 +32,7 @@ returns-2 c =
 read-word-requires-2 : tie.Need-read-word-requires-2
 read-word-requires-2 c κs =
     let words = c .before .before in
-    omega (arith, sized _ _ _ (sym (words .before .before .record-size .ensures) ∙ words .n .given .1) .least)
+    omega (arith, has-size _ _ _ (sym (words .before .before .record-size .ensures) ∙ words .n .given .1) .least)
 
 returns-3 : tie.Need-returns-3
 unfolding decodeAt
@@ -48,7 +48,7 @@ returns-3 c =
 read-word-requires-3 : tie.Need-read-word-requires-3
 read-word-requires-3 c κs =
     let words = c .before .before .before .before .before in
-    omega (arith, sized _ _ _ (sym (words .before .before .record-size .ensures) ∙ words .n .given .1) .change (c .if3 .taken))
+    omega (arith, has-size _ _ _ (sym (words .before .before .record-size .ensures) ∙ words .n .given .1) .change (c .if3 .taken))
 
 returns-4 : tie.Need-returns-4
 unfolding decodeAt

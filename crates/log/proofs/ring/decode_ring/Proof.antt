@@ -4,7 +4,7 @@ use mathlib.Core.Path.{sym, _∙_}
 use native.Mathlib.Omega.{arith}
 use borrow.Author.Needs.{needs}
 use Rattle.model.specs.Decode.{decodeAt}
-use Rattle.model.proofs.RecordSizes.{sized}
+use Rattle.model.proofs.RecordSizes.{has-size}
 use Rattle.log.proofs.Decoding.{decode-none, decode-past, decode-zero, decode-is-change, decode-is-close}
 use Rattle.log.proofs.Rings.{index-lt}
 use Rattle.log.proofs.ring.decode_ring.Statement.{statement}
@@ -28,7 +28,7 @@ returns c =
 add-next : tie.Need-add-next
 add-next c =
     let words = c .before in
-    omega (arith, sized _ _ _ (sym (words .before .before .record-size .ensures) ∙ words .n .given .1) .most)
+    omega (arith, has-size _ _ _ (sym (words .before .before .record-size .ensures) ∙ words .n .given .1) .most)
 
 returns-2 : tie.Need-returns-2
 unfolding decodeAt
