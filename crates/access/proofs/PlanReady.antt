@@ -1,7 +1,7 @@
 -- Update: what its checks leave, as its plan.
 use mathlib.Core.Path.{_≡_, refl, sym, ap, _∙_}
 use mathlib.Core.Bool.{true, cond}
-use Prim.Native.Nat.{ℕ, _+_, _-_, _≤_, _<_}
+use Prim.Native.Nat.{ℕ, _+_, _≤_, _<_}
 use native.Mathlib.Omega.{arith}
 use lib.Dec.{ltb}
 use lib.ListN.{length, getD, drop, length-drop}
@@ -9,14 +9,12 @@ use lib.Seq.{getD-drop}
 use Rattle.model.specs.declared.Core.{Core}
 use Rattle.model.specs.declared.Carried.{Carried}
 use Rattle.model.specs.Sizes.{logWords, diskAt}
-use Rattle.model.specs.Record.{updateKind}
 use Rattle.model.specs.World.{World}
 use Rattle.model.specs.Memory.{bufferAt, copyAt, ownerAt, workWords, copyOf}
 use Rattle.model.specs.State.{limit, endOf, firstAt, hasUpdate}
 use Rattle.model.specs.Transaction.{diskOf}
 use Rattle.model.specs.View.{headFirsts, headWords, ownWork, coreOf, bodyOf}
 use Rattle.model.specs.Fields.{firsts}
-use Rattle.model.proofs.RecordSizes.{words-change}
 use Rattle.model.proofs.View.Head.{carried-back}
 use Rattle.model.proofs.View.Fields.{field-read}
 use Rattle.log.specs.Write.{Within}
@@ -116,7 +114,7 @@ module _ (h : Carried) (w : World) (own : ownWork h (w .work) ≡ true) (ready :
             tail = found .tail;
             fill = found .fill;
             first = first-here found;
-            reserved = rw (same, ← found .reserved, words-change updateKind (f .width) (omega arith)) refl;
-            sum = rw (same, ← found .sum, words-change updateKind (f .width) (omega arith)) refl;
+            reserved = rw (same, ← found .reserved) refl;
+            sum = rw (same, ← found .sum) refl;
             home = home-here found;
           }

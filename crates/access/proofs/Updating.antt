@@ -14,7 +14,7 @@ use Rattle.model.specs.declared.Carried.{Carried}
 use Rattle.model.specs.declared.Logs.{Logs}
 use Rattle.model.specs.declared.Table.{Table}
 use Rattle.model.specs.declared.Handed.{Handed}
-use Rattle.model.specs.Record.{encode}
+use Rattle.model.specs.Record.{encode, wordsOf, updateKind}
 use Rattle.model.specs.World.{World, worldOf}
 use Rattle.model.specs.State.{tailOf, fillOf, withLog, withPlace, withReserved}
 use Rattle.model.specs.Causes.{whenShut}
@@ -23,6 +23,7 @@ use Rattle.model.specs.Transaction.{slotWords, updateRecord, updated, updateRow
 use Rattle.model.specs.Call.{update}
 use Rattle.model.specs.View.{headWords, ownWork, coreOf, carriedOf, headOf, bodyOf, Serves}
 use Rattle.model.specs.Fields.{putWords, entering, filling}
+use Rattle.model.proofs.RecordSizes.{words-change}
 use Rattle.model.proofs.View.Laid.{setIn}
 use Rattle.model.proofs.View.Head.{own-work, carried-back}
 use Rattle.model.proofs.View.Fields.{putLists, Within as within-head, head-put}
@@ -90,14 +91,16 @@ module _ (h : Carried) (w : World) (own : ownWork h (w .work) ≡ true) {number 
   unfolding replacing updateTask updateRecord slotWords
   actions-are = rw (← plans .same-width, ← plans .at, ← plans .disk, ← plans .copy) refl
 
-  words-are : length (encode (updateRecord c (bodyOf w) number page slot value)) ≡ 3 + length value
+  words-are : length (encode (updateRecord c (bodyOf w) number page slot value)) ≡ wordsOf updateKind (length value)
   unfolding updateRecord slotWords
-  words-are = rw (← plans .same-width, ← plans .at, ← plans .copy) (record-length (p .at) value (bodyOf w .pages) (plans .end) head)
+  words-are =
+      rw (← plans .same-width, ← plans .at, ← plans .copy)
+      (record-length (p .at) value (bodyOf w .pages) (plans .end) head ∙ sym (words-change updateKind (length value) (omega arith)))
 
   abbrev table-after : Table
   table-after = withReserved (withPlace (c .table) (p .place) number (p .disk) (p .first) (p .reserved)) (p .disk) (p .sum)
 
-  table-is : updated c number (3 + length value) ≡ table-after
+  table-is : updated c number (wordsOf updateKind (length value)) ≡ table-after
   unfolding updated
   table-is = rw (← plans .place, ← plans .disk, ← plans .first, ← plans .reserved, ← plans .sum) refl
 

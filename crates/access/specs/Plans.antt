@@ -62,8 +62,8 @@ pub record Plans (c : Core) (w : World) (number page slot width : ℕ) (r : Plan
   pub tail : r .tail ≡ tailOf (c .logs) (r .disk)
   pub fill : r .fill ≡ fillOf (c .logs) (r .disk)
   pub first : r .first ≡ cond (hasUpdate (c .table) (r .place)) (firstAt (c .table) (r .place)) (endOf (c .logs) (r .disk))
-  pub reserved : r .reserved ≡ reservedAt (c .table) (r .place) + (3 + width)
-  pub sum : r .sum ≡ reservedOn (c .table) (r .disk) + (3 + width)
+  pub reserved : r .reserved ≡ reservedAt (c .table) (r .place) + wordsOf updateKind width
+  pub sum : r .sum ≡ reservedOn (c .table) (r .disk) + wordsOf updateKind width
   pub home : Within (homeOf (c .sizes) (c .logs) (r .disk)) (w .logs) (w .work)
 
 -- The row that refuses an update of a value of so many words, and where none does, its plan.

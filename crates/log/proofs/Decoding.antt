@@ -6,8 +6,7 @@ use Rattle.model.specs.declared.Sizes.{Sizes}
 use Rattle.model.specs.declared.RecordSize.the-variants.{Words, NoKind}
 use Rattle.model.specs.declared.Decoded.the-variants.{Malformed}
 use Rattle.model.specs.Record.{recordSize}
-use Rattle.model.specs.Decode.{decodeWords}
-use Rattle.log.specs.Reading.{decodedChange, decodedClose}
+use Rattle.model.specs.Decode.{decodedChange, decodedClose, decodeWords}
 
 module _ (s : Sizes) (stop p w number copy : ℕ) where
   pub decode-none : recordSize (w % 8) (w / 65536) ≡ NoKind → Malformed ≡ decodeWords s stop p w number copy

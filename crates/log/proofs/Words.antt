@@ -6,10 +6,11 @@ use native.Mathlib.Omega.{arith}
 use lib.ListN.{length, take, drop}
 use lib.Seq.{take-length, length-take-le, take-append-add, take-at, drop-at, sets, sets-eq}
 use Rattle.model.specs.Word.{part}
-use Rattle.model.specs.Record.{change, close, header, encode}
+use Rattle.model.specs.Record.{change, close, header, encode, wordsOf}
+use Rattle.model.proofs.RecordSizes.{words-change}
 use Rattle.model.proofs.Parts.{length-part}
 use Rattle.log.specs.declared.write.Head.{Head}
-use Rattle.log.specs.Write.{changeOf}
+use Rattle.log.specs.Write.{Encodable, changeOf}
 
 -- all words of a list are its part from 0 on
 pub put-all : (l : List ℕ) (at : ℕ) (words : List ℕ) {after : List ℕ} → after ≡ sets l at (part 0 (length words) words) → after ≡ sets l at words
@@ -22,6 +23,10 @@ unfolding part
 part-set l at words fits =
     rw (sets-eq words l at fits, append-assoc (take at l) words, drop-at (take at l) (words ++ drop (at + length words) l) at (length-take-le at l (omega arith)))
     (take-at words (drop (at + length words) l) (length words) refl)
+
+-- the words of a change, asked for by its kind
+pub change-size : {h : Head} {width words : ℕ} → Encodable h width → words ≡ wordsOf (h .kind) width → words ≡ 3 + width
+change-size {h} {width} fits is = is ∙ words-change (h .kind) width (omega (arith, fits .kind-small))
 
 -- a closing record
 pub close-words : (kind number : ℕ) → kind ∷ number ∷ [] ≡ encode (close kind number)

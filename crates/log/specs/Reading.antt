@@ -14,15 +14,6 @@ use Rattle.model.specs.Decode.{kindField, pageField, slotField, widthField, mis
 use Rattle.model.specs.Scan.{Scan, end, bad, item}
 use Rattle.log.specs.declared.read.Extent.{Extent}
 
--- a change by its first three words, a closing record by its two: what decodeWords makes of a known kind
-abbrev pub decodedChange : Sizes → ℕ → ℕ → ℕ → ℕ → Decoded
-decodedChange s w number copy next =
-    cond (misplaced s w) Malformed
-    (Change (kindField w) (pageField w) (slotField w) number copy (widthField w) next)
-
-abbrev pub decodedClose : ℕ → ℕ → ℕ → Decoded
-decodedClose w number next = cond (eqb (w / 8) 0) (Close (kindField w) number next) Malformed
-
 -- A disk's tail word and its ring size are these.
 pub record LiesAt (s : Sizes) (disk place ring : ℕ) : Type 0 where
   pub same-place : diskAt s disk ≡ place

@@ -12,16 +12,16 @@ pub const COMMIT: u64 = 2;
 
 pub const ABORT: u64 = 3;
 
-// 01's record table: update, compensation, commit, abort, the first two with a difference of width words. No other kind has a size.
+// 01's record table; width is that of the difference. A number above 3 is no kind.
 pub fn record_size(kind: u64, width: u64) -> RecordSize
     requires { ⌜ width < 2 ^ 48 ⌝ }
     ensures { λ r. ⌜ r ≡ recordSize kind width ⌝ }
 {
     match kind {
-        0 => RecordSize::Words { n: 3 + width },
-        1 => RecordSize::Words { n: 3 + width },
-        2 => RecordSize::Words { n: 2 },
-        3 => RecordSize::Words { n: 2 },
+        UPDATE => RecordSize::Words { n: 3 + width },
+        COMPENSATION => RecordSize::Words { n: 3 + width },
+        COMMIT => RecordSize::Words { n: 2 },
+        ABORT => RecordSize::Words { n: 2 },
         _ => RecordSize::NoKind,
     }
 }

@@ -8,8 +8,8 @@ use model::Sizes;
 ghost use mathlib.Core.Path.{_≡_};
 ghost use Prim.Native.Nat.{ℕ, _+_, _≤_, _<_};
 ghost use lib.ListN.{length};
-ghost use Rattle.model.specs.Decode.{readLog, misplaced, decodeAt};
-ghost use Rattle.log.specs.Reading.{decodedChange, decodedClose, PagesOf, LiesAt, extentOf, Readable};
+ghost use Rattle.model.specs.Decode.{readLog, misplaced, decodedChange, decodedClose, decodeAt};
+ghost use Rattle.log.specs.Reading.{PagesOf, LiesAt, extentOf, Readable};
 
 // What a reader needs of a disk's log: the index of its tail word in the logs of all disks, its ring size, its tail, and where it ends.
 pub struct Extent {

@@ -8,8 +8,7 @@ ghost use mathlib.Core.Path.{_≡_};
 ghost use Prim.Native.Nat.{ℕ, _+_, _%_, _≤_, _<_};
 ghost use lib.ListN.{length};
 ghost use Rattle.model.specs.Word.{part};
-ghost use Rattle.model.specs.Decode.{misplaced, decodeAt};
-ghost use Rattle.log.specs.Reading.{decodedChange};
+ghost use Rattle.model.specs.Decode.{misplaced, decodedChange, decodeAt};
 ghost use Rattle.log.specs.Ring.{readRing, Ring, InRing, EntriesOf};
 
 // The words of the ring whose tail word is at `place`.

@@ -57,12 +57,13 @@ in-place s w e =
       width-eq = eqb-true _ _ (not-false _ (both .1));
     }
 
--- What is decoded is a change, a closing record or malformed. A property of it is shown for the three: the first two with all that the
--- tests have asked.
+-- what is asked of a change and of a closing record alike
 pub record Formed (stop p number size : ℕ) : Type 0 where
   pub fits : p + size ≤ stop
   pub numbered : number ≡ 0 → ⊥
 
+-- What is decoded is a change, a closing record or malformed. A property of it is shown for the three: the first two with all that the
+-- tests have asked.
 module _ (P : Decoded → Type 0) (s : Sizes) (stop p w number copy : ℕ) where
   pub decoded-all : P Malformed
       → (kindField w < 2 → Formed stop p number (3 + widthField w) → misplaced s w ≡ false
@@ -82,9 +83,9 @@ module _ (P : Decoded → Type 0) (s : Sizes) (stop p w number copy : ℕ) where
           let formed : Formed stop p number n = record { fits = ltb-false _ _ l; numbered = eqb-false number 0 pos } in
           cond-all P (ltb (kindField w) 2)
           (λ k. cond-all P (misplaced s w) (λ _. none)
-          (λ m. let long = is .change (ltb-true _ _ k) in rw long (changed (ltb-true _ _ k) (rw long at formed) m)))
+          (λ m. let long = is .if-change (ltb-true _ _ k) in rw long (changed (ltb-true _ _ k) (rw long at formed) m)))
           (λ k. cond-all P (eqb (w / 8) 0)
-          (λ z. let short = is .close (ltb-false _ _ k) in rw short (closed (ltb-false _ _ k) (is .kind-lt) (rw short at formed) (eqb-true _ _ z)))
+          (λ z. let short = is .if-close (ltb-false _ _ k) in rw short (closed (ltb-false _ _ k) (is .kind-lt) (rw short at formed) (eqb-true _ _ z)))
           (λ _. none))))
 
 found-words : (s : Sizes) (stop p w number copy : ℕ) → Found s stop p (decodeWords s stop p w number copy)
@@ -120,7 +121,7 @@ module _ (s : Sizes) (read : ℕ → ℕ) (stop : ℕ) where
       → CloseAt stop p kind number next
   found-close {p} e = subst (λ (d : Decoded). Found s stop p d) e (found s read stop p)
 
--- a word from the stop on says nothing: the number counts only where word 1 lies before it, the epoch where word 2 does
+-- a word from the stop on says nothing: the number counts only where word 1 lies before it, the copy number where word 2 does
 words-cong : (s : Sizes) (stop p w m n e f : ℕ) → (p + 2 ≤ stop → m ≡ n) → (p + 3 ≤ stop → e ≡ f)
     → decodeWords s stop p w m e ≡ decodeWords s stop p w n f
 unfolding decodeWords
@@ -136,7 +137,7 @@ words-cong s stop p w m n e f number copy = go (recordSize (kindField w) (widthF
         let same : m ≡ n = number (omega (arith, known .least)) in
         rw same (cond-cong (eqb n 0) (λ _. refl)
         (λ _. cond-cong (ltb (kindField w) 2)
-        (λ k. let three = known .change (ltb-true _ _ k) in rw (copy (omega arith)))
+        (λ k. let three = known .if-change (ltb-true _ _ k) in rw (copy (omega arith)))
         (λ _. refl))))
 
 pub decode-cong : (s : Sizes) (read other : ℕ → ℕ) (stop p : ℕ) → p < stop

@@ -31,7 +31,7 @@ size-close kind width h l = go (ℕ-discrete kind 2)
     go (yes e) = rw e refl
     go (no e) = let three : kind ≡ 3 = omega arith in rw three refl
 
-pub size-none : (kind width : ℕ) → 3 < kind → recordSize kind width ≡ NoKind
+size-none : (kind width : ℕ) → 3 < kind → recordSize kind width ≡ NoKind
 unfolding recordSize
 size-none kind width h =
     rw (ne-eqb kind 0 (omega arith), ne-eqb kind 1 (omega arith), ne-eqb kind 2 (omega arith), ne-eqb kind 3 (omega arith)) refl
@@ -39,8 +39,8 @@ size-none kind width h =
 -- What a size tells: the kind is one of the four, and which of the two sizes it is.
 pub record HasSize (kind width n : ℕ) : Type 0 where
   pub kind-lt : kind < 4
-  pub change : kind < 2 → n ≡ 3 + width
-  pub close : 2 ≤ kind → n ≡ 2
+  pub if-change : kind < 2 → n ≡ 3 + width
+  pub if-close : 2 ≤ kind → n ≡ 2
   pub least : 2 ≤ n
   pub most : n ≤ 3 + width
 
@@ -53,10 +53,10 @@ has-size kind width n e = go (decLt kind 2) (decLt kind 4)
     go : Dec (kind < 2) → Dec (kind < 4) → HasSize kind width n
     go (yes k) l =
         let is : n ≡ 3 + width = same-words (sym (size-change kind width k) ∙ e) in
-        record { kind-lt = omega arith; change = λ _. is; close = λ h. absurd (omega arith); least = omega arith; most = omega arith }
+        record { kind-lt = omega arith; if-change = λ _. is; if-close = λ h. absurd (omega arith); least = omega arith; most = omega arith }
     go (no k) (yes l) =
         let is : n ≡ 2 = same-words (sym (size-close kind width (omega arith) l) ∙ e) in
-        record { kind-lt = l; change = λ h. absurd (omega arith); close = λ _. is; least = omega arith; most = omega arith }
+        record { kind-lt = l; if-change = λ h. absurd (omega arith); if-close = λ _. is; least = omega arith; most = omega arith }
     go (no k) (no l) =
         let none : NoKind ≡ Words n = sym (size-none kind width (omega arith)) ∙ e in
         let z : _≡_ {A = ℕ} 0 1 = cc in
@@ -91,14 +91,14 @@ size-written (change kind page slot number copy diff) = λ k. size-change kind (
 size-written (close kind number) = λ k. size-close kind 0 (k .0) (k .1)
 
 -- 01's table, kind by kind, and no size above 3.
-pub record RecordSizes : Type 0 where
+pub record SizeTable : Type 0 where
   pub update : (width : ℕ) → recordSize updateKind width ≡ Words (3 + width)
   pub compensation : (width : ℕ) → recordSize compensationKind width ≡ Words (3 + width)
   pub commit : (width : ℕ) → recordSize commitKind width ≡ Words 2
   pub abort : (width : ℕ) → recordSize abortKind width ≡ Words 2
   pub above : (kind width : ℕ) → 3 < kind → recordSize kind width ≡ NoKind
 
-pub record-sizes : RecordSizes
+pub record-sizes : SizeTable
 record-sizes =
     record {
       update = λ width. size-change updateKind width (omega arith);
@@ -108,7 +108,7 @@ record-sizes =
       above = size-none;
     }
 
--- Decoding as it stood before this request: a test for a kind above 3, and the words by one test of the kind.
+-- Decoding as it stood before S-6: a test for a kind above 3, and the words by one test of the kind.
 unfoldable pub wordsBefore : ℕ → ℕ → ℕ
 wordsBefore kind width = cond (ltb kind 2) (3 + width) 2
 
@@ -122,25 +122,25 @@ decodedBefore s end p w number copy =
     (Change (kindField w) (pageField w) (slotField w) number copy (widthField w) (p + wordsBefore (kindField w) (widthField w))))
     (cond (eqb (w / 8) 0) (Close (kindField w) number (p + wordsBefore (kindField w) (widthField w))) Malformed))))
 
-size-before : (kind width : ℕ) → kind < 4 → recordSize kind width ≡ Words (wordsBefore kind width)
+-- the four kinds have the words that they had
+pub sizes-kept : (kind width : ℕ) → kind < 4 → recordSize kind width ≡ Words (wordsBefore kind width)
 unfolding wordsBefore
-size-before kind width l = go (decLt kind 2)
+sizes-kept kind width l = go (decLt kind 2)
   where
     go : Dec (kind < 2) → recordSize kind width ≡ Words (wordsBefore kind width)
     go (yes k) = rw (lt-ltb kind 2 k) (size-change kind width k)
     go (no k) = rw (le-ltb kind 2 (omega arith)) (size-close kind width (omega arith) l)
 
 -- "Results and contract do not change": for every three words, every position and every end, what is decoded is what it was.
-pub decoding-kept : (s : Sizes) (end p w number copy : ℕ) → decodeWords s end p w number copy ≡ decodedBefore s end p w number copy
+words-kept : (s : Sizes) (end p w number copy : ℕ) → decodeWords s end p w number copy ≡ decodedBefore s end p w number copy
 unfolding decodeWords decodedBefore
-decoding-kept s end p w number copy = go (decLt 3 (kindField w))
+words-kept s end p w number copy = go (decLt 3 (kindField w))
   where
     go : Dec (3 < kindField w) → decodeWords s end p w number copy ≡ decodedBefore s end p w number copy
     go (yes k) = rw (size-none (kindField w) (widthField w) k, lt-ltb 3 (kindField w) k) refl
-    go (no k) = rw (size-before (kindField w) (widthField w) (omega arith), le-ltb 3 (kindField w) (omega arith)) refl
+    go (no k) = rw (sizes-kept (kindField w) (widthField w) (omega arith), le-ltb 3 (kindField w) (omega arith)) refl
 
--- so at every position of every log
-pub decoding-kept-at : (s : Sizes) (read : ℕ → ℕ) (end p : ℕ)
+pub decoding-kept : (s : Sizes) (read : ℕ → ℕ) (end p : ℕ)
     → decodeAt s read end p ≡ decodedBefore s end p (read p) (read (p + 1)) (read (p + 2))
 unfolding decodeAt
-decoding-kept-at s read end p = decoding-kept s end p (read p) (read (p + 1)) (read (p + 2))
+decoding-kept s read end p = words-kept s end p (read p) (read (p + 1)) (read (p + 2))

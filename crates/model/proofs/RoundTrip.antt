@@ -104,7 +104,8 @@ module _ (s : Sizes) (read : ℕ → ℕ) (stop : ℕ) where
   decode-encode p (change kind page slot number copy diff) f h l =
       let two : p + 1 + 1 ≡ p + 2 = omega arith in
       let third : read (p + 2) ≡ copy = rw two at (h .1 .1 .0) in
-      rw (h .0, h .1 .0, third) (decode-change-words s stop p kind page slot number copy diff f (omega arith))
+      let long : p + (3 + length diff) ≡ p + suc (suc (suc (length diff))) = omega arith in
+      rw (h .0, h .1 .0, third) (rw long at (decode-change-words s stop p kind page slot number copy diff f (omega arith)))
   decode-encode p (close kind number) f h l =
       rw (h .0, h .1 .0) (decode-close-words s stop p kind number (read (p + 2)) f l)
 
@@ -113,10 +114,9 @@ module _ (s : Sizes) (read : ℕ → ℕ) (stop : ℕ) where
   unfolding encode
   scan-one p (change kind page slot number copy diff) f h l =
       let three : p + 1 + 1 + 1 ≡ p + 3 = omega arith in
-      let long : p + (3 + length diff) ≡ p + suc (suc (suc (length diff))) = omega arith in
       let words : span read (p + 3) (length diff) ≡ diff = span-holds read (p + 3) diff (rw three at (h .1 .1 .1)) in
       let whole = scan-change s read stop (omega arith) (decode-encode p (change kind page slot number copy diff) f h l) in
-      rw (words, long) at whole
+      rw words at whole
   scan-one p (close kind number) f h l =
       scan-close s read stop (omega arith) (decode-encode p (close kind number) f h l)
 

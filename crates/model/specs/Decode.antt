@@ -10,7 +10,7 @@ use Rattle.model.specs.declared.RecordSize.the-variants.{Words, NoKind}
 use Rattle.model.specs.declared.Decoded.{Decoded}
 use Rattle.model.specs.declared.Decoded.the-variants.{Change, Close, Malformed}
 use Rattle.model.specs.Sizes.{slotsIn, widthIn, ringWord}
-use Rattle.model.specs.Record.{Record, change, close, recordSize}
+use Rattle.model.specs.Record.{Record, change, close, encode, recordSize}
 
 -- A log is read through a function from position to word: below the tail the ring's word, from the tail on the buffer's.
 unfoldable pub readLog : Sizes → List ℕ → ℕ → ℕ → List ℕ → ℕ → ℕ
@@ -40,6 +40,16 @@ misplaced s w =
     leb (s .pages) (pageField w) || leb (slotsIn s (pageField w)) (slotField w)
     || not (eqb (widthField w) (widthIn s (pageField w)))
 
+-- a change by its first three words, with "page, slot or length not the page's"
+abbrev pub decodedChange : Sizes → ℕ → ℕ → ℕ → ℕ → Decoded
+decodedChange s w number copy next =
+    cond (misplaced s w) Malformed
+    (Change (kindField w) (pageField w) (slotField w) number copy (widthField w) next)
+
+-- a closing record by its two words, with "set fields in a close"
+abbrev pub decodedClose : ℕ → ℕ → ℕ → Decoded
+decodedClose w number next = cond (eqb (w / 8) 0) (Close (kindField w) number next) Malformed
+
 -- a record of this size, whose first three words are w, number and copy, at position p of a log that ends at `end`
 abbrev pub decodeSized : Sizes → ℕ → ℕ → ℕ → ℕ → ℕ → RecordSize → Decoded
 -- "kind above 3"
@@ -49,13 +59,10 @@ decodeSized s end p w number copy (Words n) =
     cond (ltb end (p + n)) Malformed
     -- "number 0"
     (cond (eqb number 0) Malformed
-    (cond (ltb (kindField w) 2)
-    (cond (misplaced s w) Malformed
-    (Change (kindField w) (pageField w) (slotField w) number copy (widthField w) (p + n)))
-    -- "set fields in a close"
-    (cond (eqb (w / 8) 0) (Close (kindField w) number (p + n)) Malformed)))
+    (cond (ltb (kindField w) 2) (decodedChange s w number copy (p + n)) (decodedClose w number (p + n))))
 
--- a record by its first three words (round-trip in proofs/RoundTrip.antt: what was encoded is decoded)
+-- a record by its first three words (round-trip in proofs/RoundTrip.antt: what was encoded is decoded; decoding-kept in
+-- proofs/RecordSizes.antt: as it was before S-6)
 unfoldable pub decodeWords : Sizes → ℕ → ℕ → ℕ → ℕ → ℕ → Decoded
 decodeWords s end p w number copy = decodeSized s end p w number copy (recordSize (kindField w) (widthField w))
 
@@ -65,5 +72,5 @@ decodeAt s read end p = decodeWords s end p (read p) (read (p + 1)) (read (p + 2
 -- what it says of a record that stands whole at p
 abbrev pub decoded : ℕ → Record → Decoded
 decoded p (change kind page slot number copy diff) =
-    Change kind page slot number copy (length diff) (p + (3 + length diff))
-decoded p (close kind number) = Close kind number (p + 2)
+    Change kind page slot number copy (length diff) (p + length (encode (change kind page slot number copy diff)))
+decoded p (close kind number) = Close kind number (p + length (encode (close kind number)))

@@ -1,7 +1,7 @@
 -- What the steps of a restart have taken of each log, and what is left: the first records of what the log holds, and the others.
 use mathlib.Core.Path.{_≡_, refl, sym, ap, subst, _∙_}
 use mathlib.Core.List.{List, [], _∷_, _++_, append-assoc, append-nil}
-use Prim.Native.Nat.{ℕ, _+_, _≤_, _<_}
+use Prim.Native.Nat.{ℕ, suc, _+_, _≤_, _<_}
 use native.Mathlib.Omega.{arith}
 use native.Mathlib.Nat.{add-zero}
 use native.Mathlib.Decide.{ℕ-discrete}
@@ -66,8 +66,9 @@ module _ (s : Sizes) (read : ℕ → ℕ) (stop p : ℕ) where
           let rest : scan s read stop next ≡ placed (p + length (encode r)) more = cc in
           let to : next ≡ p + (3 + length (span read (p + 3) width)) = omega (arith, f .next-eq, long) in
           let size : p + length (encode r) ≡ next = rw (← is) (omega (arith, to)) in
+          let end : next ≡ p + suc (suc (suc width)) = omega (arith, f .next-eq) in
           record {
-            takes = rw (← is, long, e, f .next-eq);
+            takes = rw (← is, long, e, end);
             diffs = λ k pg sl n cp diff same.
                 let words : span read (p + 3) width ≡ diff = cc in
                 let wide : length diff ≡ width = ap length (sym words) ∙ long in
@@ -92,7 +93,7 @@ module _ (s : Sizes) (read : ℕ → ℕ) (stop p : ℕ) where
 module _ (c : Core) (w : World) (d : ℕ) (below : d < c .sizes .disks) where
   step-change : (kind page slot number copy : ℕ) (diff : List ℕ) (fate : Fate)
       → nextRecord c w d ≡ decoded (positionOf c d) (change kind page slot number copy diff)
-      → span (readDisk c w d) (positionOf c d + 3) (length diff) ≡ diff → fateFrom c w d number (positionOf c d + (3 + length diff)) ≡ fate
+      → span (readDisk c w d) (positionOf c d + 3) (length diff) ≡ diff → fateFrom c w d number (positionOf c d + length (encode (change kind page slot number copy diff))) ≡ fate
       → restartStepTask c w d .actions ≡ cond (replays (c .epoch) fate copy) (xorIn (slotBase (c .sizes) page slot) diff (w .pages)) []
   unfolding restartStepTask
   step-change kind page slot number copy diff fate takes diffs ahead =
@@ -103,8 +104,7 @@ module _ (c : Core) (w : World) (d : ℕ) (below : d < c .sizes .disks) where
   step-close kind number takes = rw (lt-ltb d (c .sizes .disks) below, takes)
 
   record-moves : (r : Record) → recordStep c w d (decoded (positionOf c d) r) .core ≡ movedTo c d (positionOf c d + length (encode r))
-  unfolding encode
-  record-moves (change kind page slot number copy diff) = ap (movedTo c d) (omega arith)
+  record-moves (change kind page slot number copy diff) = refl
   record-moves (close kind number) = refl
 
   step-moves : (r : Record) → nextRecord c w d ≡ decoded (positionOf c d) r → restartStepTask c w d .core ≡ movedTo c d (positionOf c d + length (encode r))
@@ -134,7 +134,7 @@ module _ (c now : Core) {w v : World} (sizes : now .sizes ≡ c .sizes) (logs : 
         changes = λ kind page slot number copy diff more e.
             let f = first (change kind page slot number copy diff) more (rw e at reads) in
             let long : q + length (encode (change kind page slot number copy diff)) ≡ q + (3 + length diff) = omega arith in
-            let after = subst (λ (n : ℕ). scan (c .sizes) (readDisk c w d) (tailOf (c .logs) d) n ≡ placed n more) long (f .ahead) in
+            let after = f .ahead ∙ ap (λ (n : ℕ). placed n more) long in
             step-change now v d (rw sizes below) kind page slot number copy diff (fateIn number (placed (positionOf now d + (3 + length diff)) more))
             (rw (sizes, logs, words, here) (f .takes)) (rw (sizes, logs, words, here) (f .diffs kind page slot number copy diff refl))
             (rw (sizes, logs, words, here) (ap (fateIn number) after));

@@ -1,33 +1,28 @@
 -- `access::change::log_change` meets its contract: behind what is buffered, or after a flush, which may be cut. Assumes nothing.
-use Prim.Native.Nat.{ℕ, _+_, _≤_}
-use mathlib.Core.Path.{_≡_, refl, sym, _∙_}
+use mathlib.Core.Path.{refl, sym, _∙_}
 use native.Mathlib.Omega.{arith}
 use lib.ListN.{length}
 use borrow.Author.Tests.{not-true, not-false}
 use Rattle.model.specs.Word.{xors, part}
-use Rattle.model.specs.Record.{encode, wordsOf}
+use Rattle.model.specs.Record.{encode}
 use Rattle.model.proofs.Booleans.{true-false}
-use Rattle.model.proofs.RecordSizes.{words-change}
 use Rattle.log.specs.Write.{changeOf}
+use Rattle.log.proofs.Words.{change-size}
 use Rattle.log.proofs.Append.{put-fits, put-cut, put-flushed}
 use Rattle.access.proofs.Differences.{record-length}
 use borrow.Author.Needs.{needs}
 use Rattle.access.proofs.change.log_change.Statement.{statement}
 use Rattle.access.proofs.change.log_change.Tie as tie
 
--- a change has three words more than its difference
-size : (kind width : ℕ) {words : ℕ} → words ≡ wordsOf kind width → kind ≤ 1 → words ≡ 3 + width
-size kind width is low = is ∙ words-change kind width (omega arith)
-
 add-if1 : tie.Need-add-if1
 add-if1 c =
     let start = c .before .before .before .before .before in
-    omega (arith, size _ _ (c .words-of .ensures) (start .pre .1 .kind-small), start .pre .1 .width-small, start .pre .0 .fill-small)
+    omega (arith, change-size (start .pre .1) (c .words-of .ensures), start .pre .1 .width-small, start .pre .0 .fill-small)
 
 put-change-requires : tie.Need-put-change-requires
 put-change-requires c κs =
     let start = c .before .before .before .before .before .before .before in
-    let n = size _ _ (c .before .before .words-of .ensures) (start .pre .1 .kind-small) in
+    let n = change-size (start .pre .1) (c .before .before .words-of .ensures) in
     (start .pre .1, omega (arith, n, c .before .if1 .taken, start .pre .0 .buffer-within), start .pre .2)
 
 returns : tie.Need-returns
@@ -37,7 +32,7 @@ returns c =
     let words = encode (changeOf (x .head) (xors (part (x .at) (length (x .value .now)) (x .pages .now)) (x .value .now))) in
     let long =
     record-length (x .at) (x .value .now) (x .pages .now) (start .pre .2) (x .head)
-    ∙ sym (size _ _ (c .before .before .before .before .before .words-of .ensures) (start .pre .1 .kind-small)) in
+    ∙ sym (change-size (start .pre .1) (c .before .before .before .before .before .words-of .ensures)) in
     let put = c .before .before .put-change .ensures in (
       λ s l w lent. rw long at (put-fits lent words (omega (arith, long, c .before .before .before .before .if1 .taken)) (x .budget .now) _ (put .0)),
       λ finished. put .1,
@@ -50,7 +45,7 @@ returns-2 c =
     let words = encode (changeOf (x .head) (xors (part (x .at) (length (x .value .now)) (x .pages .now)) (x .value .now))) in
     let long =
     record-length (x .at) (x .value .now) (x .pages .now) (start .pre .2) (x .head)
-    ∙ sym (size _ _ (c .before .before .before .before .before .before .before .before .words-of .ensures) (start .pre .1 .kind-small)) in (
+    ∙ sym (change-size (start .pre .1) (c .before .before .before .before .before .before .before .before .words-of .ensures)) in (
       λ s l w lent. put-cut lent words (omega (arith, long, c .before .before .before .before .before .before .before .if1 .left)) (c .before .before .before .flush-disk .ensures s l w lent) (not-true _ (c .if2 .taken)),
       λ finished. true-false finished refl,
     )
@@ -62,7 +57,7 @@ returns-3 c =
     let words = encode (changeOf (x .head) (xors (part (x .at) (length (x .value .now)) (x .pages .now)) (x .value .now))) in
     let long =
     record-length (x .at) (x .value .now) (x .pages .now) (start .pre .2) (x .head)
-    ∙ sym (size _ _ (c .before .before .before .before .before .before .before .before .before .before .before .before .words-of .ensures) (start .pre .1 .kind-small)) in
+    ∙ sym (change-size (start .pre .1) (c .before .before .before .before .before .before .before .before .before .before .before .before .words-of .ensures)) in
     let put = c .before .before .put-change2 .ensures in (
       λ s l w lent. rw long at (put-flushed lent words (omega (arith, long, c .before .before .before .before .before .before .before .before .before .before .before .if1 .left)) (c .before .before .before .before .before .before .before .flush-disk .ensures s l w lent) _ (not-false _ (c .before .before .before .before .if2 .left)) (put .0)),
       λ finished. put .1,

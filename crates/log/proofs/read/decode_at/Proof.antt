@@ -48,7 +48,7 @@ returns-3 c =
 read-word-requires-3 : tie.Need-read-word-requires-3
 read-word-requires-3 c κs =
     let words = c .before .before .before .before .before in
-    omega (arith, has-size _ _ _ (sym (words .before .before .record-size .ensures) ∙ words .n .given .1) .change (c .if3 .taken))
+    omega (arith, has-size _ _ _ (sym (words .before .before .record-size .ensures) ∙ words .n .given .1) .if-change (c .if3 .taken))
 
 returns-4 : tie.Need-returns-4
 unfolding decodeAt

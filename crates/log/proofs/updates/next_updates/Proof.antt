@@ -1,6 +1,6 @@
 -- `log::updates::next_updates` meets its contract. The loop's invariant: the positions gathered and those from p on are those from the
 -- start on. While fewer than n are gathered, one is still to be found. Assumes nothing.
-use Prim.Native.Nat.{ℕ, _+_, _-_, _≤_, _<_}
+use Prim.Native.Nat.{ℕ, _-_, _≤_, _<_}
 use mathlib.Core.Path.{_≡_, refl, sym, ap, _∙_}
 use mathlib.Core.List.{List, _++_}
 use native.Mathlib.Omega.{arith}

@@ -4,16 +4,15 @@ use Prim.Native.Nat.{_+_}
 use native.Mathlib.Omega.{arith}
 use lib.ListN.{length, take, replicate}
 use Rattle.model.specs.Record.{encode}
-use Rattle.model.proofs.RecordSizes.{words-change}
 use Rattle.log.specs.Write.{changeOf}
-use Rattle.log.proofs.Words.{change-length, change-put}
+use Rattle.log.proofs.Words.{change-size, change-length, change-put}
 use borrow.Author.Needs.{needs}
 use Rattle.log.proofs.write.append_change.Statement.{statement}
 use Rattle.log.proofs.write.append_change.Tie as tie
 
 -- the record has three words more than its difference
 size : (c : tie.After-words5) → c .before .before .before .words-of .result ≡ 3 + length (c .before .before .before .before .before .before .before .before .before .before .before .before .before .args .difference .now)
-size c = c .before .before .before .words-of .ensures ∙ words-change _ _ (omega (arith, c .before .before .before .before .before .before .before .before .before .before .before .before .before .pre .1 .kind-small))
+size c = change-size (c .before .before .before .before .before .before .before .before .before .before .before .before .before .pre .1) (c .before .before .before .words-of .ensures)
 
 -- the words lent to `append` are the record's
 built : (c : tie.After-words5) → take (c .before .before .before .words-of .result) (c .before .before .before .before .before .encode-change .last .0)
@@ -30,7 +29,7 @@ long c = ap length (built c) ∙ change-length _ _ _ _ _ _
 array-share-prefix-words : tie.Need-array-share-prefix-words
 array-share-prefix-words c =
     let start = c .before .before .before .before .before .before .before .before .before .before .before .before in
-    omega (arith, words-change (start .args .head .kind) (length (start .args .difference .now)) (omega (arith, start .pre .1 .kind-small)), c .before .before .words-of .ensures, start .pre .1 .width-small)
+    omega (arith, change-size (start .pre .1) (c .before .before .words-of .ensures), start .pre .1 .width-small)
 
 slice-aggregate-append : tie.Need-slice-aggregate-append
 slice-aggregate-append c = size c ∙ sym (long c)
