@@ -1,16 +1,13 @@
 -- What the readers of a log need, and what they give beyond model's definitions.
 use mathlib.Core.Path.{_≡_}
-use Prim.Native.Nat.{ℕ, _+_, _/_, _^_, _≤_, _<_}
+use Prim.Native.Nat.{ℕ, _+_, _^_, _≤_, _<_}
 use mathlib.Core.List.{List, [], _∷_}
 use mathlib.Core.Bool.{true, cond, _&&_}
 use lib.ListN.{length, getD}
 use lib.Dec.{eqb}
 use Rattle.model.specs.declared.Sizes.{Sizes}
-use Rattle.model.specs.declared.Decoded.{Decoded}
-use Rattle.model.specs.declared.Decoded.the-variants.{Change, Close, Malformed}
 use Rattle.model.specs.Sizes.{ringOf, diskAt, logWords, sizesInBounds}
 use Rattle.model.specs.Record.{change, close, updateKind}
-use Rattle.model.specs.Decode.{kindField, pageField, slotField, widthField, misplaced}
 use Rattle.model.specs.Scan.{Scan, end, bad, item}
 use Rattle.log.specs.declared.read.Extent.{Extent}
 
