@@ -12,14 +12,16 @@ pub const COMMIT: u64 = 2;
 
 pub const ABORT: u64 = 3;
 
-// 01's record table; width is that of the difference. A number above 3 is no kind.
+// 01's record table; width is that of the difference. A number above 3 is no kind. The sum stands before the match, so that it is compiled
+// to one test for the two kinds that have it.
 pub fn record_size(kind: u64, width: u64) -> RecordSize
     requires { ⌜ width < 2 ^ 48 ⌝ }
     ensures { λ r. ⌜ r ≡ recordSize kind width ⌝ }
 {
+    let change = 3 + width;
     match kind {
-        UPDATE => RecordSize::Words { n: 3 + width },
-        COMPENSATION => RecordSize::Words { n: 3 + width },
+        UPDATE => RecordSize::Words { n: change },
+        COMPENSATION => RecordSize::Words { n: change },
         COMMIT => RecordSize::Words { n: 2 },
         ABORT => RecordSize::Words { n: 2 },
         _ => RecordSize::NoKind,

@@ -25,4 +25,4 @@ returns-5 c =
 
 pub record-size-spec : {M : Type 1} → statement M
 record-size-spec =
-    tie.close (tie.spec (λ c. search needs) (λ c. search needs) returns returns-2 returns-3 returns-4 returns-5)
+    tie.close (tie.spec (λ c. search needs) returns returns-2 returns-3 returns-4 returns-5)
