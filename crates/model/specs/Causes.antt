@@ -54,8 +54,11 @@ whenServing Open = true
 whenServing Copying = true
 
 -- 1. "stage does not allow the call". A state that no call made is in no stage: `fits` is what the call tests of it (specs/Reads.antt).
+abbrev pub forbids : (Stage → Bool) → (fits : Bool) → Stage → Bool
+forbids allowed fits stage = not (allowed stage && fits)
+
 unfoldable pub stageForbids : (Stage → Bool) → (fits : Bool) → Core → Bool
-stageForbids allowed fits c = not (allowed (c .stage) && fits)
+stageForbids allowed fits c = forbids allowed fits (c .stage)
 
 -- 2. "anchor is not 148 words"
 unfoldable pub anchorWrong : (anchor : List ℕ) → Bool

@@ -14,6 +14,7 @@
 -- Counting and words.
 pub mod Below
 pub mod Word
+pub mod Text
 -- "Devices" and "Records".
 pub mod Sizes
 pub mod Anchor
@@ -36,6 +37,7 @@ pub mod Transaction
 pub mod Abort
 pub mod Checkpoint
 pub mod Restart
+pub mod Listing
 pub mod Call
 -- The state by value and in the lent work memory.
 pub mod View
