@@ -30,7 +30,7 @@ use Rattle.model.proofs.Verdict.{refused-leaves}
 use Rattle.model.proofs.Store.Cases.{call-cases}
 use Rattle.model.proofs.View.Head.{HeadSized, view-sized}
 use Rattle.model.proofs.View.Seen.{Fits}
-use Rattle.model.proofs.View.Served.{call-fits}
+use Rattle.model.proofs.View.Served.{Shuts, shuts-state, call-fits}
 use Rattle.head.specs.Narrow.{narrowed}
 use Rattle.head.specs.Saves.{saves}
 use Rattle.head.proofs.Alike.{Alike, same, unsound, view-alike, narrowed-sized}
@@ -140,10 +140,10 @@ saves-room k c w sized reply left exit g =
     Roomy : Result → Type 0
     Roomy r = saves (r .answer) (r .core .stage) ≡ true → headWords ≤ length (w .work)
 
-    finished : Fits (taskOf k c (bodyOf w) .core) (bodyOf w .work) ⊎ (k ≡ newState) → not (whenShut (taskOf k c (bodyOf w) .core .stage)) ≡ true
+    finished : Fits (taskOf k c (bodyOf w) .core) (bodyOf w .work) ⊎ Shuts k c → not (whenShut (taskOf k c (bodyOf w) .core .stage)) ≡ true
         → headWords ≤ length (w .work)
     finished (inl fits) e = omega (arith, fits .long, body-rest w, work-some (taskOf k c (bodyOf w) .core .sizes) (taskOf k c (bodyOf w) .core .bases .total))
-    finished (inr new) e = true-false e (rw new refl)
+    finished (inr shuts) e = true-false e (rw (shuts-state k c (bodyOf w) shuts) refl)
 
 module _ (k : Call) (takes : takesState k ≡ true) (h : Carried) (w : World) {core : Core} (loaded : core ≡ narrowed (coreOf h (w .work)))
     (reply : Reply) (left : ℕ) (exit : World) (g : Gives k core (bodyOf w) reply left exit)

@@ -25,16 +25,19 @@ use Rattle.model.specs.Transaction.{beginRows, updateRows, readRows, com
 use Rattle.model.specs.Abort.{abortFault, abortRows}
 use Rattle.model.specs.Checkpoint.{checkpointBeginRows, checkpointStepRows, checkpointEndRows}
 use Rattle.model.specs.Restart.{restartBeginRows, restartStepRows, restartEndRows}
-use Rattle.model.specs.Call.{Call, format, begin, update, look, read, commit, abort, checkpointBegin, checkpointStep, checkpointEnd, restartBegin, restartStep, restartRun, restartEnd, newState, rowsOf, resultOf}
+use Rattle.model.specs.Listing.{listing, listRows}
+use Rattle.model.specs.Call.{Call, format, begin, update, look, read, listLine, listLines, commit, abort, checkpointBegin, checkpointStep, checkpointEnd, restartBegin, restartStep, restartRun, restartEnd, newState, rowsOf, resultOf}
 use Rattle.model.specs.Reference.{Reference, taken, outcomeOf}
 use Rattle.model.specs.Machine.{Machine, Event, result, outcome, isRefused, follow, allowedAll, formatted}
 use Rattle.model.specs.History.{Told}
 use Rattle.model.specs.Promise.{Always}
-use Rattle.model.specs.Answers.{stagesOf, fitsCall, isFormat, ClosingTaken, OwnSlices}
+use Rattle.model.specs.Answers.{stagesOf, fitsCall, isFormat, bytesWrong, ClosingTaken, OwnSlices}
 use Rattle.model.proofs.Sound.Test.{replay-sound}
 use Rattle.model.proofs.KeptBases.{total-kept}
 use Rattle.model.proofs.Booleans.{true-false}
-use Rattle.model.proofs.Verdict.{ascendingFrom, numbers, rejected-above}
+use Rattle.model.proofs.Verdict.{ascendingFrom, numbers, rejected-above, refused-leaves}
+use Rattle.model.proofs.Lengths.{lengths-right}
+use Rattle.model.proofs.ListRows.{list-verdict, list-bytes}
 use Rattle.model.proofs.Restart.Progress.{Progress}
 use Rattle.model.proofs.Store.Cases.{call-cases}
 use Rattle.model.proofs.Checked.{Restartable}
@@ -115,48 +118,88 @@ module _ (c : Core) (w : World) (right : Right c w) where
             ∙ fourth _ (row 8 _ ∷ row 15 _ ∷ []) (step-never-bad c w (right .replays stage) source);
       }
 
-  late-rows : (k : Call) → isFormat k ≡ false → stagesOf k (c .stage) ≡ true → Late k c w
+  -- a listing has rows 1 to 7 of restart begin first, then row 8
+  late-list : (k : Call) (wrong : Bool) (number : ℕ) → rowsOf k c w ≡ listRows (c .stage) wrong (w .anchor) (w .logs) number → wrong ≡ false
+      → whenShut (c .stage) ≡ true → Late k c w
+  unfolding ascendingFrom verdict
+  late-list k wrong number rows none stage =
+      let long = lengths-right _ _ w (right .restarts .lengths) .logs in
+      record {
+        rest = row 8 (leb (length (listing (w .anchor) (w .logs))) number) ∷ [];
+        late = refl;
+        same = ap verdict rows ∙ rw (none, shut-stage (c .stage) stage) (list-verdict (w .anchor) (w .logs) (right .restarts .image) long number);
+      }
+
+  late-rows : (k : Call) → isFormat k ≡ false → bytesWrong k ≡ false → stagesOf k (c .stage) ≡ true → Late k c w
   unfolding ascendingFrom beginRows updateRows readRows commitRows abortRows checkpointBeginRows checkpointStepRows checkpointEndRows restartStepRows restartEndRows
-  late-rows (format s budget) other stage = true-false refl other
-  late-rows begin other stage = record { rest = _; late = refl; same = first-three c w right begin refl stage _ }
-  late-rows (update number page slot value budget) other stage =
+  late-rows (format s budget) other bytes stage = true-false refl other
+  late-rows begin other bytes stage = record { rest = _; late = refl; same = first-three c w right begin refl stage _ }
+  late-rows (update number page slot value budget) other bytes stage =
       record { rest = _; late = refl; same = first-three c w right (update number page slot value budget) refl stage _ }
-  late-rows (look (read reader page slot)) other stage =
+  late-rows (look (read reader page slot)) other bytes stage =
       record { rest = _; late = refl; same = first-three c w right (look (read reader page slot)) refl stage _ }
-  late-rows (commit number budget) other stage = record { rest = _; late = refl; same = first-three c w right (commit number budget) refl stage _ }
-  late-rows (abort number budget) other stage =
+  late-rows (look (listLine number n)) other bytes stage = late-list (look (listLine number n)) _ number refl bytes stage
+  late-rows (look (listLines first n)) other bytes stage = late-list (look (listLines first n)) _ first refl bytes stage
+  late-rows (commit number budget) other bytes stage = record { rest = _; late = refl; same = first-three c w right (commit number budget) refl stage _ }
+  late-rows (abort number budget) other bytes stage =
       record {
         rest = _;
         late = refl;
         same = first-three c w right (abort number budget) refl stage _ ∙ fourth _ (row 9 _ ∷ []) (right .aborts stage number);
       }
-  late-rows checkpointBegin other stage = record { rest = _; late = refl; same = first-three c w right checkpointBegin refl stage _ }
-  late-rows (checkpointStep budget) other stage = record { rest = _; late = refl; same = first-three c w right (checkpointStep budget) refl stage _ }
-  late-rows (checkpointEnd budget) other stage = record { rest = _; late = refl; same = first-three c w right (checkpointEnd budget) refl stage _ }
-  late-rows restartBegin other stage =
+  late-rows checkpointBegin other bytes stage = record { rest = _; late = refl; same = first-three c w right checkpointBegin refl stage _ }
+  late-rows (checkpointStep budget) other bytes stage = record { rest = _; late = refl; same = first-three c w right (checkpointStep budget) refl stage _ }
+  late-rows (checkpointEnd budget) other bytes stage = record { rest = _; late = refl; same = first-three c w right (checkpointEnd budget) refl stage _ }
+  late-rows restartBegin other bytes stage =
       record {
         rest = row 13 (spent (epochOn (w .anchor))) ∷ [];
         late = refl;
         same = thirteen (shut-stage (c .stage) stage);
       }
-  late-rows (restartStep source) other stage = late-step (restartStep source) source refl stage
-  late-rows (restartRun source most) other stage = late-step (restartRun source most) source refl stage
-  late-rows (restartEnd budget) other stage = record { rest = _; late = refl; same = first-three c w right (restartEnd budget) refl stage _ }
-  late-rows newState other stage = record { rest = []; late = refl; same = refl }
+  late-rows (restartStep source) other bytes stage = late-step (restartStep source) source refl stage
+  late-rows (restartRun source most) other bytes stage = late-step (restartRun source most) source refl stage
+  late-rows (restartEnd budget) other bytes stage = record { rest = _; late = refl; same = first-three c w right (restartEnd budget) refl stage _ }
+  late-rows newState other bytes stage = record { rest = []; late = refl; same = refl }
 
-  own-late : (k : Call) → isFormat k ≡ false → within 2 7 (numberOf (resultOf k c w .answer)) ≡ false
+  own-late : (k : Call) → isFormat k ≡ false → bytesWrong k ≡ false → within 2 7 (numberOf (resultOf k c w .answer)) ≡ false
   unfolding within
-  own-late k other = go (stagesOf k (c .stage)) refl
+  own-late k other bytes = go (stagesOf k (c .stage)) refl
     where
       go : (b : Bool) → stagesOf k (c .stage) ≡ b → within 2 7 (numberOf (resultOf k c w .answer)) ≡ false
       go false e = rw (eqb-true (numberOf (resultOf k c w .answer)) 1 (stage-answers k c w (right .sound) ∙ ap not e))
       go true e =
-          let l = late-rows k other e in
+          let l = late-rows k other bytes e in
           call-cases (λ (r : Result). within 2 7 (numberOf (r .answer)) ≡ false) k c w
           (λ number first second v.
           let more = rejected-above 7 (l .rest) (l .late) number first second (sym (l .same) ∙ v) in
           rw (lt-leb number 7 more) (and-false (leb 2 number)))
           (λ v f. refl) (λ v f. refl)
+
+  -- bytes of a wrong length
+  five-bytes : (k : Call) (wrong : Bool) (number : ℕ) → rowsOf k c w ≡ listRows (c .stage) wrong (w .anchor) (w .logs) number → wrong ≡ true
+      → whenShut (c .stage) ≡ true → numberOf (resultOf k c w .answer) ≡ 5
+  five-bytes k wrong number rows some stage =
+      let v : verdict (rowsOf k c w) ≡ rejected 5 0 0 =
+      ap verdict rows ∙ rw (some, shut-stage (c .stage) stage) (list-bytes (w .anchor) (w .logs) (right .restarts .image) number) in
+      rw (refused-leaves k c w 5 0 0 v) refl
+
+  own-bytes : (k : Call) → bytesWrong k ≡ true → stagesOf k (c .stage) ≡ true → numberOf (resultOf k c w .answer) ≡ 5
+  own-bytes (look (read reader page slot)) wrong stage = true-false refl (sym wrong)
+  own-bytes (look (listLine number bytes)) wrong stage = five-bytes (look (listLine number bytes)) _ number refl wrong stage
+  own-bytes (look (listLines first bytes)) wrong stage = five-bytes (look (listLines first bytes)) _ first refl wrong stage
+  own-bytes (format s budget) wrong stage = true-false refl (sym wrong)
+  own-bytes begin wrong stage = true-false refl (sym wrong)
+  own-bytes (update number page slot value budget) wrong stage = true-false refl (sym wrong)
+  own-bytes (commit number budget) wrong stage = true-false refl (sym wrong)
+  own-bytes (abort number budget) wrong stage = true-false refl (sym wrong)
+  own-bytes checkpointBegin wrong stage = true-false refl (sym wrong)
+  own-bytes (checkpointStep budget) wrong stage = true-false refl (sym wrong)
+  own-bytes (checkpointEnd budget) wrong stage = true-false refl (sym wrong)
+  own-bytes restartBegin wrong stage = true-false refl (sym wrong)
+  own-bytes (restartStep source) wrong stage = true-false refl (sym wrong)
+  own-bytes (restartRun source most) wrong stage = true-false refl (sym wrong)
+  own-bytes (restartEnd budget) wrong stage = true-false refl (sym wrong)
+  own-bytes newState wrong stage = true-false refl (sym wrong)
 
 -- a format's rows are 1, 4 and 5: the anchor has its length
 unfoldable formatNumber : ℕ → Bool
@@ -216,5 +259,6 @@ own-slices m s budget formats es a k =
     record {
       stage = stage-answers k _ _ (right .sound);
       slices = own-late _ _ right k;
+      bytes = own-bytes _ _ right k;
       formats = λ sizes b is. rw is (own-format _ _ right sizes b);
     }

@@ -46,6 +46,7 @@ pub mod Link
 pub mod Restart
 -- The calls, and what they test of a state before they read it.
 pub mod Store
+pub mod ListRows
 pub mod Tested
 -- Every call hands back a state that passes the first test.
 pub mod Sound
@@ -54,6 +55,7 @@ pub mod CommitPoint
 pub mod Remaining
 pub mod Finish
 pub mod Answers
+pub mod ListingShows
 -- The state by value and in the lent work memory.
 pub mod View
 -- Computed tables.

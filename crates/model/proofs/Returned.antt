@@ -11,18 +11,21 @@ use Rattle.model.specs.declared.Answer.the-variants.{Refused}
 use Rattle.model.specs.declared.Fault.{Fault}
 use Rattle.model.specs.declared.Fault.the-variants.{NoFault, BadRecord}
 use Rattle.model.specs.Below.{within}
+use Rattle.model.specs.declared.Sizes.{Sizes}
+use Rattle.model.specs.Sizes.{total}
 use Rattle.model.specs.Anchor.{sizesOn, startOn}
 use Rattle.model.specs.World.{World}
 use Rattle.model.specs.Refusal.{Row, row, Result}
-use Rattle.model.specs.Causes.{wrongTail, tailRow, faultRow}
+use Rattle.model.specs.Causes.{lengthsWrong, wrongTail, tailRow, faultRow}
 use Rattle.model.specs.Format.{formatRows}
 use Rattle.model.specs.Transaction.{beginRows, updateRows, readRows, commitRows}
 use Rattle.model.specs.Abort.{abortRows}
 use Rattle.model.specs.Checkpoint.{checkpointBeginRows, checkpointStepRows, checkpointEndRows}
 use Rattle.model.specs.Restart.{imageRows, restartBeginRows, restartStepRows, restartEndRows}
-use Rattle.model.specs.Call.{Call, format, begin, update, look, read, commit, abort, checkpointBegin, checkpointStep, checkpointEnd, restartBegin, restartStep, restartRun, restartEnd, newState, rowsOf, taskOf, budgetOf}
+use Rattle.model.specs.Listing.{listRows, unlisted, notALine, notLines}
+use Rattle.model.specs.Call.{Call, format, begin, update, look, read, listLine, listLines, commit, abort, checkpointBegin, checkpointStep, checkpointEnd, restartBegin, restartStep, restartRun, restartEnd, newState, rowsOf, taskOf, budgetOf}
 use Rattle.model.specs.Reference.{taken, refused, interrupted}
-use Rattle.model.specs.Answers.{outcomeNumbered, faultOf, Returns, Returned, RowNumbers}
+use Rattle.model.specs.Answers.{outcomeNumbered, imageFault, faultOf, Returns, Returned, RowNumbers}
 use Rattle.model.proofs.Booleans.{true-false, both, all-four, in-range}
 use Rattle.model.proofs.Members.{Every, every-nil, every-cons, every-append}
 use Rattle.model.proofs.Run.{finished-made, interrupted-made}
@@ -98,12 +101,28 @@ module _ (k : Call) (c : Core) (w : World) where
       every-append (RowReturns k c w) before (faultRow f ∷ after) b
       (every-cons (RowReturns k c w) (faultRow f) after (fault-returns f e) (plain-rows after a))
 
+  -- the rows of an image, between two others
+  with-image : (before after : Row) (others : Sizes → Bool) → faultOf k c w ≡ imageFault w → plain before ≡ true → plain after ≡ true
+      → Every (RowReturns k c w) (before ∷ imageRows others (w .anchor) (w .logs) ++ after ∷ [])
+  unfolding within plain allPlain imageRows
+  with-image before after others e b a =
+      let P : Row → Type 0 = RowReturns k c w in
+      let tail : Row = tailRow (sizesOn (w .anchor)) (startOn (w .anchor)) (w .logs) in
+      with-fault (before ∷ row 2 _ ∷ row 3 _ ∷ row 4 _ ∷ row 5 _ ∷ tail ∷ []) (after ∷ []) (imageFault w) e
+      (every-append P (before ∷ row 2 _ ∷ row 3 _ ∷ row 4 _ ∷ row 5 _ ∷ []) (tail ∷ []) (plain-rows (before ∷ row 2 _ ∷ row 3 _ ∷ row 4 _ ∷ row 5 _ ∷ []) (rw b refl))
+      (every-cons P tail [] (tail-returns) (every-nil P)))
+      (rw a refl)
+
 rows-return : (k : Call) (c : Core) (w : World) → Every (RowReturns k c w) (rowsOf k c w)
-unfolding within plain allPlain formatRows beginRows updateRows readRows commitRows abortRows checkpointBeginRows checkpointStepRows checkpointEndRows imageRows restartBeginRows restartStepRows restartEndRows
+unfolding within plain allPlain formatRows beginRows updateRows readRows commitRows abortRows checkpointBeginRows checkpointStepRows checkpointEndRows listRows restartBeginRows restartStepRows restartEndRows
 rows-return (format s budget) c w = plain-rows (format s budget) c w _ refl
 rows-return begin c w = plain-rows begin c w _ refl
 rows-return (update number page slot value budget) c w = plain-rows (update number page slot value budget) c w _ refl
 rows-return (look (read reader page slot)) c w = plain-rows (look (read reader page slot)) c w _ refl
+rows-return (look (listLine number bytes)) c w =
+    with-image (look (listLine number bytes)) c w (row 1 _) (row 8 _) (unlisted (notALine bytes) (w .logs)) refl refl refl
+rows-return (look (listLines first bytes)) c w =
+    with-image (look (listLines first bytes)) c w (row 1 _) (row 8 _) (unlisted (notLines bytes) (w .logs)) refl refl refl
 rows-return (commit number budget) c w = plain-rows (commit number budget) c w _ refl
 rows-return (abort number budget) c w =
     let k : Call = abort number budget in
@@ -112,12 +131,7 @@ rows-return checkpointBegin c w = plain-rows checkpointBegin c w _ refl
 rows-return (checkpointStep budget) c w = plain-rows (checkpointStep budget) c w _ refl
 rows-return (checkpointEnd budget) c w = plain-rows (checkpointEnd budget) c w _ refl
 rows-return restartBegin c w =
-    let k : Call = restartBegin in
-    let P : Row → Type 0 = RowReturns k c w in
-    with-fault k c w (row 1 _ ∷ row 2 _ ∷ row 3 _ ∷ row 4 _ ∷ row 5 _ ∷ tailRow (sizesOn (w .anchor)) (startOn (w .anchor)) (w .logs) ∷ []) (row 13 _ ∷ []) (faultOf k c w) refl
-    (every-append P (row 1 _ ∷ row 2 _ ∷ row 3 _ ∷ row 4 _ ∷ row 5 _ ∷ []) (tailRow (sizesOn (w .anchor)) (startOn (w .anchor)) (w .logs) ∷ []) (plain-rows k c w _ refl)
-    (every-cons P (tailRow (sizesOn (w .anchor)) (startOn (w .anchor)) (w .logs)) [] (tail-returns k c w) (every-nil P)))
-    refl
+    with-image restartBegin c w (row 1 _) (row 13 _) (λ s. lengthsWrong s (total s) w) refl refl refl
 rows-return (restartStep source) c w =
     let k : Call = restartStep source in
     with-fault k c w (row 1 _ ∷ row 2 _ ∷ row 5 _ ∷ []) (row 8 _ ∷ row 15 _ ∷ []) (faultOf k c w) refl (plain-rows k c w _ refl) refl

@@ -14,7 +14,7 @@ use Rattle.model.specs.Memory.{lengthsRight}
 use Rattle.model.specs.State.{placeOf, isOpen, endOf, firstAt, reservedAt, hasUpdate, baseOf, basesRight, servingSound, checkpointSound, soundIn, sound}
 use Rattle.model.specs.Causes.{whenShut, whenReplaying, whenOpen, whenCopying, whenServing, stageForbids, lengthsWrong, slotMissing}
 use Rattle.model.specs.Reads.{countsFit, slotFits, placeFits, homeFits, scopeFits, sizesFit, abortFits, fitsOn, updateFits}
-use Rattle.model.specs.Call.{Call, format, begin, update, look, read, commit, abort, checkpointBegin, checkpointStep, checkpointEnd, restartBegin, restartStep, restartRun, restartEnd, newState}
+use Rattle.model.specs.Call.{Call, format, begin, update, look, read, listLine, listLines, commit, abort, checkpointBegin, checkpointStep, checkpointEnd, restartBegin, restartStep, restartRun, restartEnd, newState}
 use Rattle.model.specs.Transaction.{diskOf}
 use Rattle.model.specs.Answers.{stagesOf, fitsCall}
 use Rattle.model.proofs.Booleans.{true-false, both, or-none, or-right}
@@ -132,6 +132,8 @@ reads-pass (update number page slot value budget) c w ok stage =
     let good = serving-sound c stage ok in
     fits-passes whenServing refl _ c w ok stage (rw (slot-passes c good page slot, home-passes c good number))
 reads-pass (look (read reader page slot)) c w ok stage = fits-passes whenServing refl _ c w ok stage (slot-passes c (serving-sound c stage ok) page slot)
+reads-pass (look (listLine number bytes)) c w ok stage = refl
+reads-pass (look (listLines first bytes)) c w ok stage = refl
 reads-pass (commit number budget) c w ok stage = fits-passes whenServing refl _ c w ok stage (home-passes c (serving-sound c stage ok) number)
 reads-pass (abort number budget) c w ok stage = fits-passes whenServing refl _ c w ok stage (abort-reads-pass c (serving-sound c stage ok) number)
 reads-pass checkpointBegin c w ok stage = fits-passes whenOpen refl _ c w ok stage ok

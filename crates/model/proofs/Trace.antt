@@ -5,5 +5,6 @@ pub mod Promises
 pub mod Table
 pub mod Commit
 pub mod Answers
+pub mod Listing
 pub mod OtherWork
 pub mod Converse

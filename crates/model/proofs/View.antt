@@ -6,6 +6,7 @@ pub mod Back
 pub mod Fields
 pub mod Seen
 pub mod Shown
+pub mod Listed
 pub mod Calls
 pub mod Restarts
 pub mod Served

@@ -22,7 +22,8 @@ use Rattle.model.specs.Causes.{whenShut, whenReplaying, whenOpen, whenCo
 use Rattle.model.specs.Transaction.{diskOf}
 use Rattle.model.specs.Abort.{abortFault}
 use Rattle.model.specs.Restart.{stepFault}
-use Rattle.model.specs.Call.{Call, format, begin, update, Look, look, read, commit, abort, checkpointBegin, checkpointStep, checkpointEnd, restartBegin, restartStep, restartRun, restartEnd, newState, rowsOf, taskOf, budgetOf, resultOf}
+use Rattle.model.specs.Listing.{notALine, notLines}
+use Rattle.model.specs.Call.{Call, format, begin, update, Look, look, read, listLine, listLines, commit, abort, checkpointBegin, checkpointStep, checkpointEnd, restartBegin, restartStep, restartRun, restartEnd, newState, rowsOf, taskOf, budgetOf, resultOf}
 use Rattle.model.specs.Reference.{Outcome, taken, refused, interrupted, outcomeOf}
 use Rattle.model.specs.Machine.{Machine, result, outcome, isRefused}
 use Rattle.model.specs.Promise.{Always}
@@ -32,6 +33,8 @@ use Rattle.model.specs.Promise.{Always}
 -- of restart steps is for the stage of a step; a new state is handed out in every stage.
 abbrev pub stagesOfLook : Look → Stage → Bool
 stagesOfLook (read reader page slot) stage = whenServing stage
+stagesOfLook (listLine number bytes) stage = whenShut stage
+stagesOfLook (listLines first bytes) stage = whenShut stage
 
 abbrev pub stagesOf : Call → Stage → Bool
 stagesOf (format s budget) stage = whenShut stage
@@ -52,6 +55,8 @@ stagesOf newState stage = true
 -- what a call tests of a state that no call made (specs/Reads.antt)
 abbrev pub fitsLook : Look → Core → World → Bool
 fitsLook (read reader page slot) c w = fitsOn (slotFits page slot c) c w
+fitsLook (listLine number bytes) c w = true
+fitsLook (listLines first bytes) c w = true
 
 abbrev pub fitsCall : Call → Core → World → Bool
 fitsCall (format s budget) c w = true
@@ -85,6 +90,28 @@ isFormat (restartRun source most) = false
 isFormat (restartEnd budget) = false
 isFormat newState = false
 
+-- a listing is lent bytes that are no line, or no whole number of lines
+abbrev pub bytesWrongIn : Look → Bool
+bytesWrongIn (read reader page slot) = false
+bytesWrongIn (listLine number bytes) = notALine bytes
+bytesWrongIn (listLines first bytes) = notLines bytes
+
+abbrev pub bytesWrong : Call → Bool
+bytesWrong (look q) = bytesWrongIn q
+bytesWrong (format s budget) = false
+bytesWrong begin = false
+bytesWrong (update number page slot value budget) = false
+bytesWrong (commit number budget) = false
+bytesWrong (abort number budget) = false
+bytesWrong checkpointBegin = false
+bytesWrong (checkpointStep budget) = false
+bytesWrong (checkpointEnd budget) = false
+bytesWrong restartBegin = false
+bytesWrong (restartStep source) = false
+bytesWrong (restartRun source most) = false
+bytesWrong (restartEnd budget) = false
+bytesWrong newState = false
+
 -- "Commit and abort always fit." While the store is open or copying, a commit and an abort of an open transaction, on the machine's own
 -- slices and with whatever budget, are not refused: each is taken, or cut.
 unfoldable pub ClosingTaken : Type 0
@@ -94,10 +121,12 @@ ClosingTaken =
 
 -- What a call on the machine's own slices answers. It answers 1, "stage does not allow the call", exactly where the stage is none of
 -- the call's. The causes of 2 to 7 lie in lent slices and devices: none arises here, but that a format may be handed sizes that are out
--- of bounds (4) or do not go with the slices (5); besides, it answers 0, 1 or 16.
+-- of bounds (4) or do not go with the slices (5), and answers besides 0, 1 or 16; and that a listing may be lent bytes of a wrong length:
+-- then it answers 5 in stage shut.
 pub record AnswersOwn (m : Machine) (k : Call) (a : Answer) : Type 0 where
   pub stage : eqb (numberOf a) 1 ≡ not (stagesOf k (m .core .stage))
-  pub slices : isFormat k ≡ false → within 2 7 (numberOf a) ≡ false
+  pub slices : isFormat k ≡ false → bytesWrong k ≡ false → within 2 7 (numberOf a) ≡ false
+  pub bytes : bytesWrong k ≡ true → stagesOf k (m .core .stage) ≡ true → numberOf a ≡ 5
   pub formats : (s : Sizes) (budget : ℕ) → k ≡ format s budget
       → (within 0 1 (numberOf a) || within 4 5 (numberOf a) || eqb (numberOf a) 16) ≡ true
 
@@ -139,16 +168,25 @@ StatesMade = Always λ m r. Made (m .core)
 unfoldable pub outcomeNumbered : ℕ → Outcome
 outcomeNumbered n = cond (eqb n 0) taken (cond (eqb n 16) interrupted refused)
 
--- what the calls that check row 7 find: "restart begin; log step and abort, in what they read"; a run, in what its first step reads
+-- what the calls that check row 7 find: "restart begin; log step and abort, in what they read"; a run, in what its first step reads; a
+-- listing, "as for restart begin"
+abbrev pub imageFault : World → Fault
+imageFault w = faultFrom (sizesOn (w .anchor)) (startOn (w .anchor)) (w .logs) (sizesOn (w .anchor) .disks) 0
+
+abbrev pub faultOfLook : Look → World → Fault
+faultOfLook (read reader page slot) w = NoFault
+faultOfLook (listLine number bytes) w = imageFault w
+faultOfLook (listLines first bytes) w = imageFault w
+
 abbrev pub faultOf : Call → Core → World → Fault
-faultOf restartBegin c w = faultFrom (sizesOn (w .anchor)) (startOn (w .anchor)) (w .logs) (sizesOn (w .anchor) .disks) 0
+faultOf restartBegin c w = imageFault w
 faultOf (restartStep source) c w = stepFault c w source
 faultOf (restartRun source most) c w = stepFault c w source
 faultOf (abort number budget) c w = abortFault c w number
 faultOf (format s budget) c w = NoFault
 faultOf begin c w = NoFault
 faultOf (update number page slot value budget) c w = NoFault
-faultOf (look q) c w = NoFault
+faultOf (look q) c w = faultOfLook q w
 faultOf (commit number budget) c w = NoFault
 faultOf checkpointBegin c w = NoFault
 faultOf (checkpointStep budget) c w = NoFault

@@ -2,6 +2,7 @@
 use mathlib.Core.Path.{_≡_}
 use Prim.Native.Nat.{ℕ}
 use mathlib.Core.List.{List, []}
+use lib.ListN.{length}
 use Rattle.model.specs.declared.Sizes.{Sizes}
 use Rattle.model.specs.declared.Core.{Core}
 use Rattle.model.specs.declared.Reply.{Reply}
@@ -13,10 +14,14 @@ use Rattle.model.specs.Abort.{abortRows, abortTask}
 use Rattle.model.specs.Format.{formatRows, formatTask}
 use Rattle.model.specs.Checkpoint.{checkpointBeginRows, checkpointBeginTask, checkpointStepRows, checkpointStepTask, checkpointEndRows, checkpointEndTask}
 use Rattle.model.specs.Restart.{restartBeginRows, restartBeginTask, restartStepRows, restartStepTask, restartRunTask, restartEndRows, restartEndTask}
+use Rattle.model.specs.Listing.{listRows, notALine, notLines, linesFrom}
 
 -- Calls that only look: they hand back the state that they got, change no word and store nothing.
 pub data Look : Type 0 where
   read : (reader page slot : ℕ) → Look
+  -- a line of the log on paper, or lines from one on (specs/Listing.antt), into so many lent bytes
+  listLine : (number bytes : ℕ) → Look
+  listLines : (first bytes : ℕ) → Look
 
 -- "Each storing call takes an allowance": here its budget, the last argument. "Only these calls, and one that hands out a new state, make
 -- a state." `restartRun` is not 01's (specs/Restart.antt).
@@ -38,9 +43,17 @@ pub data Call : Type 0 where
 
 abbrev pub lookRows : Look → Core → World → List Row
 lookRows (read reader page slot) c w = readRows c w reader page slot
+lookRows (listLine number bytes) c w = listRows (c .stage) (notALine bytes) (w .anchor) (w .logs) number
+lookRows (listLines first bytes) c w = listRows (c .stage) (notLines bytes) (w .anchor) (w .logs) first
 
-unfoldable pub lookTask : Core → Task
-lookTask c = record { actions = []; core = c; value = 0 }
+-- the value answered: of several lines, how many were written
+abbrev pub lookValue : Look → World → ℕ
+lookValue (read reader page slot) w = 0
+lookValue (listLine number bytes) w = 0
+lookValue (listLines first bytes) w = length (linesFrom (w .anchor) (w .logs) first bytes)
+
+unfoldable pub lookTask : Look → Core → World → Task
+lookTask q c w = record { actions = []; core = c; value = lookValue q w }
 
 -- The rows of "Turned away" that a call checks. "Format checks 1, 2, 4 (of the sizes handed to it), 5 and 16; restart begin 1 to 7 and
 -- 13; the rest 1, 2, 5 and, where the cause can arise, 7 to 16, working with the sizes, c, starts and ends their state holds." Row 16 is
@@ -66,7 +79,7 @@ abbrev pub taskOf : Call → Core → World → Task
 taskOf (format s budget) c w = formatTask s
 taskOf begin c w = beginTask c w
 taskOf (update number page slot value budget) c w = updateTask c w number page slot value
-taskOf (look q) c w = lookTask c
+taskOf (look q) c w = lookTask q c w
 taskOf (commit number budget) c w = commitTask c w number
 taskOf (abort number budget) c w = abortTask c w number
 taskOf checkpointBegin c w = checkpointBeginTask c w

@@ -55,3 +55,5 @@ pub mod Answers
 pub mod Trace
 pub mod LogPromiseInCode
 pub mod AnswersInCode
+-- The log on paper.
+pub mod ListingPromise

@@ -5,7 +5,7 @@ use Rattle.model.specs.declared.Core.{Core}
 use Rattle.model.specs.World.{World}
 use Rattle.model.specs.State.{newCore, sound}
 use Rattle.model.specs.Refusal.{Result, accepted, verdict}
-use Rattle.model.specs.Call.{Call, format, begin, update, look, lookTask, commit, abort, checkpointBegin, checkpointStep, checkpointEnd, restartBegin, restartStep, restartRun, restartEnd, newState, rowsOf, taskOf, resultOf}
+use Rattle.model.specs.Call.{Call, format, begin, update, Look, look, lookTask, commit, abort, checkpointBegin, checkpointStep, checkpointEnd, restartBegin, restartStep, restartRun, restartEnd, newState, rowsOf, taskOf, resultOf}
 use Rattle.model.proofs.Store.Cases.{call-cases}
 use Rattle.model.proofs.Sound.Test.{Sized, Passing}
 use Rattle.model.proofs.Sound.Transaction.{begin-passes, update-passes, commit-passes}
@@ -26,16 +26,16 @@ new-passes = (
   refl,
 )
 
-look-passes : (c : Core) → Sized c → sound c ≡ true → Passing (lookTask c .core)
+look-passes : (q : Look) (c : Core) (w : World) → Sized c → sound c ≡ true → Passing (lookTask q c w .core)
 unfolding lookTask
-look-passes c sized s = (sized, s)
+look-passes q c w sized s = (sized, s)
 
 -- a call that is accepted
 pub taken-passes : (k : Call) (c : Core) (w : World) → Sized c → sound c ≡ true → verdict (rowsOf k c w) ≡ accepted → Passing (taskOf k c w .core)
 taken-passes (format z budget) c w sized s ok = format-passes c w z ok
 taken-passes begin c w sized s ok = begin-passes c w sized s ok
 taken-passes (update number page slot value budget) c w sized s ok = update-passes c w number page slot value sized s ok
-taken-passes (look q) c w sized s ok = look-passes c sized s
+taken-passes (look q) c w sized s ok = look-passes q c w sized s
 taken-passes (commit number budget) c w sized s ok = commit-passes c w number sized s ok
 taken-passes (abort number budget) c w sized s ok = abort-passes c w number sized s ok
 taken-passes checkpointBegin c w sized s ok = checkpoint-begin-passes c w sized s ok

@@ -20,13 +20,14 @@ use Rattle.model.specs.Scan.{Scan, end, bad, item, scan, fateIn}
 use Rattle.model.specs.World.{World}
 use Rattle.model.specs.State.{tailOf}
 use Rattle.model.specs.Refusal.{Row, row, accepted, rejected, verdict, Result, numberOf}
-use Rattle.model.specs.Causes.{whenShut, whenReplaying, whenServing, stageForbids, lengthsWrong, spent}
+use Rattle.model.specs.Causes.{whenShut, whenReplaying, whenServing, stageForbids, lengthsWrong, faultFrom, spent}
 use Rattle.model.specs.Format.{formatRows}
 use Rattle.model.specs.Transaction.{beginRows, updateRows, readRows, commitRows}
 use Rattle.model.specs.Abort.{abortFault, abortRows}
 use Rattle.model.specs.Checkpoint.{checkpointBeginRows, checkpointStepRows, checkpointEndRows}
 use Rattle.model.specs.Restart.{imageRows, restartBeginRows, positionOf, remaining, readDisk, fateFrom, nextRecord, fateFault, recordFault, stepFault, restartStepRows, restartEndRows}
-use Rattle.model.specs.Call.{Call, format, begin, update, look, read, commit, abort, checkpointBegin, checkpointStep, checkpointEnd, restartBegin, restartStep, restartRun, restartEnd, newState, rowsOf, resultOf}
+use Rattle.model.specs.Listing.{listRows}
+use Rattle.model.specs.Call.{Call, format, begin, update, look, read, listLine, listLines, commit, abort, checkpointBegin, checkpointStep, checkpointEnd, restartBegin, restartStep, restartRun, restartEnd, newState, rowsOf, resultOf}
 use Rattle.model.proofs.Storeless.{storeless-finishes}
 use Rattle.model.proofs.Scan.{scan-bad}
 use Rattle.model.proofs.Reading.{ending}
@@ -158,16 +159,26 @@ replaying-stage Replaying e = refl
 replaying-stage Open e = absurd (true≢false (sym e))
 replaying-stage Copying e = absurd (true≢false (sym e))
 
+-- what a restart begin and a listing read is well formed
+shut-records : (c : Core) (w : World) → (c .stage ≡ Shut → Restartable w) → whenShut (c .stage) ≡ true
+    → faultFrom (sizesOn (w .anchor)) (startOn (w .anchor)) (w .logs) (sizesOn (w .anchor) .disks) 0 ≡ NoFault
+shut-records c w shut s =
+    whole-records (sizesOn (w .anchor)) (startOn (w .anchor)) (w .logs) (shut (shut-stage (c .stage) s) .image .whole)
+
 -- No call finds a malformed record where, in its stage, the devices can be restarted from, the restart goes on as it began, and
 -- aborts find what was put there.
 pub never-seven : (k : Call) (c : Core) (w : World) → (c .stage ≡ Shut → Restartable w) → (c .stage ≡ Replaying → Progress c w)
     → (whenServing (c .stage) ≡ true → (number : ℕ) → abortFault c w number ≡ NoFault) → numberOf (resultOf k c w .answer) ≡ 7 → ⊥
-unfolding finds formatRows beginRows updateRows readRows commitRows abortRows checkpointBeginRows checkpointStepRows checkpointEndRows imageRows restartBeginRows restartStepRows restartEndRows
+unfolding finds stageForbids formatRows beginRows updateRows readRows commitRows abortRows checkpointBeginRows checkpointStepRows checkpointEndRows imageRows listRows restartBeginRows restartStepRows restartEndRows
 never-seven (format s budget) c w shut replaying serving e = true≢false (sym (seven-row (format s budget) c w e))
 never-seven begin c w shut replaying serving e = true≢false (sym (seven-row begin c w e))
 never-seven (update number page slot value budget) c w shut replaying serving e =
     true≢false (sym (seven-row (update number page slot value budget) c w e))
 never-seven (look (read reader page slot)) c w shut replaying serving e = true≢false (sym (seven-row (look (read reader page slot)) c w e))
+never-seven (look (listLine number bytes)) c w shut replaying serving e =
+    stage-first (look (listLine number bytes)) c w whenShut _ _ refl (λ s. rw (shut-records c w shut s)) e
+never-seven (look (listLines first bytes)) c w shut replaying serving e =
+    stage-first (look (listLines first bytes)) c w whenShut _ _ refl (λ s. rw (shut-records c w shut s)) e
 never-seven (commit number budget) c w shut replaying serving e = true≢false (sym (seven-row (commit number budget) c w e))
 never-seven (abort number budget) c w shut replaying serving e =
     stage-first (abort number budget) c w whenServing _ _ refl (λ s. rw (serving s number)) e
@@ -175,8 +186,7 @@ never-seven checkpointBegin c w shut replaying serving e = true≢false (sym (se
 never-seven (checkpointStep budget) c w shut replaying serving e = true≢false (sym (seven-row (checkpointStep budget) c w e))
 never-seven (checkpointEnd budget) c w shut replaying serving e = true≢false (sym (seven-row (checkpointEnd budget) c w e))
 never-seven restartBegin c w shut replaying serving e =
-    stage-first restartBegin c w whenShut _ _ refl
-    (λ s. rw (whole-records (sizesOn (w .anchor)) (startOn (w .anchor)) (w .logs) (shut (shut-stage (c .stage) s) .image .whole))) e
+    stage-first restartBegin c w whenShut _ _ refl (λ s. rw (shut-records c w shut s)) e
 never-seven (restartStep source) c w shut replaying serving e =
     stage-first (restartStep source) c w whenReplaying _ _ refl
     (λ s. rw (step-never-bad c w (replaying (replaying-stage (c .stage) s)) source)) e

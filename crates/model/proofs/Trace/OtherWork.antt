@@ -19,7 +19,8 @@ use Rattle.model.specs.Transaction.{beginRows, updateRows, readRows, com
 use Rattle.model.specs.Abort.{abortRows}
 use Rattle.model.specs.Checkpoint.{checkpointBeginRows, checkpointStepRows, checkpointEndRows}
 use Rattle.model.specs.Restart.{restartBeginRows, restartStepRows, restartEndRows}
-use Rattle.model.specs.Call.{Call, format, begin, update, look, read, commit, abort, checkpointBegin, checkpointStep, checkpointEnd, restartBegin, restartStep, restartRun, restartEnd, newState, rowsOf, resultOf}
+use Rattle.model.specs.Listing.{listRows}
+use Rattle.model.specs.Call.{Call, format, begin, update, look, read, listLine, listLines, commit, abort, checkpointBegin, checkpointStep, checkpointEnd, restartBegin, restartStep, restartRun, restartEnd, newState, rowsOf, resultOf}
 use Rattle.model.specs.View.{ownWork, coreOf, carriedOf, bodyOf}
 use Rattle.model.specs.Reference.{refused, outcomeOf}
 use Rattle.model.specs.Machine.{result}
@@ -78,11 +79,13 @@ module _ (h : Carried) (w : World) (serving : whenShut (h .stage) ≡ false) (ot
   first k rest e rows = record { number = 1; rejects = rw (rows, e); stage = rw e }
 
   turned : (k : Call) → Turned k c v ⊎ (k ≡ newState)
-  unfolding formatRows beginRows updateRows readRows commitRows abortRows checkpointBeginRows checkpointStepRows checkpointEndRows restartBeginRows restartStepRows restartEndRows coreOf
+  unfolding stageForbids formatRows beginRows updateRows readRows listRows commitRows abortRows checkpointBeginRows checkpointStepRows checkpointEndRows restartBeginRows restartStepRows restartEndRows coreOf
   turned (format s budget) = inl (first (format s budget) _ serving refl)
   turned begin = inl (fifth begin _ _ counts refl)
   turned (update number page slot value budget) = inl (fifth (update number page slot value budget) _ _ (fits _) refl)
   turned (look (read reader page slot)) = inl (fifth (look (read reader page slot)) _ _ (fits _) refl)
+  turned (look (listLine number bytes)) = inl (first (look (listLine number bytes)) _ serving refl)
+  turned (look (listLines from bytes)) = inl (first (look (listLines from bytes)) _ serving refl)
   turned (commit number budget) = inl (fifth (commit number budget) _ _ (fits _) refl)
   turned (abort number budget) = inl (fifth (abort number budget) _ _ (fits _) refl)
   turned checkpointBegin = inl (fifth checkpointBegin _ _ (fits _) refl)

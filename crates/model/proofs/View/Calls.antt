@@ -22,7 +22,7 @@ use Rattle.model.specs.Append.{append, appendIf}
 use Rattle.model.specs.Transaction.{begun, beginRows, beginTask, updated, updateRows, updateTask, readRows, commitRows, commitTask}
 use Rattle.model.specs.Abort.{compensate, undoAll, abortRows, abortTask}
 use Rattle.model.specs.Checkpoint.{checkpointBeginRows, checkpointBeginTask, checkpointStepRows, checkpointStepTask, checkpointEndRows, checkpointEndTask}
-use Rattle.model.specs.Call.{lookTask}
+use Rattle.model.specs.Call.{read, lookTask}
 use Rattle.model.proofs.Verdict.{row-passed}
 use Rattle.model.proofs.Lengths.{lengths-right}
 use Rattle.model.proofs.Store.Rows.{stage-row, not-shut}
@@ -88,7 +88,7 @@ abort-fits c w number sized ok =
     record { sized = simp (length-set, append-fills, undo-fills) sized; serving = p .serving; long = p .long }
 
 pub read-fits : (c : Core) (w : World) (reader page slot : ℕ) → HeadSized c → verdict (readRows c w reader page slot) ≡ accepted
-    → Fits (lookTask c .core) (w .work)
+    → Fits (lookTask (read reader page slot) c w .core) (w .work)
 unfolding readRows lookTask
 read-fits c w reader page slot sized ok = passed whenServing _ refl c w _ sized ok
 
