@@ -67,6 +67,7 @@ pub mod Blunders
 pub mod Idle
 pub mod BeginDisk
 pub mod OnesTold
+pub mod OnPaper
 pub mod Held
 pub mod Example
 pub mod AbortReads
