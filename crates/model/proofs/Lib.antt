@@ -70,3 +70,5 @@ pub mod Example
 pub mod AbortReads
 -- The promises for traces of the code's own calls.
 pub mod Trace
+-- The log on paper.
+pub mod Text
