@@ -72,3 +72,5 @@ pub mod AbortReads
 pub mod Trace
 -- The log on paper.
 pub mod Text
+pub mod Columns
+pub mod Listing
