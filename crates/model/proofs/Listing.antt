@@ -1,8 +1,8 @@
 -- Listings: what is listed is clear, every line has 73 bytes, and a listing tells its records.
 use mathlib.Core.Path.{_≡_, refl, sym, subst, _∙_}
-use mathlib.Core.List.{List, [], _∷_, _++_, List·Memᴰ, List·Memᴰ·head, List·Memᴰ·tail}
+use mathlib.Core.List.{List, [], _∷_, _++_, map, List·Memᴰ, List·Memᴰ·head, List·Memᴰ·tail}
 use mathlib.Core.Bool.{Bool, true, false, cond}
-use Prim.Native.Nat.{ℕ, zero, suc, _+_, _-_, _^_, _≤_, _<_}
+use Prim.Native.Nat.{ℕ, zero, suc, _+_, _*_, _-_, _/_, _%_, _^_, _≤_, _<_}
 use native.Mathlib.Omega.{arith}
 use lib.Dec.{ltb}
 use lib.ListN.{length, getD}
@@ -19,7 +19,7 @@ use Rattle.model.specs.Scan.{Scan, end, bad, item}
 use Rattle.model.specs.State.{limit}
 use Rattle.model.specs.Causes.{tailIn, retainedFrom}
 use Rattle.model.specs.Listing.{lineBytes, heading, shown, Listed, lineOf, listedIn, listedOn, onPages, listing}
-use Rattle.model.specs.ListingLaws.{ClearShown, Clear, Listable, ListedClear, LinesLong, LineTells, ListingTells}
+use Rattle.model.specs.ListingLaws.{ClearShown, Clear, Listable, ListedClear, LinesLong, LineTells, ListingTells, LineCount, LinesAt}
 use Rattle.model.proofs.Booleans.{cond-all}
 use Rattle.model.proofs.Members.{Every, every-nil, every-cons, every-append}
 use Rattle.model.proofs.Bounds.{Bounded, bounded}
@@ -134,3 +134,59 @@ pub listing-tells : ListingTells
 unfolding ListingTells listing
 listing-tells anchor logs anchor' logs' h k same =
     pages-tell 0 (listedOn anchor logs) (listedOn anchor' logs') (clear-on anchor logs h) (clear-on anchor' logs' k) same
+
+-- How many lines there are, with `left` more records on this page.
+count-from : (left : ℕ) (es : List Listed) → left ≤ 59 → length (onPages left es) ≡ length es + (length es + (59 - left)) / 60
+unfolding onPages
+count-from left [] h = omega arith
+count-from zero (e ∷ es) h = omega (arith, count-from 59 es (omega arith))
+count-from (suc left) (e ∷ es) h = omega (arith, count-from left es (omega arith))
+
+pub line-count : LineCount
+unfolding LineCount
+line-count es = count-from 0 es (omega arith)
+
+-- Line n from here on, at r of page q, counted as if this page were the first but for `left` records: a heading where r is 0.
+top-from : (left : ℕ) (es : List Listed) (n q : ℕ) → left ≤ 59 → n + 61 ≡ 61 * q + left → n < length (onPages left es)
+    → getD (onPages left es) n [] ≡ heading
+unfolding onPages
+top-from left [] n q h e l = absurd (omega arith)
+top-from zero (x ∷ es) zero q h e l = refl
+top-from zero (x ∷ es) (suc zero) q h e l = absurd (omega arith)
+top-from zero (x ∷ es) (suc (suc n)) q h e l = top-from 59 es n (q - 1) (omega arith) (omega arith) (omega arith)
+top-from (suc left) (x ∷ es) zero q h e l = absurd (omega arith)
+top-from (suc left) (x ∷ es) (suc n) q h e l = top-from left es n q (omega arith) (omega arith) (omega arith)
+
+-- and else record k
+below-from : (left : ℕ) (es : List Listed) (n q r k : ℕ) → left ≤ 59 → 1 ≤ r → r < 61 → n + 61 ≡ 61 * q + r + left
+    → k + 61 ≡ 60 * q + r + left → getD (onPages left es) n [] ≡ getD (map lineOf es) k []
+unfolding onPages
+below-from left [] n q r k h low high e f = refl
+below-from zero (x ∷ es) zero q r k h low high e f = absurd (omega arith)
+below-from zero (x ∷ es) (suc zero) q r zero h low high e f = refl
+below-from zero (x ∷ es) (suc zero) q r (suc k) h low high e f = absurd (omega arith)
+below-from zero (x ∷ es) (suc (suc n)) q r zero h low high e f = absurd (omega arith)
+below-from zero (x ∷ es) (suc (suc n)) q r (suc k) h low high e f =
+    below-from 59 es n (q - 1) r k (omega arith) low high (omega arith) (omega arith)
+below-from (suc left) (x ∷ es) zero q r zero h low high e f = refl
+below-from (suc left) (x ∷ es) zero q r (suc k) h low high e f = absurd (omega arith)
+below-from (suc left) (x ∷ es) (suc n) q r zero h low high e f = absurd (omega arith)
+below-from (suc left) (x ∷ es) (suc n) q r (suc k) h low high e f =
+    below-from left es n q r k (omega arith) low high (omega arith) (omega arith)
+
+pub line-at : LinesAt
+unfolding LinesAt
+line-at es n =
+    record {
+      top = λ l e. top-from 0 es n (n / 61 + 1) (omega arith) (omega arith) l;
+      below = λ ne. below-from 0 es n (n / 61 + 1) (n % 61) (60 * (n / 61) + n % 61 - 1) (omega arith) (omega (arith, ne)) (omega arith) (omega arith) (omega (arith, ne));
+    }
+
+-- "an empty log prints nothing", and one record two lines
+none-printed : length (onPages 0 []) ≡ 0
+unfolding onPages
+none-printed = refl
+
+one-printed : (e : Listed) → onPages 0 (e ∷ []) ≡ heading ∷ lineOf e ∷ []
+unfolding onPages
+one-printed e = refl

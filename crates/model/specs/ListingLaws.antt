@@ -1,4 +1,4 @@
--- What a listing tells (02, S-1), as statements, each with its English. Proofs: proofs/Columns.antt, proofs/Listing.antt, proofs/Pages.antt.
+-- What a listing tells (02, S-1), as statements, each with its English. Proofs: proofs/Columns.antt, proofs/Listing.antt.
 use mathlib.Core.Path.{_≡_}
 use Prim.Native.Nat.{ℕ, _+_, _*_, _-_, _/_, _%_, _^_, _≤_, _<_}
 use mathlib.Core.List.{List, [], _∷_, List·Memᴰ, map}
