@@ -1,16 +1,16 @@
 -- A line by its columns: where each field stands, and that a line tells its record.
 use mathlib.Core.Path.{_≡_, refl, sym, ap, subst, _∙_}
 use mathlib.Core.List.{List, [], _∷_, _++_}
-use Prim.Native.Nat.{ℕ, zero, suc, _+_, _^_, _≤_, _<_}
+use Prim.Native.Nat.{ℕ, zero, suc, _+_, _-_, _^_, _≤_, _<_}
 use native.Mathlib.Omega.{arith}
 use lib.Dec.{eqb}
 use mathlib.Core.Bool.{cond}
-use lib.ListN.{length, getD, take, drop, length-append}
+use lib.ListN.{length, getD, take, drop, replicate, length-append}
 use lib.Seq.{take-at, drop-at, drop-drop}
 use Rattle.model.specs.Word.{part}
-use Rattle.model.specs.Text.{decimal, padded}
+use Rattle.model.specs.Text.{lastDigits, decimal, padded}
 use Rattle.model.specs.Listing.{gap, inColumns, lineBytes, heading, kindName, Shown, shownChange, shownClose, Listed, lineOf}
-use Rattle.model.specs.ListingLaws.{ClearChange, ClearClose, ClearShown, Clear, Columns, ColumnsOf, LineColumns, LineTells}
+use Rattle.model.specs.ListingLaws.{ClearShown, Clear, Columns, ColumnsOf, LineColumns, HeadingColumns, LineTells}
 use Rattle.model.proofs.Text.{length-padded, digits-most, digits-below, said, said-padded}
 
 -- What stands at a place is its part, and behind it stands the rest.
@@ -115,14 +115,8 @@ line-columns e c = go (e .content) (c .content-clear)
           width-fits = omega arith;
         })
 
-pub heading-columns : Columns heading (100 ∷ [])
-    (112 ∷ 111 ∷ 115 ∷ 105 ∷ 116 ∷ 105 ∷ 111 ∷ 110 ∷ [])
-    (107 ∷ 105 ∷ 110 ∷ 100 ∷ [])
-    (116 ∷ 114 ∷ 97 ∷ 110 ∷ 115 ∷ 97 ∷ 99 ∷ 116 ∷ 105 ∷ 111 ∷ 110 ∷ [])
-    (112 ∷ 103 ∷ [])
-    (115 ∷ 108 ∷ [])
-    (108 ∷ 110 ∷ [])
-unfolding heading
+pub heading-columns : HeadingColumns
+unfolding HeadingColumns heading
 heading-columns =
     columns-stand _ _ _ _ _ _ _
     (record {
@@ -136,6 +130,7 @@ heading-columns =
     })
 
 pub heading-length : length heading ≡ lineBytes
+unfolding HeadingColumns
 heading-length = heading-columns .long
 
 pub line-length : (e : Listed) → Clear e → length (lineOf e) ≡ lineBytes
@@ -185,3 +180,18 @@ line-tells e f c h same =
         absurd (omega (arith, same-kind k k' (omega arith) (omega arith) (sym (x .kind-at) ∙ y .kind-at)))
     go (shownClose k n) a (shownChange k' n' g' s' w') b x y =
         absurd (omega (arith, same-kind k k' (omega arith) (omega arith) (sym (x .kind-at) ∙ y .kind-at)))
+
+-- Two lines, byte by byte: an update at position 128, and an abort with the largest numbers that there are.
+pub lines-computed :
+    (lineOf (record { disk = 3; position = 128; content = shownChange 0 7 12 5 32 })
+    ≡ 51 ∷ replicate 20 32 ++ (49 ∷ 50 ∷ 56 ∷ replicate 9 32) ++ (117 ∷ 112 ∷ 100 ∷ 97 ∷ 116 ∷ 101 ∷ replicate 22 32)
+    ++ (55 ∷ 32 ∷ 49 ∷ 50 ∷ 32 ∷ 32 ∷ 32 ∷ 53 ∷ 32 ∷ 51 ∷ 50 ∷ 10 ∷ []))
+    × (lineOf (record { disk = 7; position = 2 ^ 62 - 1; content = shownClose 3 (2 ^ 64 - 1) })
+    -- 4611686018427387903 and 18446744073709551615
+    ≡ 55 ∷ 32 ∷ 32 ∷ 32 ∷ 32
+    ∷ 52 ∷ 54 ∷ 49 ∷ 49 ∷ 54 ∷ 56 ∷ 54 ∷ 48 ∷ 49 ∷ 56 ∷ 52 ∷ 50 ∷ 55 ∷ 51 ∷ 56 ∷ 55 ∷ 57 ∷ 48 ∷ 51
+    ∷ replicate 10 32 ++ (97 ∷ 98 ∷ 111 ∷ 114 ∷ 116 ∷ 32 ∷ 32 ∷ 32
+    ∷ 49 ∷ 56 ∷ 52 ∷ 52 ∷ 54 ∷ 55 ∷ 52 ∷ 52 ∷ 48 ∷ 55 ∷ 51 ∷ 55 ∷ 48 ∷ 57 ∷ 53 ∷ 53 ∷ 49 ∷ 54 ∷ 49 ∷ 53
+    ∷ replicate 10 32 ++ (10 ∷ [])))
+unfolding lineOf inColumns kindName lastDigits padded
+lines-computed = (refl, refl)

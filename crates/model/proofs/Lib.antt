@@ -73,4 +73,5 @@ pub mod Trace
 -- The log on paper.
 pub mod Text
 pub mod Columns
+pub mod Clear
 pub mod Listing

@@ -1,105 +1,34 @@
--- Listings: what is listed is clear, every line has 73 bytes, and a listing tells its records.
-use mathlib.Core.Path.{_≡_, refl, sym, subst, _∙_}
-use mathlib.Core.List.{List, [], _∷_, _++_, map, List·Memᴰ, List·Memᴰ·head, List·Memᴰ·tail}
-use mathlib.Core.Bool.{Bool, true, false, cond}
-use Prim.Native.Nat.{ℕ, zero, suc, _+_, _*_, _-_, _/_, _%_, _^_, _≤_, _<_}
+-- Whole listings: every line has 73 bytes, a listing tells its records, and where each line stands.
+use mathlib.Core.Path.{_≡_, refl, ap, _∙_}
+use mathlib.Core.List.{List, [], _∷_, _++_, append-assoc, map, flatten, List·Memᴰ·head, List·Memᴰ·tail}
+use Prim.Native.Nat.{ℕ, zero, suc, _+_, _*_, _-_, _/_, _%_, min, _≤_, _<_}
 use native.Mathlib.Omega.{arith}
-use lib.Dec.{ltb}
-use lib.ListN.{length, getD}
-use Rattle.model.specs.declared.Sizes.{Sizes}
-use Rattle.model.specs.declared.Decoded.{Decoded}
-use Rattle.model.specs.declared.Decoded.the-variants.{Change, Close, Malformed}
-use Rattle.model.specs.Below.{joinBelow}
-use Rattle.model.specs.Word.{OfBits}
-use Rattle.model.specs.Sizes.{ringWord}
-use Rattle.model.specs.Anchor.{sizesOn, startOn}
-use Rattle.model.specs.Record.{Record}
-use Rattle.model.specs.Decode.{readLog, span, decodeAt}
-use Rattle.model.specs.Scan.{Scan, end, bad, item}
-use Rattle.model.specs.State.{limit}
-use Rattle.model.specs.Causes.{tailIn, retainedFrom}
-use Rattle.model.specs.Listing.{lineBytes, heading, shown, Listed, lineOf, listedIn, listedOn, onPages, listing}
-use Rattle.model.specs.ListingLaws.{ClearShown, Clear, Listable, ListedClear, LinesLong, LineTells, ListingTells, LineCount, LinesAt}
-use Rattle.model.proofs.Booleans.{cond-all}
-use Rattle.model.proofs.Members.{Every, every-nil, every-cons, every-append}
-use Rattle.model.proofs.Bounds.{Bounded, bounded}
-use Rattle.model.proofs.Decode.{Found, found, decoded-all}
-use Rattle.model.proofs.Reading.{Decodes, Reads, scan-reads}
-use Rattle.model.proofs.Checked.{rows-checked}
-use Rattle.model.proofs.Restart.Gain.{length-span}
+use lib.ListN.{length, getD, take, drop, length-append, length-take, length-drop}
+use lib.Seq.{take-at, drop-at, drop-append-add, getD-take, getD-drop}
+use Rattle.model.specs.Word.{part}
+use Rattle.model.specs.Listing.{lineBytes, heading, Listed, lineOf, listedOn, onPages, listing, linesFrom}
+use Rattle.model.specs.ListingLaws.{Clear, LinesLong, LineTells, ListingTells, LineCount, LinesAt, LinesAreLines}
+use Rattle.model.proofs.Members.{Every, every-nil, every-cons}
 use Rattle.model.proofs.Columns.{line-length, heading-length, line-tells}
+use Rattle.model.proofs.Clear.{clear-on}
 
--- The number of a decoded record is the word behind its first.
-abbrev Numbered : ℕ → Decoded → Type 0
-Numbered n (Change kind page slot number copy width next) = number ≡ n
-Numbered n (Close kind number next) = number ≡ n
-Numbered n Malformed = Unit {0}
+-- what holds of every element holds of the first, of the others, and of every element of a part
+module _ {A : Type 0} {P : A → Type 0} where
+  first-of : {e : A} {es : List A} → Every P (e ∷ es) → P e
+  first-of h = h _ (List·Memᴰ·head refl)
 
-numbered : (s : Sizes) (read : ℕ → ℕ) (stop p : ℕ) → Numbered (read (p + 1)) (decodeAt s read stop p)
-unfolding decodeAt
-numbered s read stop p =
-    decoded-all (λ (d : Decoded). Numbered (read (p + 1)) d) s stop p (read p) (read (p + 1)) (read (p + 2)) tt (λ k f m. refl) (λ k l f z. refl)
+  others-of : {e : A} {es : List A} → Every P (e ∷ es) → Every P es
+  others-of h a m = h a (List·Memᴰ·tail m)
 
--- A log of words, read with sizes in bounds up to a stop, gives clear records before that stop.
-module _ (s : Sizes) (b : Bounded s) (read : ℕ → ℕ) (words : (p : ℕ) → read p < 2 ^ 64) (stop : ℕ) where
-  clear-record : (p : ℕ) (d : Decoded) (r : Record) (next : ℕ) → Found s stop p d → Numbered (read (p + 1)) d → Decodes read p d r next
-      → ClearShown (shown r)
-  clear-record p (Change kind page slot number copy width to) r next f e h =
-      rw (h .0) (record {
-        kind-lt = f .kind-lt;
-        number-lt = omega (arith, words (p + 1));
-        page-lt = f .page-lt;
-        slot-lt = f .slot-lt;
-        width-le = omega (arith, length-span read (p + 3) width, b .used page (f .page-in) .width-max);
-      })
-  clear-record p (Close kind number to) r next f e h =
-      rw (h .0) (record { kind-ge = f .kind-ge; kind-lt = f .kind-lt; number-lt = omega (arith, words (p + 1)) })
-  clear-record p Malformed r next f e h = absurd h
+  every-drop : (n : ℕ) (es : List A) → Every P es → Every P (drop n es)
+  every-drop zero es h = h
+  every-drop (suc n) [] h = h
+  every-drop (suc n) (e ∷ es) h = every-drop n es (others-of h)
 
-  clear-reads : (disk p : ℕ) (sc : Scan) → disk < s .disks → stop ≤ limit → Reads s read stop p sc
-      → Every (λ (e : Listed). Clear e × (e .disk < s .disks)) (listedIn disk sc)
-  unfolding listedIn
-  clear-reads disk p end l low h = every-nil _
-  clear-reads disk p (bad q) l low h = every-nil _
-  clear-reads disk p (item q r rest) l low h =
-      every-cons (λ (e : Listed). Clear e × (e .disk < s .disks)) _ (listedIn disk rest)
-      (record {
-        disk-lt = omega (arith, b .disks-max);
-        position-lt = omega (arith, h .0, h .1);
-        content-clear = clear-record p (decodeAt s read stop p) r (h .2 .0) (found s read stop p) (numbered s read stop p) (h .2 .2);
-      }, l)
-      (clear-reads disk (h .2 .0) rest l low (h .2 .3))
-
-read-words : (s : Sizes) (logs : List ℕ) (disk tail : ℕ) → OfBits 64 logs → (p : ℕ) → readLog s logs disk tail [] p < 2 ^ 64
-unfolding OfBits readLog
-read-words s logs disk tail words p = cond-all (λ (w : ℕ). w < 2 ^ 64) (ltb p tail) (λ _. words (ringWord s disk p)) (λ _. omega arith)
-
-every-join : {A : Type 0} (P : A → Type 0) (f : ℕ → List A) (n : ℕ) → ((i : ℕ) → i < n → Every P (f i)) → Every P (joinBelow f n)
-unfolding joinBelow
-every-join P f zero h = every-nil P
-every-join P f (suc n) h = every-append P (joinBelow f n) (f n) (every-join P f n (λ i l. h i (omega arith))) (h n (omega arith))
-
-pub listed-clear : ListedClear
-unfolding ListedClear listedOn retainedFrom
-listed-clear anchor logs h =
-    let s : Sizes = sizesOn anchor in
-    let c = rows-checked (h .others) anchor logs (h .passed) .0 in
-    every-join (λ (e : Listed). Clear e × (e .disk < s .disks)) (λ disk. listedIn disk (retainedFrom s (startOn anchor) logs disk)) (s .disks)
-    (λ disk l.
-    let tail : ℕ = tailIn s logs disk in
-    clear-reads s (bounded s (c .bounds)) (readLog s logs disk tail []) (read-words s logs disk tail (h .words)) tail disk (startOn anchor disk) _ l
-    (c .whole .tails disk l .2) (scan-reads s (readLog s logs disk tail []) tail (startOn anchor disk)))
-
-clear-on : (anchor logs : List ℕ) → Listable anchor logs → Every Clear (listedOn anchor logs)
-unfolding ListedClear
-clear-on anchor logs h e m = listed-clear anchor logs h e m .0
-
--- what holds of a list's first element and of the others
-first-of : {P : Listed → Type 0} {e : Listed} {es : List Listed} → Every P (e ∷ es) → P e
-first-of h = h _ (List·Memᴰ·head refl)
-
-others-of : {P : Listed → Type 0} {e : Listed} {es : List Listed} → Every P (e ∷ es) → Every P es
-others-of h a m = h a (List·Memᴰ·tail m)
+  every-take : (n : ℕ) (es : List A) → Every P es → Every P (take n es)
+  every-take zero es h = every-nil P
+  every-take (suc n) [] h = h
+  every-take (suc n) (e ∷ es) h = every-cons P e (take n es) (first-of h) (every-take n es (others-of h))
 
 abbrev Long : List ℕ → Type 0
 Long line = length line ≡ lineBytes
@@ -146,7 +75,8 @@ pub line-count : LineCount
 unfolding LineCount
 line-count es = count-from 0 es (omega arith)
 
--- Line n from here on, at r of page q, counted as if this page were the first but for `left` records: a heading where r is 0.
+-- Page 0 is the page under way, on which `left` more records go: the next line is its line 61 - left. So the line n further on is line r of
+-- page q where n + 61 ≡ 61 * q + r + left. Where r is 0, it is a heading.
 top-from : (left : ℕ) (es : List Listed) (n q : ℕ) → left ≤ 59 → n + 61 ≡ 61 * q + left → n < length (onPages left es)
     → getD (onPages left es) n [] ≡ heading
 unfolding onPages
@@ -157,7 +87,7 @@ top-from zero (x ∷ es) (suc (suc n)) q h e l = top-from 59 es n (q - 1) (omega
 top-from (suc left) (x ∷ es) zero q h e l = absurd (omega arith)
 top-from (suc left) (x ∷ es) (suc n) q h e l = top-from left es n q (omega arith) (omega arith) (omega arith)
 
--- and else record k
+-- and else it shows the k-th of the records to come
 below-from : (left : ℕ) (es : List Listed) (n q r k : ℕ) → left ≤ 59 → 1 ≤ r → r < 61 → n + 61 ≡ 61 * q + r + left
     → k + 61 ≡ 60 * q + r + left → getD (onPages left es) n [] ≡ getD (map lineOf es) k []
 unfolding onPages
@@ -175,11 +105,14 @@ below-from (suc left) (x ∷ es) (suc n) q r (suc k) h low high e f =
     below-from left es n q r k (omega arith) low high (omega arith) (omega arith)
 
 pub line-at : LinesAt
-unfolding LinesAt
+unfolding LinesAt LineCount
 line-at es n =
     record {
       top = λ l e. top-from 0 es n (n / 61 + 1) (omega arith) (omega arith) l;
-      below = λ ne. below-from 0 es n (n / 61 + 1) (n % 61) (60 * (n / 61) + n % 61 - 1) (omega arith) (omega (arith, ne)) (omega arith) (omega arith) (omega (arith, ne));
+      there = λ l ne. omega (arith, ne, line-count es);
+      below = λ ne.
+          below-from 0 es n (n / 61 + 1) (n % 61) (60 * (n / 61) + n % 61 - 1) (omega arith) (omega (arith, ne)) (omega arith) (omega arith)
+          (omega (arith, ne));
     }
 
 -- "an empty log prints nothing", and one record two lines
@@ -190,3 +123,36 @@ none-printed = refl
 one-printed : (e : Listed) → onPages 0 (e ∷ []) ≡ heading ∷ lineOf e ∷ []
 unfolding onPages
 one-printed e = refl
+
+-- Lines one behind the other: each begins at a multiple of 73.
+length-lines : (ls : List (List ℕ)) → Every Long ls → length (flatten ls) ≡ lineBytes * length ls
+unfolding flatten
+length-lines [] h = refl
+length-lines (l ∷ ls) h = rw length-append (omega (arith, first-of h, length-lines ls (others-of h)))
+
+part-lines : (ls : List (List ℕ)) (rest : List ℕ) (i : ℕ) → Every Long ls → i < length ls
+    → part (lineBytes * i) lineBytes (flatten ls ++ rest) ≡ getD ls i []
+unfolding flatten part
+part-lines [] rest i h k = absurd (omega arith)
+part-lines (l ∷ ls) rest zero h k = rw append-assoc (take-at l (flatten ls ++ rest) lineBytes (first-of h))
+part-lines (l ∷ ls) rest (suc i) h k =
+    let e : lineBytes * suc i ≡ length l + lineBytes * i = omega (arith, first-of h) in
+    rw (append-assoc, e, drop-append-add l (flatten ls ++ rest) (lineBytes * i)) (part-lines ls rest i (others-of h) (omega arith))
+
+pub lines-are-lines : LinesAreLines
+unfolding LinesAreLines linesFrom LinesLong
+lines-are-lines anchor logs h first before =
+    let all : List (List ℕ) = listing anchor logs in
+    let room : ℕ = length before / lineBytes in
+    let ls : List (List ℕ) = take room (drop first all) in
+    let long : Every Long ls = every-take room (drop first all) (every-drop first all (lines-long anchor logs h)) in
+    let bytes = length-lines ls long in
+    let many : length ls ≡ min room (length all - first) = length-take room (drop first all) ∙ ap (min room) (length-drop first all) in
+    record {
+      many = many;
+      as-long = rw (length-append, length-drop) (omega arith);
+      each = λ i l.
+          part-lines ls (drop (length (flatten ls)) before) i long l
+          ∙ (let k : i < room = omega arith in rw (getD-take, getD-drop));
+      rest = drop-at (flatten ls) (drop (length (flatten ls)) before) (lineBytes * length ls) bytes ∙ ap (λ (n : ℕ). drop n before) bytes;
+    }

@@ -1,9 +1,9 @@
--- What a listing tells (02, S-1), as statements, each with its English. Proofs: proofs/Columns.antt, proofs/Listing.antt.
+-- What a listing tells (02, S-1), as statements, each with its English. Proofs: proofs/Clear.antt, proofs/Columns.antt, proofs/Listing.antt.
 use mathlib.Core.Path.{_≡_}
-use Prim.Native.Nat.{ℕ, _+_, _*_, _-_, _/_, _%_, _^_, _≤_, _<_}
+use Prim.Native.Nat.{ℕ, _+_, _*_, _-_, _/_, _%_, _^_, min, _≤_, _<_}
 use mathlib.Core.List.{List, [], _∷_, List·Memᴰ, map}
 use mathlib.Core.Bool.{Bool}
-use lib.ListN.{length, getD}
+use lib.ListN.{length, getD, drop}
 use Rattle.model.specs.declared.Sizes.{Sizes}
 use Rattle.model.specs.Word.{part, OfBits}
 use Rattle.model.specs.Text.{decimal, padded}
@@ -11,7 +11,7 @@ use Rattle.model.specs.Anchor.{sizesOn}
 use Rattle.model.specs.State.{limit}
 use Rattle.model.specs.Refusal.{verdict, accepted}
 use Rattle.model.specs.Restart.{imageRows}
-use Rattle.model.specs.Listing.{gap, lineBytes, heading, kindName, Shown, shownChange, shownClose, Listed, lineOf, listedOn, onPages, listing}
+use Rattle.model.specs.Listing.{gap, lineBytes, heading, kindName, Shown, shownChange, shownClose, Listed, lineOf, listedOn, onPages, listing, linesFrom, over}
 
 -- What the checks of an image leave of a record: a kind of its own, a page and a slot that there can be, words of 64 bits.
 pub record ClearChange (kind number page slot width : ℕ) : Type 0 where
@@ -73,6 +73,17 @@ ColumnsOf line disk position (shownClose kind number) =
 unfoldable pub LineColumns : Type 0
 LineColumns = (e : Listed) → Clear e → ColumnsOf (lineOf e) (e .disk) (e .position) (e .content)
 
+-- "The heading has d, position, kind, transaction, pg, sl and ln, right-aligned in the same columns"
+unfoldable pub HeadingColumns : Type 0
+HeadingColumns =
+    Columns heading (100 ∷ [])
+    (112 ∷ 111 ∷ 115 ∷ 105 ∷ 116 ∷ 105 ∷ 111 ∷ 110 ∷ [])
+    (107 ∷ 105 ∷ 110 ∷ 100 ∷ [])
+    (116 ∷ 114 ∷ 97 ∷ 110 ∷ 115 ∷ 97 ∷ 99 ∷ 116 ∷ 105 ∷ 111 ∷ 110 ∷ [])
+    (112 ∷ 103 ∷ [])
+    (115 ∷ 108 ∷ [])
+    (108 ∷ 110 ∷ [])
+
 -- Every line of a listing has 73 bytes, headings included.
 unfoldable pub LinesLong : Type 0
 LinesLong = (anchor logs : List ℕ) → Listable anchor logs → (line : List ℕ) → List·Memᴰ line (listing anchor logs) → length line ≡ lineBytes
@@ -92,10 +103,26 @@ unfoldable pub LineCount : Type 0
 LineCount = (es : List Listed) → length (onPages 0 es) ≡ length es + (length es + 59) / 60
 
 -- Line n of a listing stands on page n / 61, and there at n % 61. At 0 it is the heading, and else it shows the record at n % 61 - 1 of the
--- page's sixty. (A number past the last line names no record, and both sides are empty.)
+-- page's sixty, which is there. (A number past the last line names no record, and both sides of `below` are empty.)
 pub record LineAt (es : List Listed) (n : ℕ) : Type 0 where
   pub top : n < length (onPages 0 es) → n % 61 ≡ 0 → getD (onPages 0 es) n [] ≡ heading
+  pub there : n < length (onPages 0 es) → (n % 61 ≡ 0 → ⊥) → 60 * (n / 61) + n % 61 - 1 < length es
   pub below : (n % 61 ≡ 0 → ⊥) → getD (onPages 0 es) n [] ≡ getD (map lineOf es) (60 * (n / 61) + n % 61 - 1) []
 
 unfoldable pub LinesAt : Type 0
 LinesAt = (es : List Listed) (n : ℕ) → LineAt es n
+
+-- Lines written from number `first` on, `count` of them, into bytes that held `before`: as many as there are and as there is room for, the
+-- i-th of them at byte 73 × i, and the bytes behind them as they were.
+pub record Written (lines : List (List ℕ)) (first count : ℕ) (before after : List ℕ) : Type 0 where
+  pub many : count ≡ min (length before / lineBytes) (length lines - first)
+  pub as-long : length after ≡ length before
+  pub each : (i : ℕ) → i < count → part (lineBytes * i) lineBytes after ≡ getD lines (first + i) []
+  pub rest : drop (lineBytes * count) after ≡ drop (lineBytes * count) before
+
+-- A call for lines writes what as many calls for one line write, into 73 bytes each.
+unfoldable pub LinesAreLines : Type 0
+LinesAreLines =
+    (anchor logs : List ℕ) → Listable anchor logs → (first : ℕ) (before : List ℕ)
+    → let lines : List (List ℕ) = linesFrom anchor logs first (length before) in
+    Written (listing anchor logs) first (length lines) before (over lines before)
