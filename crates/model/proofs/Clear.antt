@@ -1,13 +1,12 @@
 -- What is listed of an accepted image is clear: check 7 leaves no record that a line could not show.
 use mathlib.Core.Path.{_≡_, refl}
 use mathlib.Core.List.{List, []}
-use Prim.Native.Nat.{ℕ, zero, suc, _+_, _^_, _≤_, _<_}
+use Prim.Native.Nat.{ℕ, _+_, _^_, _≤_, _<_}
 use native.Mathlib.Omega.{arith}
 use lib.Dec.{ltb}
 use Rattle.model.specs.declared.Sizes.{Sizes}
 use Rattle.model.specs.declared.Decoded.{Decoded}
 use Rattle.model.specs.declared.Decoded.the-variants.{Change, Close, Malformed}
-use Rattle.model.specs.Below.{joinBelow}
 use Rattle.model.specs.Word.{OfBits}
 use Rattle.model.specs.Sizes.{ringWord}
 use Rattle.model.specs.Anchor.{sizesOn, startOn}
@@ -19,7 +18,7 @@ use Rattle.model.specs.Causes.{tailIn, retainedFrom}
 use Rattle.model.specs.Listing.{shown, Listed, listedIn, listedOn}
 use Rattle.model.specs.ListingLaws.{ClearShown, Clear, Listable, ListedClear}
 use Rattle.model.proofs.Booleans.{cond-all}
-use Rattle.model.proofs.Members.{Every, every-nil, every-cons, every-append}
+use Rattle.model.proofs.Members.{Every, every-nil, every-cons, every-join}
 use Rattle.model.proofs.Bounds.{Bounded, bounded}
 use Rattle.model.proofs.Decode.{Found, found, decoded-all}
 use Rattle.model.proofs.Reading.{Decodes, Reads, scan-reads}
@@ -72,11 +71,6 @@ module _ (s : Sizes) (b : Bounded s) (read : ℕ → ℕ) (words : (p : ℕ) →
 read-words : (s : Sizes) (logs : List ℕ) (disk tail : ℕ) → OfBits 64 logs → (p : ℕ) → readLog s logs disk tail [] p < 2 ^ 64
 unfolding OfBits readLog
 read-words s logs disk tail words p = cond-all (λ (w : ℕ). w < 2 ^ 64) (ltb p tail) (λ _. words (ringWord s disk p)) (λ _. omega arith)
-
-every-join : {A : Type 0} (P : A → Type 0) (f : ℕ → List A) (n : ℕ) → ((i : ℕ) → i < n → Every P (f i)) → Every P (joinBelow f n)
-unfolding joinBelow
-every-join P f zero h = every-nil P
-every-join P f (suc n) h = every-append P (joinBelow f n) (f n) (every-join P f n (λ i l. h i (omega arith))) (h n (omega arith))
 
 pub listed-clear : ListedClear
 unfolding ListedClear listedOn retainedFrom

@@ -74,4 +74,5 @@ pub mod Trace
 pub mod Text
 pub mod Columns
 pub mod Clear
+pub mod Order
 pub mod Listing

@@ -1,34 +1,28 @@
 -- Whole listings: every line has 73 bytes, a listing tells its records, and where each line stands.
-use mathlib.Core.Path.{_≡_, refl, ap, _∙_}
-use mathlib.Core.List.{List, [], _∷_, _++_, append-assoc, map, flatten, List·Memᴰ·head, List·Memᴰ·tail}
+use mathlib.Core.Path.{_≡_, refl, sym, ap, _∙_}
+use mathlib.Core.List.{List, [], _∷_, _++_, append-assoc, map, flatten}
+use mathlib.Core.Bool.{Bool, false, not}
 use Prim.Native.Nat.{ℕ, zero, suc, _+_, _*_, _-_, _/_, _%_, min, _≤_, _<_}
 use native.Mathlib.Omega.{arith}
 use lib.ListN.{length, getD, take, drop, length-append, length-take, length-drop}
 use lib.Seq.{take-at, drop-at, drop-append-add, getD-take, getD-drop}
-use Rattle.model.specs.Word.{part}
-use Rattle.model.specs.Listing.{lineBytes, heading, Listed, lineOf, listedOn, onPages, listing, linesFrom}
-use Rattle.model.specs.ListingLaws.{Clear, LinesLong, LineTells, ListingTells, LineCount, LinesAt, LinesAreLines}
-use Rattle.model.proofs.Members.{Every, every-nil, every-cons}
+use lib.Dec.{leb, eqb}
+use borrow.Author.Tests.{leb-false, eqb-true, not-false}
+use Rattle.model.specs.declared.Stage.{Stage}
+use Rattle.model.specs.Word.{part, OfBits}
+use Rattle.model.specs.Sizes.{logWords}
+use Rattle.model.specs.Anchor.{sizesOn}
+use Rattle.model.specs.Refusal.{Row, row, Verdict, accepted, rejected, verdict}
+use Rattle.model.specs.Transaction.{filled}
+use Rattle.model.specs.Restart.{imageRows}
+use Rattle.model.specs.Listing.{lineBytes, heading, Listed, lineOf, listedOn, onPages, listing, unlisted, listRows, notALine, lineAfter, notLines, linesFrom, over, linesAfter}
+use Rattle.model.specs.ListingLaws.{Clear, Listable, LinesLong, LineTells, ListingTells, LineCount, LinesAt, LinesAreLines}
+use Rattle.model.proofs.Members.{Every, every-nil, every-cons, first-of, others-of, every-drop, every-take, every-at}
+use Rattle.model.proofs.Booleans.{or-none}
+use Rattle.model.proofs.Verdict.{row-passed, verdict-append, accepted-first}
+use Rattle.model.proofs.Checked.{rows-checked}
 use Rattle.model.proofs.Columns.{line-length, heading-length, line-tells}
 use Rattle.model.proofs.Clear.{clear-on}
-
--- what holds of every element holds of the first, of the others, and of every element of a part
-module _ {A : Type 0} {P : A → Type 0} where
-  first-of : {e : A} {es : List A} → Every P (e ∷ es) → P e
-  first-of h = h _ (List·Memᴰ·head refl)
-
-  others-of : {e : A} {es : List A} → Every P (e ∷ es) → Every P es
-  others-of h a m = h a (List·Memᴰ·tail m)
-
-  every-drop : (n : ℕ) (es : List A) → Every P es → Every P (drop n es)
-  every-drop zero es h = h
-  every-drop (suc n) [] h = h
-  every-drop (suc n) (e ∷ es) h = every-drop n es (others-of h)
-
-  every-take : (n : ℕ) (es : List A) → Every P es → Every P (take n es)
-  every-take zero es h = every-nil P
-  every-take (suc n) [] h = h
-  every-take (suc n) (e ∷ es) h = every-cons P e (take n es) (first-of h) (every-take n es (others-of h))
 
 abbrev Long : List ℕ → Type 0
 Long line = length line ≡ lineBytes
@@ -156,3 +150,43 @@ lines-are-lines anchor logs h first before =
           ∙ (let k : i < room = omega arith in rw (getD-take, getD-drop));
       rest = drop-at (flatten ls) (drop (length (flatten ls)) before) (lineBytes * length ls) bytes ∙ ap (λ (n : ℕ). drop n before) bytes;
     }
+
+-- A call that is accepted has an image that can be listed, lent bytes of a right length, and the number of a line.
+pub list-accepted : (stage : Stage) (bytesWrong : Bool) (anchor logs : List ℕ) (number : ℕ) → OfBits 64 logs
+    → verdict (listRows stage bytesWrong anchor logs number) ≡ accepted
+    → Listable anchor logs × (bytesWrong ≡ false) × (number < length (listing anchor logs))
+unfolding listRows unlisted
+list-accepted stage bytesWrong anchor logs number words e =
+    let rows : List Row = imageRows (unlisted bytesWrong logs) anchor logs in
+    let last : List Row = row 8 (leb (length (listing anchor logs)) number) ∷ [] in
+    let image : verdict (rows ++ last) ≡ accepted = row-passed _ _ e .1 in
+    let passed : verdict rows ≡ accepted = accepted-first rows last image in
+    let lent = rows-checked (unlisted bytesWrong logs) anchor logs passed .1 in (
+      record { others = unlisted bytesWrong logs; passed = passed; words = words },
+      or-none (not (eqb (length logs) (logWords (sizesOn anchor)))) bytesWrong lent .1,
+      leb-false _ _ (row-passed _ _ (sym (verdict-append rows last passed) ∙ image) .0),
+    )
+
+-- Taken or refused, a call leaves as many lent bytes as there were.
+pub line-as-long : (stage : Stage) (anchor logs : List ℕ) (number : ℕ) (before : List ℕ) → OfBits 64 logs
+    → length (lineAfter stage anchor logs number before) ≡ length before
+unfolding lineAfter LinesLong
+line-as-long stage anchor logs number before words = go (verdict (listRows stage (notALine (length before)) anchor logs number)) refl
+  where
+    go : (v : Verdict) → verdict (listRows stage (notALine (length before)) anchor logs number) ≡ v
+        → length (filled v (getD (listing anchor logs) number []) before) ≡ length before
+    go (rejected n a b) e = refl
+    go accepted e =
+        let h = list-accepted stage (notALine (length before)) anchor logs number words e in
+        every-at number (listing anchor logs) [] (lines-long anchor logs (h .0)) (h .2)
+        ∙ sym (eqb-true (length before) lineBytes (not-false _ (h .1)))
+
+pub lines-as-long : (stage : Stage) (anchor logs : List ℕ) (first : ℕ) (before : List ℕ) → OfBits 64 logs
+    → length (linesAfter stage anchor logs first before) ≡ length before
+unfolding linesAfter LinesAreLines
+lines-as-long stage anchor logs first before words = go (verdict (listRows stage (notLines (length before)) anchor logs first)) refl
+  where
+    go : (v : Verdict) → verdict (listRows stage (notLines (length before)) anchor logs first) ≡ v
+        → length (filled v (over (linesFrom anchor logs first (length before)) before) before) ≡ length before
+    go (rejected n a b) e = refl
+    go accepted e = lines-are-lines anchor logs (list-accepted stage (notLines (length before)) anchor logs first words e .0) first before .as-long

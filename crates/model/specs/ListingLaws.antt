@@ -1,5 +1,7 @@
--- What a listing tells (02, S-1), as statements, each with its English. Proofs: proofs/Clear.antt, proofs/Columns.antt, proofs/Listing.antt.
+-- What a listing tells (02, S-1), as statements, each with its English. Proofs: proofs/Clear.antt, proofs/Order.antt,
+-- proofs/Columns.antt, proofs/Listing.antt.
 use mathlib.Core.Path.{_≡_}
+use mathlib.Core.Logic.{_⊎_}
 use Prim.Native.Nat.{ℕ, _+_, _*_, _-_, _/_, _%_, _^_, min, _≤_, _<_}
 use mathlib.Core.List.{List, [], _∷_, List·Memᴰ, map}
 use mathlib.Core.Bool.{Bool}
@@ -46,6 +48,17 @@ unfoldable pub ListedClear : Type 0
 ListedClear =
     (anchor logs : List ℕ) → Listable anchor logs → (e : Listed) → List·Memᴰ e (listedOn anchor logs)
     → Clear e × (e .disk < sizesOn anchor .disks)
+
+-- "Records come by disk, then by position.": each record comes before all that follow it in the list.
+abbrev pub Before : Listed → Listed → Type 0
+Before e f = (e .disk < f .disk) ⊎ ((e .disk ≡ f .disk) × (e .position < f .position))
+
+abbrev pub InOrder : List Listed → Type 0
+InOrder [] = Unit {0}
+InOrder (e ∷ es) = ((f : Listed) → List·Memᴰ f es → Before e f) × InOrder es
+
+unfoldable pub ListedInOrder : Type 0
+ListedInOrder = (anchor logs : List ℕ) → InOrder (listedOn anchor logs)
 
 -- Seven texts, each right-aligned in its own columns, three gaps, and a byte 10: 73 bytes in all.
 pub record Columns (line disk position kind transaction page slot width : List ℕ) : Type 0 where
