@@ -73,3 +73,9 @@ pub mod Example
 pub mod AbortReads
 -- The promises for traces of the code's own calls.
 pub mod Trace
+-- The log on paper.
+pub mod Text
+pub mod Columns
+pub mod Clear
+pub mod Order
+pub mod Listing

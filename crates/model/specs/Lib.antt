@@ -38,6 +38,7 @@ pub mod Abort
 pub mod Checkpoint
 pub mod Restart
 pub mod Listing
+pub mod ListingLaws
 pub mod Call
 -- The state by value and in the lent work memory.
 pub mod View
