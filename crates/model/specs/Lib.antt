@@ -38,7 +38,6 @@ pub mod Abort
 pub mod Checkpoint
 pub mod Restart
 pub mod Listing
-pub mod ListingLaws
 pub mod Call
 -- The state by value and in the lent work memory.
 pub mod View
@@ -56,5 +55,6 @@ pub mod Answers
 pub mod Trace
 pub mod LogPromiseInCode
 pub mod AnswersInCode
--- The log on paper.
+-- The log on paper: what a listing tells, and that it is told of every list of calls.
+pub mod ListingLaws
 pub mod ListingPromise
