@@ -6,28 +6,25 @@ use text::put_number;
 use text::put_spaces;
 use text::put_text;
 ghost use mathlib.Core.Path.{_≡_};
-ghost use Prim.Native.Nat.{_+_, _≤_, _<_};
-ghost use mathlib.Core.List.{_++_};
+ghost use Prim.Native.Nat.{_+_, _-_, _≤_, _<_};
+ghost use mathlib.Core.List.{[], _∷_, _++_};
 ghost use lib.ListN.{length, drop};
 ghost use Rattle.model.specs.Text.{decimal, padded, lastDigits};
 ghost use Rattle.model.specs.Listing.{gap, heading, kindName, shownChange, shownClose, shownLine, lineBytes};
 
 // A number's last digits, right-aligned in so many columns before `end`.
-fn put_column(out: &mut [u8], end: usize, columns: usize, n: u64) -> usize
+fn put_column(out: &mut [u8], end: usize, columns: usize, n: u64)
     requires { ⌜ (columns ≤ end) × (end ≤ length (now out)) ⌝ }
-    ensures { λ r. ⌜ r + columns ≡ end ⌝ }
-    ensures { λ r. ⌜ drop r (now (out .exit)) ≡ padded columns (lastDigits columns n) ++ drop end (now (out .entry)) ⌝ }
+    ensures { λ _. ⌜ drop (end - columns) (now (out .exit)) ≡ padded columns (lastDigits columns n) ++ drop end (now (out .entry)) ⌝ }
 {
     let start = put_number(out, end, columns, n);
-    let from = end - columns;
-    put_spaces(out, from, start);
-    from
+    put_spaces(out, end - columns, start);
 }
 
 // The name of one of the four kinds.
 fn put_name(out: &mut [u8], end: usize, kind: u64) -> usize
     requires { ⌜ (12 ≤ end) × (end ≤ length (now out)) ⌝ }
-    ensures { λ r. ⌜ r + length (kindName kind) ≡ end ⌝ }
+    ensures { λ r. ⌜ (end ≤ r + 12) × (r + length (kindName kind) ≡ end) ⌝ }
     ensures { λ r. ⌜ drop r (now (out .exit)) ≡ kindName kind ++ drop end (now (out .entry)) ⌝ }
 {
     match kind {
@@ -39,15 +36,12 @@ fn put_name(out: &mut [u8], end: usize, kind: u64) -> usize
 }
 
 // The same, right-aligned in its twelve columns.
-fn put_kind(out: &mut [u8], end: usize, kind: u64) -> usize
+fn put_kind(out: &mut [u8], end: usize, kind: u64)
     requires { ⌜ (12 ≤ end) × (end ≤ length (now out)) ⌝ }
-    ensures { λ r. ⌜ r + 12 ≡ end ⌝ }
-    ensures { λ r. ⌜ drop r (now (out .exit)) ≡ padded 12 (kindName kind) ++ drop end (now (out .entry)) ⌝ }
+    ensures { λ _. ⌜ drop (end - 12) (now (out .exit)) ≡ padded 12 (kindName kind) ++ drop end (now (out .entry)) ⌝ }
 {
     let start = put_name(out, end, kind);
-    let from = end - 12;
-    put_spaces(out, from, start);
-    from
+    put_spaces(out, end - 12, start);
 }
 
 // Kind and transaction, from column 27 to 62.
@@ -73,6 +67,14 @@ fn put_front(out: &mut [u8], disk: u64, position: u64, kind: u64, number: u64)
     put_column(out, 1, 1, disk);
 }
 
+// The last byte of a line.
+fn put_end(out: &mut [u8])
+    requires { ⌜ length (now out) ≡ lineBytes ⌝ }
+    ensures { λ _. ⌜ drop 72 (now (out .exit)) ≡ 10 ∷ [] ⌝ }
+{
+    out[72] = 10;
+}
+
 // The line of a change.
 pub fn put_change(
     out: &mut [u8],
@@ -87,7 +89,7 @@ pub fn put_change(
     requires { ⌜ (length (now out) ≡ lineBytes) × (disk < 10) × (page < 1000) × (slot < 10000) × (width < 1000) ⌝ }
     ensures { λ _. ⌜ now (out .exit) ≡ shownLine disk position (shownChange kind number page slot width) ⌝ }
 {
-    out[72] = 10;
+    put_end(out);
     put_column(out, 72, 3, width);
     put_column(out, 69, 4, slot);
     put_column(out, 65, 3, page);
@@ -99,7 +101,7 @@ pub fn put_close(out: &mut [u8], disk: u64, position: u64, kind: u64, number: u6
     requires { ⌜ (length (now out) ≡ lineBytes) × (disk < 10) ⌝ }
     ensures { λ _. ⌜ now (out .exit) ≡ shownLine disk position (shownClose kind number) ⌝ }
 {
-    out[72] = 10;
+    put_end(out);
     put_spaces(out, 62, 72);
     put_front(out, disk, position, kind, number);
 }

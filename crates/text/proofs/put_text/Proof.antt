@@ -1,7 +1,7 @@
 -- `text::put_text` meets its contract: the bytes put so far are the last of the text.
 use native.Mathlib.Omega.{arith}
 use borrow.Author.Needs.{needs}
-use mathlib.Core.Path.{_≡_, refl, sym, _∙_}
+use mathlib.Core.Path.{_≡_, refl}
 use Prim.Native.Nat.{_+_, _-_, _≤_}
 use mathlib.Core.List.{_++_}
 use lib.ListN.{length, drop, length-set}
