@@ -1,8 +1,8 @@
 // The output: the lines of a piece of the input gather in a buffer.
 use commands::outcome::OTHER;
 use commands::outcome::Outcome;
-use lines::text::put_line;
-use lines::text::put_other;
+use lines::output::put_line;
+use lines::output::put_other;
 ghost use mathlib.Core.Path.{_≡_};
 ghost use Prim.Native.Nat.{_+_, _≤_};
 ghost use mathlib.Core.List.{_++_};

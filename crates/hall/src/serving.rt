@@ -5,7 +5,7 @@ use crate::console::last_line;
 use crate::output::add;
 use libc::STDIN_FILENO;
 use libc::STDOUT_FILENO;
-use lines::text::put_tally;
+use lines::output::put_tally;
 ghost use mathlib.Core.Path.{_≡_};
 ghost use mathlib.Core.Logic.{_⊎_};
 ghost use mathlib.Core.Bool.{true, false};

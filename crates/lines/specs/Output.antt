@@ -1,17 +1,7 @@
 -- The lines that the program writes, as bytes.
-use Prim.Native.Nat.{ℕ, zero, suc, _+_, _/_, _%_}
+use Prim.Native.Nat.{ℕ}
 use mathlib.Core.List.{List, [], _∷_, _++_}
-use mathlib.Core.Bool.{cond}
-use lib.Dec.{ltb}
-
--- the last digits of a number, at most so many, without zeros in front: those before the last, then the last
-unfoldable pub lastDigits : ℕ → ℕ → List ℕ
-lastDigits zero n = []
-lastDigits (suc most) n = cond (ltb n 10) [] (lastDigits most (n / 10)) ++ (48 + n % 10) ∷ []
-
--- in decimal: a number below 2^64 has at most twenty digits
-abbrev pub decimal : ℕ → List ℕ
-decimal n = lastDigits 20 n
+use Rattle.model.specs.Text.{decimal}
 
 -- a number, a byte after it, and the rest
 abbrev pub field : ℕ → ℕ → List ℕ → List ℕ

@@ -1,13 +1,20 @@
--- Text put in front of what is there.
+-- Bytes put in front of what is there: one, the digits of a number, a text, spaces.
 use Prim.Native.Nat.{ℕ, suc, _+_, _-_, _/_, _%_, _<_, _≤_}
-use mathlib.Core.Path.{_≡_, refl, sym, ap, _∙_}
-use mathlib.Core.List.{List, [], _∷_, _++_, append-assoc}
+use mathlib.Core.Path.{_≡_, sym, ap, _∙_}
+use mathlib.Core.List.{List, _∷_, _++_, append-assoc}
 use native.Mathlib.Numerals.{add-one}
 use native.Mathlib.Omega.{arith}
-use lib.ListN.{length, drop, set, getD, length-set}
+use lib.ListN.{length, drop, set, getD, replicate, length-set, length-append, length-drop}
 use lib.Seq.{drop-cons, drop-set-lt, getD-set-same}
 use borrow.Author.Tests.{lt-ltb, le-ltb}
-use Rattle.lines.specs.Output.{lastDigits}
+use Rattle.model.specs.Text.{lastDigits}
+
+-- What was put ends where the rest starts.
+pub put-ends : (l m piece : List ℕ) (r end : ℕ) → r ≤ end → end ≤ length m → length l ≡ length m → drop r l ≡ piece ++ drop end m →
+    r + length piece ≡ end
+put-ends l m piece r end below inside same e =
+    let q = simp (length-append, length-drop) at (ap length e) in
+    omega arith
 
 -- a byte
 pub byte-put : (l : List ℕ) (i x : ℕ) → i < length l → drop i (set l i x) ≡ x ∷ drop (i + 1) l
@@ -49,3 +56,10 @@ text-more l text behind start left pos h inside e =
     let d : drop (left - 1) text ≡ getD text (left - 1) 0 ∷ drop left text =
     drop-cons text (left - 1) 0 (omega arith) ∙ ap (λ (n : ℕ). getD text (left - 1) 0 ∷ drop n text) (sym k) in
     rw (byte-put l (start + (left - 1)) (getD text (left - 1) 0) (omega arith), s, e, d)
+
+-- one more space
+pub space-more : (l behind : List ℕ) (i end : ℕ) → 1 ≤ i → i ≤ end → i ≤ length l → drop i l ≡ replicate (end - i) 32 ++ behind →
+    drop (i - 1) (set l (i - 1) 32) ≡ replicate (end - (i - 1)) 32 ++ behind
+space-more l behind i end pos h inside e =
+    let k : end - (i - 1) ≡ suc (end - i) = omega arith in
+    rw (k, byte-before l i 32 pos inside, e)

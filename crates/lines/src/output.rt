@@ -1,9 +1,10 @@
 // Writing a line as text, from its end: what is put stands in front of what is there, and the answer is where it starts.
+use text::put_number;
+use text::put_text;
 ghost use mathlib.Core.Path.{_≡_};
 ghost use Prim.Native.Nat.{_+_, _≤_};
-ghost use mathlib.Core.List.{[], _∷_, _++_};
 ghost use lib.ListN.{length, drop};
-ghost use Rattle.lines.specs.Output.{decimal, field, lineText, otherText, tallyText};
+ghost use Rattle.lines.specs.Output.{field, lineText, otherText, tallyText};
 
 // A number in decimal, and a byte after it.
 fn put_field(out: &mut [u8], end: usize, n: u64, after: u8) -> usize
@@ -11,19 +12,9 @@ fn put_field(out: &mut [u8], end: usize, n: u64, after: u8) -> usize
     ensures { λ r. ⌜ (end ≤ r + 21) × (r ≤ end) ⌝ }
     ensures { λ r. ⌜ drop r (now (out .exit)) ≡ field n after (drop end (now (out .entry))) ⌝ }
 {
-    let least = end - 21;
-    let mut i = end - 1;
-    let mut rest = n;
-    out[i] = after;
-    while least < i {
-        i -= 1;
-        out[i] = 48 + (rest % 10) as u8;
-        if rest < 10 {
-            return i;
-        }
-        rest = rest / 10;
-    }
-    i
+    let at = end - 1;
+    out[at] = after;
+    put_number(out, at, 20, n)
 }
 
 // Two numbers, with a byte after each.
@@ -34,21 +25,6 @@ fn put_two(out: &mut [u8], end: usize, n: u64, between: u8, m: u64, after: u8) -
 {
     let at = put_field(out, end, m, after);
     put_field(out, at, n, between)
-}
-
-// Bytes.
-fn put_text(out: &mut [u8], end: usize, text: &[u8]) -> usize
-    requires { ⌜ (length (now text) ≤ end) × (end ≤ length (now out)) ⌝ }
-    ensures { λ r. ⌜ r + length (now (text .entry)) ≡ end ⌝ }
-    ensures { λ r. ⌜ drop r (now (out .exit)) ≡ now (text .entry) ++ drop end (now (out .entry)) ⌝ }
-{
-    let start = end - text.len();
-    let mut left = text.len();
-    while 0 < left {
-        left -= 1;
-        out[start + left] = text[left];
-    }
-    start
 }
 
 // A line of the output at the end of out; answers where it starts.

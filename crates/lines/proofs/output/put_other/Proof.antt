@@ -1,10 +1,10 @@
--- `lines::text::put_other` meets its contract.
+-- `lines::output::put_other` meets its contract.
 use native.Mathlib.Omega.{arith}
 use borrow.Author.Needs.{needs}
 use mathlib.Core.Path.{_∙_}
 use lib.Seq.{drop-length}
-use Rattle.lines.proofs.text.put_other.Statement.{statement}
-use Rattle.lines.proofs.text.put_other.Tie as tie
+use Rattle.lines.proofs.output.put_other.Statement.{statement}
+use Rattle.lines.proofs.output.put_other.Tie as tie
 
 returns : tie.Need-returns
 returns c =

@@ -1,9 +1,9 @@
--- `lines::text::put_two` meets its contract: the second number first.
+-- `lines::output::put_two` meets its contract: the second number first.
 use native.Mathlib.Omega.{arith}
 use borrow.Author.Needs.{needs}
 use mathlib.Core.Path.{_∙_}
-use Rattle.lines.proofs.text.put_two.Statement.{statement}
-use Rattle.lines.proofs.text.put_two.Tie as tie
+use Rattle.lines.proofs.output.put_two.Statement.{statement}
+use Rattle.lines.proofs.output.put_two.Tie as tie
 
 returns : tie.Need-returns
 returns c =

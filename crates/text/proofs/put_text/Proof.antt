@@ -1,14 +1,14 @@
--- `lines::text::put_text` meets its contract: the bytes put so far are the last of the text.
+-- `text::put_text` meets its contract: the bytes put so far are the last of the text.
 use native.Mathlib.Omega.{arith}
 use borrow.Author.Needs.{needs}
-use mathlib.Core.Path.{_≡_, refl, sym, _∙_}
+use mathlib.Core.Path.{_≡_, refl}
 use Prim.Native.Nat.{_+_, _-_, _≤_}
 use mathlib.Core.List.{_++_}
 use lib.ListN.{length, drop, length-set}
 use lib.Seq.{drop-length}
-use Rattle.lines.proofs.Texts.{text-more}
-use Rattle.lines.proofs.text.put_text.Statement.{statement}
-use Rattle.lines.proofs.text.put_text.Tie as tie
+use Rattle.text.proofs.Putting.{text-more}
+use Rattle.text.proofs.put_text.Statement.{statement}
+use Rattle.text.proofs.put_text.Tie as tie
 
 abbrev Inv-loop : tie.InvT-loop
 Inv-loop out₀ end text start left₀ out left = (left ≤ length text) × (length out ≡ length out₀) × (drop (start + left) out ≡ drop left text ++ drop end out₀)

@@ -1,10 +1,10 @@
--- `lines::text::put_line` meets its contract.
+-- `lines::output::put_line` meets its contract.
 use native.Mathlib.Omega.{arith}
 use borrow.Author.Needs.{needs}
 use mathlib.Core.Path.{_∙_}
 use lib.Seq.{drop-length}
-use Rattle.lines.proofs.text.put_line.Statement.{statement}
-use Rattle.lines.proofs.text.put_line.Tie as tie
+use Rattle.lines.proofs.output.put_line.Statement.{statement}
+use Rattle.lines.proofs.output.put_line.Tie as tie
 
 returns : tie.Need-returns
 returns c =

@@ -1,0 +1,2 @@
+-- Columns of a line, put from its end.
+pub mod Padding

@@ -1,0 +1,2 @@
+// The log on paper (02, S-1): its lines by columns.
+pub mod columns;
