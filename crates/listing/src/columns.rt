@@ -3,7 +3,7 @@ use log::kinds::COMMIT;
 use log::kinds::COMPENSATION;
 use log::kinds::UPDATE;
 use text::put_number;
-use text::put_spaces;
+use text::put_run;
 use text::put_text;
 ghost use mathlib.Core.Path.{_≡_};
 ghost use Prim.Native.Nat.{_+_, _-_, _≤_, _<_};
@@ -12,13 +12,15 @@ ghost use lib.ListN.{length, drop};
 ghost use Rattle.model.specs.Text.{decimal, padded, lastDigits};
 ghost use Rattle.model.specs.Listing.{gap, heading, kindName, shownChange, shownClose, shownLine, lineBytes};
 
+const SPACE: u8 = 32;
+
 // A number's last digits, right-aligned in so many columns before `end`.
 fn put_column(out: &mut [u8], end: usize, columns: usize, n: u64)
     requires { ⌜ (columns ≤ end) × (end ≤ length (now out)) ⌝ }
     ensures { λ _. ⌜ drop (end - columns) (now (out .exit)) ≡ padded columns (lastDigits columns n) ++ drop end (now (out .entry)) ⌝ }
 {
     let start = put_number(out, end, columns, n);
-    put_spaces(out, end - columns, start);
+    put_run(out, end - columns, start, SPACE);
 }
 
 // The name of one of the four kinds.
@@ -41,7 +43,7 @@ fn put_kind(out: &mut [u8], end: usize, kind: u64)
     ensures { λ _. ⌜ drop (end - 12) (now (out .exit)) ≡ padded 12 (kindName kind) ++ drop end (now (out .entry)) ⌝ }
 {
     let start = put_name(out, end, kind);
-    put_spaces(out, end - 12, start);
+    put_run(out, end - 12, start, SPACE);
 }
 
 // Kind and transaction, from column 27 to 62.
@@ -50,7 +52,7 @@ fn put_middle(out: &mut [u8], kind: u64, number: u64)
     ensures { λ _. ⌜ drop 27 (now (out .exit)) ≡ padded 12 (kindName kind) ++ (gap ++ (padded 20 (decimal number) ++ drop 62 (now (out .entry)))) ⌝ }
 {
     put_column(out, 62, 20, number);
-    put_spaces(out, 39, 42);
+    put_run(out, 39, 42, SPACE);
     put_kind(out, 39, kind);
 }
 
@@ -61,9 +63,9 @@ fn put_front(out: &mut [u8], disk: u64, position: u64, kind: u64, number: u64)
         ++ (padded 20 (decimal number) ++ drop 62 (now (out .entry)))))))) ⌝ }
 {
     put_middle(out, kind, number);
-    put_spaces(out, 24, 27);
+    put_run(out, 24, 27, SPACE);
     put_column(out, 24, 20, position);
-    put_spaces(out, 1, 4);
+    put_run(out, 1, 4, SPACE);
     put_column(out, 1, 1, disk);
 }
 
@@ -102,7 +104,7 @@ pub fn put_close(out: &mut [u8], disk: u64, position: u64, kind: u64, number: u6
     ensures { λ _. ⌜ now (out .exit) ≡ shownLine disk position (shownClose kind number) ⌝ }
 {
     put_end(out);
-    put_spaces(out, 62, 72);
+    put_run(out, 62, 72, SPACE);
     put_front(out, disk, position, kind, number);
 }
 

@@ -95,18 +95,18 @@ line-columns e c = go (e .content) (c .content-clear)
     go (shownChange kind number page slot width) h =
         columns-stand (decimal (e .disk)) (decimal (e .position)) (kindName kind) (decimal number) (decimal page) (decimal slot) (decimal width)
         (record {
-          disk-fits = digits-below 20 0 (e .disk) (omega arith);
+          disk-fits = digits-below 20 0 (e .disk) (omega arith) (omega arith);
           position-fits = digits-most 20 (e .position);
           kind-fits = kind-fit kind (omega arith);
           transaction-fits = digits-most 20 number;
-          page-fits = digits-below 20 2 page (omega arith);
-          slot-fits = digits-below 20 3 slot (omega arith);
-          width-fits = digits-below 20 2 width (omega arith);
+          page-fits = digits-below 20 2 page (omega arith) (omega arith);
+          slot-fits = digits-below 20 3 slot (omega arith) (omega arith);
+          width-fits = digits-below 20 2 width (omega arith) (omega arith);
         })
     go (shownClose kind number) h =
         columns-stand (decimal (e .disk)) (decimal (e .position)) (kindName kind) (decimal number) [] [] []
         (record {
-          disk-fits = digits-below 20 0 (e .disk) (omega arith);
+          disk-fits = digits-below 20 0 (e .disk) (omega arith) (omega arith);
           position-fits = digits-most 20 (e .position);
           kind-fits = kind-fit kind (omega arith);
           transaction-fits = digits-most 20 number;

@@ -26,18 +26,29 @@ digits-most (suc most) n = rw length-append (go (ltb n 10) (digits-most most (n 
     go true l = omega arith
     go false l = omega arith
 
--- and a number below 10^k has at most k, but one at least
-pub digits-below : (most k n : ℕ) → n < 10 ^ suc k → length (lastDigits most n) ≤ suc k
+-- a number of two digits or more has one before its last
+another : (k n : ℕ) → 10 ≤ n → n < 10 ^ k * 10 → 1 ≤ k
+another zero n large below = omega arith
+another (suc k) n large below = omega arith
+
+-- A number below 10^k has at most k digits, so that asking for more changes nothing; 0 has one.
+pub digits-enough : (k m n : ℕ) → 1 ≤ k → k ≤ m → n < 10 ^ k → lastDigits k n ≡ lastDigits m n
 unfolding lastDigits
-digits-below zero k n h = omega arith
-digits-below (suc most) k n h = rw length-append (go k (ltb n 10) refl h (λ j. digits-below most j (n / 10)))
+digits-enough zero m n some more below = absurd (omega arith)
+digits-enough (suc k) zero n some more below = absurd (omega arith)
+digits-enough (suc k) (suc m) n some more below = go (ltb n 10) refl (digits-enough k m (n / 10))
   where
-    go : (k : ℕ) (b : Bool) → ltb n 10 ≡ b → n < 10 ^ suc k
-        → ((j : ℕ) → n / 10 < 10 ^ suc j → length (lastDigits most (n / 10)) ≤ suc j)
-        → length (cond b [] (lastDigits most (n / 10))) + 1 ≤ suc k
-    go k true e h rest = omega arith
-    go zero false e h rest = absurd (omega (arith, ltb-false n 10 e))
-    go (suc k) false e h rest = omega (arith, rest k (omega (arith, rw pow-suc at h)))
+    go : (b : Bool) → ltb n 10 ≡ b → (1 ≤ k → k ≤ m → n / 10 < 10 ^ k → lastDigits k (n / 10) ≡ lastDigits m (n / 10))
+        → cond b [] (lastDigits k (n / 10)) ++ (48 + n % 10) ∷ [] ≡ cond b [] (lastDigits m (n / 10)) ++ (48 + n % 10) ∷ []
+    go true t rest = refl
+    go false t rest =
+        let large : 10 ≤ n = ltb-false n 10 t in
+        let next : n < 10 ^ k * 10 = rw (pow-suc 10 k) at below in
+        let front : n / 10 < 10 ^ k = omega arith in
+        rw (rest (another k n large next) (omega arith) front)
+
+pub digits-below : (most k n : ℕ) → suc k ≤ most → n < 10 ^ suc k → length (lastDigits most n) ≤ suc k
+digits-below most k n more h = rw (← digits-enough (suc k) most n (omega arith) more h) (digits-most (suc k) n)
 
 -- The number that a text says. A blank adds nothing, as 32 is less than 48, so it can be read with the blanks before it.
 abbrev pub said : (before : ℕ) → List ℕ → ℕ

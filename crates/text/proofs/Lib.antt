@@ -1,3 +1,2 @@
--- Bytes put in front of what is there; how many digits a number has.
+-- Bytes put in front of what is there.
 pub mod Putting
-pub mod Digits

@@ -57,9 +57,9 @@ text-more l text behind start left pos h inside e =
     drop-cons text (left - 1) 0 (omega arith) ∙ ap (λ (n : ℕ). getD text (left - 1) 0 ∷ drop n text) (sym k) in
     rw (byte-put l (start + (left - 1)) (getD text (left - 1) 0) (omega arith), s, e, d)
 
--- one more space
-pub space-more : (l behind : List ℕ) (i end : ℕ) → 1 ≤ i → i ≤ end → i ≤ length l → drop i l ≡ replicate (end - i) 32 ++ behind →
-    drop (i - 1) (set l (i - 1) 32) ≡ replicate (end - (i - 1)) 32 ++ behind
-space-more l behind i end pos h inside e =
+-- one more of a run
+pub run-more : (l behind : List ℕ) (i end x : ℕ) → 1 ≤ i → i ≤ end → i ≤ length l → drop i l ≡ replicate (end - i) x ++ behind →
+    drop (i - 1) (set l (i - 1) x) ≡ replicate (end - (i - 1)) x ++ behind
+run-more l behind i end x pos h inside e =
     let k : end - (i - 1) ≡ suc (end - i) = omega arith in
-    rw (k, byte-before l i 32 pos inside, e)
+    rw (k, byte-before l i x pos inside, e)

@@ -40,14 +40,14 @@ pub fn put_text(out: &mut [u8], end: usize, text: &[u8]) -> usize
     start
 }
 
-// Spaces, back to `from`.
-pub fn put_spaces(out: &mut [u8], from: usize, end: usize)
+// The same byte over and over, back to `from`.
+pub fn put_run(out: &mut [u8], from: usize, end: usize, byte: u8)
     requires { ⌜ (from ≤ end) × (end ≤ length (now out)) ⌝ }
-    ensures { λ _. ⌜ drop from (now (out .exit)) ≡ replicate (end - from) 32 ++ drop end (now (out .entry)) ⌝ }
+    ensures { λ _. ⌜ drop from (now (out .exit)) ≡ replicate (end - from) byte ++ drop end (now (out .entry)) ⌝ }
 {
     let mut i = end;
     while from < i {
         i -= 1;
-        out[i] = 32;
+        out[i] = byte;
     }
 }

@@ -4,7 +4,7 @@ use borrow.Author.Needs.{needs}
 use mathlib.Core.Path.{_∙_}
 use lib.ListN.{length-set}
 use Rattle.text.proofs.Putting.{byte-before}
-use Rattle.text.proofs.Digits.{digits-few}
+use Rattle.model.proofs.Text.{digits-most}
 use Rattle.lines.proofs.output.put_field.Statement.{statement}
 use Rattle.lines.proofs.output.put_field.Tie as tie
 
@@ -18,7 +18,7 @@ returns : tie.Need-returns
 returns c =
     let number = c .before .before .put-number .ensures in
     let s = c .before .before .before .before .before in
-    let few = digits-few 20 (s .args .n) in
+    let few = digits-most 20 (s .args .n) in
     ((omega arith, omega arith), number .1 ∙ rw (byte-before (s .args .out .now) (s .args .end) (s .args .after) (omega arith) (omega arith)))
 
 pub put-field-spec : {M : Type 1} → statement M

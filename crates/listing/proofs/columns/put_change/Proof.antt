@@ -3,7 +3,7 @@ use borrow.Author.Needs.{needs}
 use native.Mathlib.Omega.{arith}
 use mathlib.Core.Path.{_∙_}
 use Rattle.model.specs.Listing.{inColumns}
-use Rattle.text.proofs.Digits.{digits-enough}
+use Rattle.model.proofs.Text.{digits-enough}
 use Rattle.listing.proofs.columns.put_change.Statement.{statement}
 use Rattle.listing.proofs.columns.put_change.Tie as tie
 

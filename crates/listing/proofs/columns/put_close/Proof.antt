@@ -4,7 +4,7 @@ use native.Mathlib.Omega.{arith}
 use mathlib.Core.Path.{_∙_}
 use Rattle.model.specs.Text.{padded}
 use Rattle.model.specs.Listing.{inColumns}
-use Rattle.text.proofs.Digits.{digits-enough}
+use Rattle.model.proofs.Text.{digits-enough}
 use Rattle.listing.proofs.columns.put_close.Statement.{statement}
 use Rattle.listing.proofs.columns.put_close.Tie as tie
 
@@ -12,7 +12,7 @@ returns : tie.Need-returns
 unfolding inColumns padded
 returns c =
     let front = c .before .before .put-front .ensures in
-    let spaces = c .before .before .before .before .before .before .put-spaces .ensures in
+    let spaces = c .before .before .before .before .before .before .put-run .ensures in
     let last = c .before .before .before .before .before .before .before .before .before .before .put-end .ensures in
     let s = c .before .before .before .before .before .before .before .before .before .before .before .before .before in
     front ∙ rw (spaces, last, digits-enough 1 20 (s .args .disk) (omega arith) (omega arith) (omega arith))

@@ -7,9 +7,9 @@ use Rattle.listing.proofs.columns.put_front.Tie as tie
 returns : tie.Need-returns
 returns c =
     let disk = c .before .before .put-column2 .ensures in
-    let after-disk = c .before .before .before .before .before .before .put-spaces2 .ensures in
+    let after-disk = c .before .before .before .before .before .before .put-run2 .ensures in
     let position = c .before .before .before .before .before .before .before .before .before .before .put-column .ensures in
-    let after-position = c .before .before .before .before .before .before .before .before .before .before .before .before .before .before .put-spaces .ensures in
+    let after-position = c .before .before .before .before .before .before .before .before .before .before .before .before .before .before .put-run .ensures in
     let middle = c .before .before .before .before .before .before .before .before .before .before .before .before .before .before .before .before .before .before .put-middle .ensures in
     disk ∙ rw (after-disk, position, after-position, middle)
 

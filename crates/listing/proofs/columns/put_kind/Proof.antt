@@ -8,7 +8,7 @@ use Rattle.listing.proofs.columns.put_kind.Tie as tie
 
 returns : tie.Need-returns
 returns c =
-    let spaces = c .before .before .put-spaces in
+    let spaces = c .before .before .put-run in
     let name = c .before .before .before .before .before .before .put-name in
     let s = c .before .before .before .before .before .before .before .before .before in
     column-put (spaces .last .0) (name .last .0) (s .args .out .now) (kindName (s .args .kind)) 12 (name .result) (s .args .end) (omega arith)

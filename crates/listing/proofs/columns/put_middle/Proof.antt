@@ -7,7 +7,7 @@ use Rattle.listing.proofs.columns.put_middle.Tie as tie
 returns : tie.Need-returns
 returns c =
     let kind = c .before .before .put-kind .ensures in
-    let spaces = c .before .before .before .before .before .before .put-spaces .ensures in
+    let spaces = c .before .before .before .before .before .before .put-run .ensures in
     let number = c .before .before .before .before .before .before .before .before .before .before .put-column .ensures in
     kind ∙ rw (spaces, number)
 

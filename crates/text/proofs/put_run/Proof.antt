@@ -1,20 +1,20 @@
--- `text::put_spaces` meets its contract: behind the place there are spaces only, up to the end.
+-- `text::put_run` meets its contract: behind the place there is this byte only, up to the end.
 use native.Mathlib.Omega.{arith}
 use borrow.Author.Needs.{needs}
 use mathlib.Core.Path.{_≡_, refl}
 use Prim.Native.Nat.{_-_, _≤_}
 use mathlib.Core.List.{_++_}
 use lib.ListN.{length, drop, replicate, length-set}
-use Rattle.text.proofs.Putting.{space-more}
-use Rattle.text.proofs.put_spaces.Statement.{statement}
-use Rattle.text.proofs.put_spaces.Tie as tie
+use Rattle.text.proofs.Putting.{run-more}
+use Rattle.text.proofs.put_run.Statement.{statement}
+use Rattle.text.proofs.put_run.Tie as tie
 
 abbrev Inv-loop : tie.InvT-loop
-Inv-loop out₀ from end i₀ out i =
-    (from ≤ i) × (i ≤ end) × (length out ≡ length out₀) × (drop i out ≡ replicate (end - i) 32 ++ drop end out₀)
+Inv-loop out₀ from end byte i₀ out i =
+    (from ≤ i) × (i ≤ end) × (length out ≡ length out₀) × (drop i out ≡ replicate (end - i) byte ++ drop end out₀)
 
 abbrev μ-loop : tie.MeasureT-loop
-μ-loop out₀ from end i₀ out i = i
+μ-loop out₀ from end byte i₀ out i = i
 
 loop-holds : tie.Need-loop-holds Inv-loop μ-loop
 loop-holds c =
@@ -32,7 +32,7 @@ loop-again c =
       omega arith,
       omega arith,
       simp length-set q,
-      space-more (l .loop .out) (drop (s .args .end) (s .args .out .now)) (l .loop .i) (s .args .end) (omega arith) (l .loop .inv .1) (omega arith)
+      run-more (l .loop .out) (drop (s .args .end) (s .args .out .now)) (l .loop .i) (s .args .end) (s .args .byte) (omega arith) (l .loop .inv .1) (omega arith)
           (l .loop .inv .3),
     )
 
@@ -42,8 +42,8 @@ returns c =
     let e : l .loop .i ≡ l .before .args .from = omega arith in
     rw e at (l .loop .inv .3)
 
-pub put-spaces-spec : {M : Type 1} → statement M
-put-spaces-spec =
+pub put-run-spec : {M : Type 1} → statement M
+put-run-spec =
     tie.close
     (tie.spec
     Inv-loop
