@@ -10,7 +10,7 @@ use lib.Seq.{take-at, drop-at, drop-drop}
 use Rattle.model.specs.Word.{part}
 use Rattle.model.specs.Text.{lastDigits, decimal, padded}
 use Rattle.model.specs.Listing.{gap, inColumns, lineBytes, heading, kindName, Shown, shownChange, shownClose, Listed, lineOf}
-use Rattle.model.specs.ListingLaws.{ClearShown, Clear, Columns, ColumnsOf, LineColumns, HeadingColumns, LineTells}
+use Rattle.model.specs.ListingLaws.{numberShown, ClearShown, Clear, Columns, ColumnsOf, LineColumns, HeadingColumns, LineTells}
 use Rattle.model.proofs.Text.{length-padded, digits-most, digits-below, said, said-padded}
 
 -- What stands at a place is its part, and behind it stands the rest.
@@ -151,14 +151,14 @@ same-kind k l h m e = sym (kind-said k h) ∙ ap kindSaid e ∙ kind-said l m
 -- A line tells its record.
 pub line-tells : LineTells
 unfolding LineTells LineColumns
-line-tells e f c h same =
-    go (e .content) (c .content-clear) (f .content) (h .content-clear) (line-columns e c)
+line-tells e f c h small low same =
+    go (e .content) (c .content-clear) small (f .content) (h .content-clear) low (line-columns e c)
     (subst (λ (line : List ℕ). ColumnsOf line (f .disk) (f .position) (f .content)) (sym same) (line-columns f h))
   where
-    go : (s : Shown) → ClearShown s → (u : Shown) → ClearShown u
+    go : (s : Shown) → ClearShown s → numberShown s < 2 ^ 64 → (u : Shown) → ClearShown u → numberShown u < 2 ^ 64
         → ColumnsOf (lineOf e) (e .disk) (e .position) s → ColumnsOf (lineOf e) (f .disk) (f .position) u
         → _≡_ {A = Listed} (record { disk = e .disk; position = e .position; content = s }) (record { disk = f .disk; position = f .position; content = u })
-    go (shownChange k n g s w) a (shownChange k' n' g' s' w') b x y =
+    go (shownChange k n g s w) a i (shownChange k' n' g' s' w') b j x y =
         rw (
           same-number 1 (e .disk) (f .disk) (omega arith) (omega arith) (sym (x .disk-at) ∙ y .disk-at),
           same-number 20 (e .position) (f .position) (omega arith) (omega arith) (sym (x .position-at) ∙ y .position-at),
@@ -168,7 +168,7 @@ line-tells e f c h same =
           same-number 4 s s' (omega arith) (omega arith) (sym (x .slot-at) ∙ y .slot-at),
           same-number 3 w w' (omega arith) (omega arith) (sym (x .width-at) ∙ y .width-at),
         )
-    go (shownClose k n) a (shownClose k' n') b x y =
+    go (shownClose k n) a i (shownClose k' n') b j x y =
         rw (
           same-number 1 (e .disk) (f .disk) (omega arith) (omega arith) (sym (x .disk-at) ∙ y .disk-at),
           same-number 20 (e .position) (f .position) (omega arith) (omega arith) (sym (x .position-at) ∙ y .position-at),
@@ -176,9 +176,9 @@ line-tells e f c h same =
           same-number 20 n n' (omega arith) (omega arith) (sym (x .transaction-at) ∙ y .transaction-at),
         )
     -- a change and a closing record have other kinds
-    go (shownChange k n g s w) a (shownClose k' n') b x y =
+    go (shownChange k n g s w) a i (shownClose k' n') b j x y =
         absurd (omega (arith, same-kind k k' (omega arith) (omega arith) (sym (x .kind-at) ∙ y .kind-at)))
-    go (shownClose k n) a (shownChange k' n' g' s' w') b x y =
+    go (shownClose k n) a i (shownChange k' n' g' s' w') b j x y =
         absurd (omega (arith, same-kind k k' (omega arith) (omega arith) (sym (x .kind-at) ∙ y .kind-at)))
 
 -- Two lines, byte by byte: an update at position 128, and an abort with the largest numbers that there are.

@@ -2,7 +2,7 @@
 use mathlib.Core.Path.{_≡_, refl, sym, ap, _∙_}
 use mathlib.Core.List.{List, [], _∷_, _++_, append-assoc, map, flatten}
 use mathlib.Core.Bool.{Bool, false, not}
-use Prim.Native.Nat.{ℕ, zero, suc, _+_, _*_, _-_, _/_, _%_, min, _≤_, _<_}
+use Prim.Native.Nat.{ℕ, zero, suc, _+_, _*_, _-_, _/_, _%_, _^_, min, _≤_, _<_}
 use native.Mathlib.Omega.{arith}
 use lib.ListN.{length, getD, take, drop, length-append, length-take, length-drop}
 use lib.Seq.{take-at, drop-at, drop-append-add, getD-take, getD-drop}
@@ -16,13 +16,13 @@ use Rattle.model.specs.Refusal.{Row, row, Verdict, accepted, rejected, v
 use Rattle.model.specs.Transaction.{filled}
 use Rattle.model.specs.Restart.{imageRows}
 use Rattle.model.specs.Listing.{lineBytes, heading, Listed, lineOf, listedOn, onPages, listing, unlisted, listRows, notALine, lineAfter, notLines, linesFrom, over, linesAfter}
-use Rattle.model.specs.ListingLaws.{Clear, Listable, LinesLong, LineTells, ListingTells, LineCount, LinesAt, LinesAreLines}
+use Rattle.model.specs.ListingLaws.{Clear, Listable, numberShown, ListedNumbers, LinesLong, LineTells, ListingTells, LineCount, LinesAt, LinesAreLines}
 use Rattle.model.proofs.Members.{Every, every-nil, every-cons, first-of, others-of, every-drop, every-take, every-at}
 use Rattle.model.proofs.Booleans.{or-none}
 use Rattle.model.proofs.Verdict.{row-passed, verdict-append, accepted-first}
 use Rattle.model.proofs.Checked.{rows-checked}
 use Rattle.model.proofs.Columns.{line-length, heading-length, line-tells}
-use Rattle.model.proofs.Clear.{clear-on}
+use Rattle.model.proofs.Clear.{clear-on, listed-numbers}
 
 abbrev Long : List ℕ → Type 0
 Long line = length line ≡ lineBytes
@@ -36,8 +36,15 @@ pages-long zero (e ∷ es) h =
 pages-long (suc left) (e ∷ es) h =
     every-cons Long (lineOf e) (onPages left es) (line-length e (first-of h)) (pages-long left es (others-of h))
 
+abbrev Told : Listed → Type 0
+Told e = Clear e × (numberShown (e .content) < 2 ^ 64)
+
+told-on : (anchor logs : List ℕ) → Listable anchor logs → OfBits 64 logs → Every Told (listedOn anchor logs)
+unfolding ListedNumbers
+told-on anchor logs h words e m = (clear-on anchor logs h e m, listed-numbers anchor logs words e m)
+
 -- Pages that begin alike tell their records.
-pub pages-tell : (left : ℕ) (es fs : List Listed) → Every Clear es → Every Clear fs → onPages left es ≡ onPages left fs → es ≡ fs
+pub pages-tell : (left : ℕ) (es fs : List Listed) → Every Told es → Every Told fs → onPages left es ≡ onPages left fs → es ≡ fs
 unfolding onPages LineTells
 pages-tell left [] [] c h e = refl
 pages-tell zero [] (f ∷ fs) c h e = let z : _≡_ {A = ℕ} 0 1 = cc in absurd (omega arith)
@@ -45,9 +52,9 @@ pages-tell (suc left) [] (f ∷ fs) c h e = let z : _≡_ {A = ℕ} 0 1 = cc in 
 pages-tell zero (x ∷ es) [] c h e = let z : _≡_ {A = ℕ} 0 1 = cc in absurd (omega arith)
 pages-tell (suc left) (x ∷ es) [] c h e = let z : _≡_ {A = ℕ} 0 1 = cc in absurd (omega arith)
 pages-tell zero (x ∷ es) (f ∷ fs) c h e =
-    rw (line-tells x f (first-of c) (first-of h) (cc), pages-tell 59 es fs (others-of c) (others-of h) (cc))
+    rw (line-tells x f (first-of c .0) (first-of h .0) (first-of c .1) (first-of h .1) (cc), pages-tell 59 es fs (others-of c) (others-of h) (cc))
 pages-tell (suc left) (x ∷ es) (f ∷ fs) c h e =
-    rw (line-tells x f (first-of c) (first-of h) (cc), pages-tell left es fs (others-of c) (others-of h) (cc))
+    rw (line-tells x f (first-of c .0) (first-of h .0) (first-of c .1) (first-of h .1) (cc), pages-tell left es fs (others-of c) (others-of h) (cc))
 
 pub lines-long : LinesLong
 unfolding LinesLong listing
@@ -55,8 +62,8 @@ lines-long anchor logs h = pages-long 0 (listedOn anchor logs) (clear-on anchor 
 
 pub listing-tells : ListingTells
 unfolding ListingTells listing
-listing-tells anchor logs anchor' logs' h k same =
-    pages-tell 0 (listedOn anchor logs) (listedOn anchor' logs') (clear-on anchor logs h) (clear-on anchor' logs' k) same
+listing-tells anchor logs anchor' logs' h k words others same =
+    pages-tell 0 (listedOn anchor logs) (listedOn anchor' logs') (told-on anchor logs h words) (told-on anchor' logs' k others) same
 
 -- How many lines there are, with `left` more records on this page.
 count-from : (left : ℕ) (es : List Listed) → left ≤ 59 → length (onPages left es) ≡ length es + (length es + (59 - left)) / 60
@@ -152,41 +159,41 @@ lines-are-lines anchor logs h first before =
     }
 
 -- A call that is accepted has an image that can be listed, lent bytes of a right length, and the number of a line.
-pub list-accepted : (stage : Stage) (bytesWrong : Bool) (anchor logs : List ℕ) (number : ℕ) → OfBits 64 logs
+pub list-accepted : (stage : Stage) (bytesWrong : Bool) (anchor logs : List ℕ) (number : ℕ)
     → verdict (listRows stage bytesWrong anchor logs number) ≡ accepted
     → Listable anchor logs × (bytesWrong ≡ false) × (number < length (listing anchor logs))
 unfolding listRows unlisted
-list-accepted stage bytesWrong anchor logs number words e =
+list-accepted stage bytesWrong anchor logs number e =
     let rows : List Row = imageRows (unlisted bytesWrong logs) anchor logs in
     let last : List Row = row 8 (leb (length (listing anchor logs)) number) ∷ [] in
     let image : verdict (rows ++ last) ≡ accepted = row-passed _ _ e .1 in
     let passed : verdict rows ≡ accepted = accepted-first rows last image in
     let lent = rows-checked (unlisted bytesWrong logs) anchor logs passed .1 in (
-      record { others = unlisted bytesWrong logs; passed = passed; words = words },
+      record { others = unlisted bytesWrong logs; passed = passed },
       or-none (not (eqb (length logs) (logWords (sizesOn anchor)))) bytesWrong lent .1,
       leb-false _ _ (row-passed _ _ (sym (verdict-append rows last passed) ∙ image) .0),
     )
 
 -- Taken or refused, a call leaves as many lent bytes as there were.
-pub line-as-long : (stage : Stage) (anchor logs : List ℕ) (number : ℕ) (before : List ℕ) → OfBits 64 logs
+pub line-as-long : (stage : Stage) (anchor logs : List ℕ) (number : ℕ) (before : List ℕ)
     → length (lineAfter stage anchor logs number before) ≡ length before
 unfolding lineAfter LinesLong
-line-as-long stage anchor logs number before words = go (verdict (listRows stage (notALine (length before)) anchor logs number)) refl
+line-as-long stage anchor logs number before = go (verdict (listRows stage (notALine (length before)) anchor logs number)) refl
   where
     go : (v : Verdict) → verdict (listRows stage (notALine (length before)) anchor logs number) ≡ v
         → length (filled v (getD (listing anchor logs) number []) before) ≡ length before
     go (rejected n a b) e = refl
     go accepted e =
-        let h = list-accepted stage (notALine (length before)) anchor logs number words e in
+        let h = list-accepted stage (notALine (length before)) anchor logs number e in
         every-at number (listing anchor logs) [] (lines-long anchor logs (h .0)) (h .2)
         ∙ sym (eqb-true (length before) lineBytes (not-false _ (h .1)))
 
-pub lines-as-long : (stage : Stage) (anchor logs : List ℕ) (first : ℕ) (before : List ℕ) → OfBits 64 logs
+pub lines-as-long : (stage : Stage) (anchor logs : List ℕ) (first : ℕ) (before : List ℕ)
     → length (linesAfter stage anchor logs first before) ≡ length before
 unfolding linesAfter LinesAreLines
-lines-as-long stage anchor logs first before words = go (verdict (listRows stage (notLines (length before)) anchor logs first)) refl
+lines-as-long stage anchor logs first before = go (verdict (listRows stage (notLines (length before)) anchor logs first)) refl
   where
     go : (v : Verdict) → verdict (listRows stage (notLines (length before)) anchor logs first) ≡ v
         → length (filled v (over (linesFrom anchor logs first (length before)) before) before) ≡ length before
     go (rejected n a b) e = refl
-    go accepted e = lines-are-lines anchor logs (list-accepted stage (notLines (length before)) anchor logs first words e .0) first before .as-long
+    go accepted e = lines-are-lines anchor logs (list-accepted stage (notLines (length before)) anchor logs first e .0) first before .as-long

@@ -15,39 +15,45 @@ use Rattle.model.specs.Refusal.{verdict, accepted}
 use Rattle.model.specs.Restart.{imageRows}
 use Rattle.model.specs.Listing.{gap, lineBytes, heading, kindName, Shown, shownChange, shownClose, Listed, lineOf, listedOn, onPages, listing, linesFrom, over}
 
--- What the checks of an image leave of a record: a kind of its own, a page and a slot that there can be, words of 64 bits.
-pub record ClearChange (kind number page slot width : ℕ) : Type 0 where
+-- What the checks of an image leave of a record: a kind of its own, a page and a slot that there can be.
+pub record ClearChange (kind page slot width : ℕ) : Type 0 where
   pub kind-lt : kind < 2
-  pub number-lt : number < 2 ^ 64
   pub page-lt : page < 64
   pub slot-lt : slot < 128
   pub width-le : width ≤ 32
 
-pub record ClearClose (kind number : ℕ) : Type 0 where
+pub record ClearClose (kind : ℕ) : Type 0 where
   pub kind-ge : 2 ≤ kind
   pub kind-lt : kind < 4
-  pub number-lt : number < 2 ^ 64
 
 abbrev pub ClearShown : Shown → Type 0
-ClearShown (shownChange kind number page slot width) = ClearChange kind number page slot width
-ClearShown (shownClose kind number) = ClearClose kind number
+ClearShown (shownChange kind number page slot width) = ClearChange kind page slot width
+ClearShown (shownClose kind number) = ClearClose kind
 
 pub record Clear (e : Listed) : Type 0 where
   pub disk-lt : e .disk < 8
   pub position-lt : e .position < limit
   pub content-clear : ClearShown (e .content)
 
--- An image that a listing is made of: its checks are passed, whatever is lent beside it, and its words have 64 bits, as the code's have.
+-- An image that a listing is made of: its checks are passed, whatever is lent beside it.
 pub record Listable (anchor logs : List ℕ) : Type 0 where
   pub others : Sizes → Bool
   pub passed : verdict (imageRows others anchor logs) ≡ accepted
-  pub words : OfBits 64 logs
 
 -- So every record that is listed is clear, and its disk is one of the image's.
 unfoldable pub ListedClear : Type 0
 ListedClear =
     (anchor logs : List ℕ) → Listable anchor logs → (e : Listed) → List·Memᴰ e (listedOn anchor logs)
     → Clear e × (e .disk < sizesOn anchor .disks)
+
+-- A transaction's number is a word of the log: where all words have 64 bits, as the code's have, it has twenty digits at most.
+abbrev pub numberShown : Shown → ℕ
+numberShown (shownChange kind number page slot width) = number
+numberShown (shownClose kind number) = number
+
+unfoldable pub ListedNumbers : Type 0
+ListedNumbers =
+    (anchor logs : List ℕ) → OfBits 64 logs → (e : Listed) → List·Memᴰ e (listedOn anchor logs) → numberShown (e .content) < 2 ^ 64
 
 -- "Records come by disk, then by position.": each record comes before all that follow it in the list.
 abbrev pub Before : Listed → Listed → Type 0
@@ -103,12 +109,14 @@ LinesLong = (anchor logs : List ℕ) → Listable anchor logs → (line : List �
 
 -- A line tells its record: disk, position, kind, transaction, page, slot and length.
 unfoldable pub LineTells : Type 0
-LineTells = (e f : Listed) → Clear e → Clear f → lineOf e ≡ lineOf f → e ≡ f
+LineTells =
+    (e f : Listed) → Clear e → Clear f → numberShown (e .content) < 2 ^ 64 → numberShown (f .content) < 2 ^ 64
+    → lineOf e ≡ lineOf f → e ≡ f
 
 -- A listing tells all its records, in their order: images with equal listings have the same.
 unfoldable pub ListingTells : Type 0
 ListingTells =
-    (anchor logs anchor' logs' : List ℕ) → Listable anchor logs → Listable anchor' logs'
+    (anchor logs anchor' logs' : List ℕ) → Listable anchor logs → Listable anchor' logs' → OfBits 64 logs → OfBits 64 logs'
     → listing anchor logs ≡ listing anchor' logs' → listedOn anchor logs ≡ listedOn anchor' logs'
 
 -- "Sixty lines make a page, after a heading line.": a line for each record, and a heading for each sixty or fewer.
