@@ -6,4 +6,5 @@ pub mod Runs
 pub mod Saving
 pub mod Storeless
 pub mod Facts
+pub mod Checks
 pub mod Stepping

@@ -1,29 +1,27 @@
 -- Restart begin: its rows, and what it does when none applies.
 use mathlib.Core.Path.{_≡_, refl, sym, ap, _∙_}
-use mathlib.Core.Bool.{Bool, true, false, cond, not}
+use mathlib.Core.Bool.{true, false, cond}
 use mathlib.Core.List.{List, [], _∷_}
 use Prim.Native.Nat.{ℕ, _≤_, _<_}
 use native.Mathlib.Omega.{arith}
 use lib.Dec.{eqb}
 use lib.ListN.{length, getD, replicate}
 use lib.Seq.{sets}
-use borrow.Author.Tests.{le-leb, lt-leb, eqb-true, eq-eqb, ne-eqb}
+use borrow.Author.Tests.{le-leb, lt-leb, eq-eqb, ne-eqb}
 use Rattle.model.specs.declared.Sizes.{Sizes}
 use Rattle.model.specs.declared.Core.{Core}
 use Rattle.model.specs.declared.Reply.{Reply}
-use Rattle.model.specs.Sizes.{total, sizesInBounds}
-use Rattle.model.specs.Anchor.{anchorWords, epochOn, sizesOn, startOn}
+use Rattle.model.specs.Sizes.{total}
+use Rattle.model.specs.Anchor.{epochOn, sizesOn, startOn}
 use Rattle.model.specs.World.{World, pages, write, each}
 use Rattle.model.specs.Memory.{lengthsRight}
 use Rattle.model.specs.State.{limit, replayingCore}
 use Rattle.model.specs.Refusal.{row, rejected, verdict}
-use Rattle.model.specs.Causes.{whenShut, stageForbids, anchorWrong, unformatted, sizesWrong, lengthsWrong, tailIn, logRows, spent}
+use Rattle.model.specs.Causes.{whenShut, stageForbids, lengthsWrong, tailIn, logRows, spent}
 use Rattle.model.specs.Checkpoint.{perDisk}
-use Rattle.model.specs.Restart.{imageRows, restartBeginRows, restartBeginTask}
+use Rattle.model.specs.Restart.{restartBeginRows, restartBeginTask}
 use Rattle.model.specs.Call.{Gives, resultOf, restartBegin}
 use Rattle.model.proofs.Verdict.{verdict-append, refused-append}
-use Rattle.model.proofs.PerDisk.{getD-per-disk}
-use Rattle.model.proofs.Checked.{rows-same}
 use Rattle.model.proofs.Run.{perform-pages}
 use Rattle.model.proofs.Storeless.{storeless-finishes}
 use Rattle.model.proofs.Restart.Words.{withPages}
@@ -34,18 +32,7 @@ use Rattle.replay.specs.Parts.{anchorRefusal, findingOf}
 use Rattle.replay.specs.Step.{finished}
 use Rattle.restart.specs.Begin.{beginRest, BeginsOn}
 use Rattle.replay.proofs.Storeless.{nothing-spent}
-
--- what the anchor's rows leave when none applies
-pub anchor-passed : (anchor : List ℕ) → anchorRefusal anchor ≡ 0 → (length anchor ≡ anchorWords) × (sizesInBounds (sizesOn anchor) ≡ true)
-unfolding anchorRefusal
-anchor-passed anchor = go (eqb (length anchor) anchorWords) (eqb (epochOn anchor) 0) (sizesInBounds (sizesOn anchor)) refl refl
-  where
-    go : (a b d : Bool) → eqb (length anchor) anchorWords ≡ a → sizesInBounds (sizesOn anchor) ≡ d
-        → _≡_ {A = ℕ} (cond a (cond b 3 (cond d 0 4)) 2) 0 → (length anchor ≡ anchorWords) × (sizesInBounds (sizesOn anchor) ≡ true)
-    go true true d p q z = absurd (omega (arith, z))
-    go true false true p q z = (eqb-true _ _ p, q)
-    go true false false p q z = absurd (omega (arith, z))
-    go false b d p q z = absurd (omega (arith, z))
+use Rattle.replay.proofs.Checks.{image-verdict, rows-read}
 
 module _ (c : Core) (w : World) where
   pub begin-stage : whenShut (c .stage) ≡ false → Gives restartBegin c w (refusedWith c 1 0 0) 0 w
@@ -56,18 +43,10 @@ module _ (c : Core) (w : World) where
     -- rows 1 to 4, and then the others
     begin-verdict : verdict (restartBeginRows c w)
         ≡ cond (eqb n 0) (verdict (row 5 (lengthsWrong (sizesOn (w .anchor)) (total (sizesOn (w .anchor))) w) ∷ beginRest w)) (rejected n 0 0)
-    unfolding restartBeginRows imageRows beginRest verdict stageForbids anchorWrong unformatted sizesWrong anchorRefusal
+    unfolding restartBeginRows beginRest verdict stageForbids
     begin-verdict =
-        rw (refusal, shut)
-        (go (eqb (length (w .anchor)) anchorWords) (eqb (epochOn (w .anchor)) 0) (sizesInBounds (sizesOn (w .anchor))))
-      where
-        go : (a b d : Bool)
-            → verdict (row 2 (not a) ∷ row 3 b ∷ row 4 (not d) ∷ row 5 (lengthsWrong (sizesOn (w .anchor)) (total (sizesOn (w .anchor))) w) ∷ beginRest w)
-            ≡ cond (eqb (cond a (cond b 3 (cond d 0 4)) 2) 0) (verdict (row 5 (lengthsWrong (sizesOn (w .anchor)) (total (sizesOn (w .anchor))) w) ∷ beginRest w)) (rejected (cond a (cond b 3 (cond d 0 4)) 2) 0 0)
-        go true true d = refl
-        go true false true = refl
-        go true false false = refl
-        go false b d = refl
+        rw shut
+        (image-verdict (λ s. lengthsWrong s (total s) w) (w .anchor) (w .logs) (row 13 (spent (epochOn (w .anchor))) ∷ []) refusal)
 
     pub begin-anchor : (n ≡ 0 → ⊥) → Gives restartBegin c w (refusedWith c n 0 0) 0 w
     begin-anchor ne = refusal-given restartBegin c w n 0 0 (begin-verdict ∙ rw (ne-eqb n 0 ne))
@@ -86,9 +65,7 @@ module _ (c : Core) (w : World) (s : Sizes) (same : s ≡ sizesOn (w .anchor)) (
     (from : starts ≡ perDisk s (startOn (w .anchor))) (found : Finding)
     (checked : verdict (logRows s (λ d. getD starts d 0) (w .logs)) ≡ findingOf found) where
   rows-verdict : verdict (logRows s (startOn (w .anchor)) (w .logs)) ≡ findingOf found
-  rows-verdict =
-      ap verdict (sym (rows-same s (w .logs) (startOn (w .anchor)) (λ d. getD starts d 0) (λ d h. rw from (getD-per-disk s (startOn (w .anchor)) d few h))))
-      ∙ checked
+  rows-verdict = ap verdict (sym (rows-read s (w .anchor) (w .logs) few from)) ∙ checked
 
   pub begin-refused : (found .number ≡ 0 → ⊥) → BeginsOn c w (refusedWith c (found .number) (found .first) (found .second)) w
   unfolding BeginsOn beginRest findingOf

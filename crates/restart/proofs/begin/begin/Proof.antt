@@ -7,7 +7,8 @@ use Rattle.model.specs.World.{worldOf}
 use Rattle.model.proofs.Bounds.{bounded}
 use Rattle.model.proofs.Lengths.{lengths-right}
 use Rattle.layout.proofs.Laws.{lengths-made}
-use Rattle.restart.proofs.Beginning.{anchor-passed, begin-stage, begin-anchor, begin-lengths, begin-given}
+use Rattle.replay.proofs.Checks.{anchor-passed}
+use Rattle.restart.proofs.Beginning.{begin-stage, begin-anchor, begin-lengths, begin-given}
 use Rattle.restart.proofs.begin.begin.Statement.{statement}
 use Rattle.restart.proofs.begin.begin.Tie as tie
 
