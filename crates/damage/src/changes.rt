@@ -51,7 +51,7 @@ fn damage_devices(
     randomize(which, seed, anchor, logs);
 }
 
-fn change(device: &mut [u64], at: u64, variant: u64, seed: u64) {
+pub fn change(device: &mut [u64], at: u64, variant: u64, seed: u64) {
     let word = get(device, at);
     put(device, at, changed(word, variant, seed));
 }
