@@ -1,5 +1,6 @@
 -- Whole listings: every line has 73 bytes, a listing tells its records, and where each line stands.
 use mathlib.Core.Path.{_≡_, refl, sym, ap, _∙_}
+use mathlib.Core.Logic.{_⊎_, inl, inr}
 use mathlib.Core.List.{List, [], _∷_, _++_, append-assoc, map, flatten}
 use mathlib.Core.Bool.{Bool, false, not}
 use Prim.Native.Nat.{ℕ, zero, suc, _+_, _*_, _-_, _/_, _%_, _^_, min, _≤_, _<_}
@@ -15,26 +16,32 @@ use Rattle.model.specs.Anchor.{sizesOn}
 use Rattle.model.specs.Refusal.{Row, row, Verdict, accepted, rejected, verdict}
 use Rattle.model.specs.Transaction.{filled}
 use Rattle.model.specs.Restart.{imageRows}
-use Rattle.model.specs.Listing.{lineBytes, heading, Listed, lineOf, listedOn, onPages, listing, unlisted, listRows, notALine, lineAfter, notLines, linesFrom, over, linesAfter}
-use Rattle.model.specs.ListingLaws.{Clear, Listable, numberShown, ListedNumbers, LinesLong, LineTells, ListingTells, LineCount, LinesAt, LinesAreLines}
+use Rattle.model.specs.Listing.{lineBytes, heading, Listed, lineOf, listedOn, onPages, listing, lentWrong, listRows, notALine, lineAfter, notLines, linesFrom, over, linesAfter}
+use Rattle.model.specs.ListingLaws.{Clear, Listable, LineColumns, LineOfRecord, LinesStand, numberShown, ListedNumbers, LinesLong, LineTells, ListingTells, LineCount, LinesAt, Written}
 use Rattle.model.proofs.Members.{Every, every-nil, every-cons, first-of, others-of, every-drop, every-take, every-at}
 use Rattle.model.proofs.Booleans.{or-none}
 use Rattle.model.proofs.Verdict.{row-passed, verdict-append, accepted-first}
 use Rattle.model.proofs.Checked.{rows-checked}
-use Rattle.model.proofs.Columns.{line-length, heading-length, line-tells}
+use Rattle.model.proofs.Columns.{line-columns, line-length, heading-length, line-tells}
 use Rattle.model.proofs.Clear.{clear-on, listed-numbers}
 
 abbrev Long : List ℕ → Type 0
 Long line = length line ≡ lineBytes
 
-pub pages-long : (left : ℕ) (es : List Listed) → Every Clear es → Every Long (onPages left es)
+-- What holds of the heading and of the lines of some records holds of the lines of their pages.
+pages-every : (P : List ℕ → Type 0) → P heading → (left : ℕ) (es : List Listed) → Every (λ (e : Listed). P (lineOf e)) es → Every P (onPages left es)
 unfolding onPages
-pages-long left [] h = every-nil Long
-pages-long zero (e ∷ es) h =
-    every-cons Long heading (lineOf e ∷ onPages 59 es) heading-length
-    (every-cons Long (lineOf e) (onPages 59 es) (line-length e (first-of h)) (pages-long 59 es (others-of h)))
-pages-long (suc left) (e ∷ es) h =
-    every-cons Long (lineOf e) (onPages left es) (line-length e (first-of h)) (pages-long left es (others-of h))
+pages-every P top left [] h = every-nil P
+pages-every P top zero (e ∷ es) h =
+    every-cons P heading (lineOf e ∷ onPages 59 es) top
+    (every-cons P (lineOf e) (onPages 59 es) (first-of h) (pages-every P top 59 es (others-of h)))
+pages-every P top (suc left) (e ∷ es) h = every-cons P (lineOf e) (onPages left es) (first-of h) (pages-every P top left es (others-of h))
+
+pub lines-stand : LinesStand
+unfolding LinesStand LineColumns listing
+lines-stand anchor logs h =
+    pages-every (λ (line : List ℕ). (line ≡ heading) ⊎ LineOfRecord anchor logs line) (inl refl) 0 (listedOn anchor logs)
+    (λ e m. inr (record { listed = e; among = m; same = refl; stands = line-columns e (clear-on anchor logs h e m) }))
 
 abbrev Told : Listed → Type 0
 Told e = Clear e × (numberShown (e .content) < 2 ^ 64)
@@ -58,7 +65,8 @@ pages-tell (suc left) (x ∷ es) (f ∷ fs) c h e =
 
 pub lines-long : LinesLong
 unfolding LinesLong listing
-lines-long anchor logs h = pages-long 0 (listedOn anchor logs) (clear-on anchor logs h)
+lines-long anchor logs h =
+    pages-every Long heading-length 0 (listedOn anchor logs) (λ e m. line-length e (clear-on anchor logs h e m))
 
 pub listing-tells : ListingTells
 unfolding ListingTells listing
@@ -140,9 +148,12 @@ part-lines (l ∷ ls) rest (suc i) h k =
     let e : lineBytes * suc i ≡ length l + lineBytes * i = omega (arith, first-of h) in
     rw (append-assoc, e, drop-append-add l (flatten ls ++ rest) (lineBytes * i)) (part-lines ls rest i (others-of h) (omega arith))
 
-pub lines-are-lines : LinesAreLines
-unfolding LinesAreLines linesFrom LinesLong
-lines-are-lines anchor logs h first before =
+-- what is laid over the lent bytes
+pub lines-written : (anchor logs : List ℕ) → Listable anchor logs → (first : ℕ) (before : List ℕ)
+    → let lines : List (List ℕ) = linesFrom anchor logs first (length before) in
+    Written (listing anchor logs) first (length lines) before (over lines before)
+unfolding linesFrom LinesLong
+lines-written anchor logs h first before =
     let all : List (List ℕ) = listing anchor logs in
     let room : ℕ = length before / lineBytes in
     let ls : List (List ℕ) = take room (drop first all) in
@@ -162,14 +173,14 @@ lines-are-lines anchor logs h first before =
 pub list-accepted : (stage : Stage) (bytesWrong : Bool) (anchor logs : List ℕ) (number : ℕ)
     → verdict (listRows stage bytesWrong anchor logs number) ≡ accepted
     → Listable anchor logs × (bytesWrong ≡ false) × (number < length (listing anchor logs))
-unfolding listRows unlisted
+unfolding listRows lentWrong
 list-accepted stage bytesWrong anchor logs number e =
-    let rows : List Row = imageRows (unlisted bytesWrong logs) anchor logs in
+    let rows : List Row = imageRows (lentWrong bytesWrong logs) anchor logs in
     let last : List Row = row 8 (leb (length (listing anchor logs)) number) ∷ [] in
     let image : verdict (rows ++ last) ≡ accepted = row-passed _ _ e .1 in
     let passed : verdict rows ≡ accepted = accepted-first rows last image in
-    let lent = rows-checked (unlisted bytesWrong logs) anchor logs passed .1 in (
-      record { others = unlisted bytesWrong logs; passed = passed },
+    let lent = rows-checked (lentWrong bytesWrong logs) anchor logs passed .1 in (
+      record { others = lentWrong bytesWrong logs; passed = passed },
       or-none (not (eqb (length logs) (logWords (sizesOn anchor)))) bytesWrong lent .1,
       leb-false _ _ (row-passed _ _ (sym (verdict-append rows last passed) ∙ image) .0),
     )
@@ -190,10 +201,10 @@ line-as-long stage anchor logs number before = go (verdict (listRows stage (notA
 
 pub lines-as-long : (stage : Stage) (anchor logs : List ℕ) (first : ℕ) (before : List ℕ)
     → length (linesAfter stage anchor logs first before) ≡ length before
-unfolding linesAfter LinesAreLines
+unfolding linesAfter
 lines-as-long stage anchor logs first before = go (verdict (listRows stage (notLines (length before)) anchor logs first)) refl
   where
     go : (v : Verdict) → verdict (listRows stage (notLines (length before)) anchor logs first) ≡ v
         → length (filled v (over (linesFrom anchor logs first (length before)) before) before) ≡ length before
     go (rejected n a b) e = refl
-    go accepted e = lines-are-lines anchor logs (list-accepted stage (notLines (length before)) anchor logs first e .0) first before .as-long
+    go accepted e = lines-written anchor logs (list-accepted stage (notLines (length before)) anchor logs first e .0) first before .as-long

@@ -1,31 +1,43 @@
 -- The log on paper along lists of calls: see specs/ListingPromise.antt.
-use mathlib.Core.Path.{_≡_, refl, sym, ap, _∙_}
+use mathlib.Core.Path.{_≡_, refl, sym, ap, subst, _∙_}
 use mathlib.Core.List.{List, [], _∷_, _++_, append-nil}
-use mathlib.Core.Bool.{Bool, true, false, cond}
-use Prim.Native.Nat.{ℕ, zero, suc, _*_, _%_, _≤_, _<_}
+use mathlib.Core.Bool.{Bool, true, false, cond, not}
+use Prim.Native.Nat.{ℕ, zero, suc, _+_, _*_, _%_, _≤_, _<_}
 use native.Mathlib.Omega.{arith}
 use native.Mathlib.Nat.{mul-mod-right}
 use lib.Dec.{leb, eqb}
 use lib.ListN.{length, getD}
-use borrow.Author.Tests.{eq-eqb, ne-eqb, le-leb, lt-leb, leb-true, leb-false}
+use borrow.Author.Tests.{not-false, eqb-true, eq-eqb, ne-eqb, le-leb, lt-leb, leb-true, leb-false}
+use Rattle.model.specs.declared.Stage.{Stage}
 use Rattle.model.specs.declared.Stage.the-variants.{Shut}
 use Rattle.model.specs.declared.Core.{Core}
+use Rattle.model.specs.declared.Sizes.{Sizes}
+use Rattle.model.specs.declared.Answer.{Answer}
 use Rattle.model.specs.Below.{joinBelow}
 use Rattle.model.specs.Sizes.{logWords}
 use Rattle.model.specs.Anchor.{sizesOn, startOn}
 use Rattle.model.specs.Scan.{Scan, end, bad, item}
 use Rattle.model.specs.World.{World, stores, made, finishes}
-use Rattle.model.specs.Refusal.{Verdict, accepted, rejected, verdict, conclude, answerBy, numberOf}
-use Rattle.model.specs.Causes.{retainedFrom}
+use Rattle.model.specs.Refusal.{Row, row, Verdict, accepted, rejected, verdict, conclude, answerBy, numberOf, firstOf}
+use Rattle.model.specs.Causes.{whenShut, retainedFrom}
+use Rattle.model.specs.Restart.{imageRows}
 use Rattle.model.specs.Transaction.{filled}
-use Rattle.model.specs.Listing.{Listed, lineBytes, listedIn, listedOn, listing, listRows, notALine, notLines, lineAfter}
-use Rattle.model.specs.Call.{Look, look, listLine, listLines, lookRows, lookTask, resultOf}
+use Rattle.model.specs.Listing.{Listed, lineBytes, listedIn, listedOn, listing, lentWrong, listRows, notALine, notLines, lineAfter, linesAfter, linesFrom}
+use Rattle.model.specs.Call.{Look, look, listLine, listLines, lookRows, lookValue, lookTask, resultOf}
 use Rattle.model.specs.Reference.{outcomeOf, taken}
 use Rattle.model.specs.Machine.{Machine, result}
 use Rattle.model.specs.LogPromise.{LogKept}
-use Rattle.model.specs.ListingPromise.{OneListing, ofDisk, ShowsDisk, AnswersLine, ListingShows}
+use Rattle.model.specs.ListingPromise.{OneListing, OneListingOfLines, TakenListable, LinesAreLines, ofDisk, ShowsDisk, DiskByDisk, AnswersLine, ListingShows}
+use Rattle.model.specs.Answers.{Returned}
+use Rattle.model.proofs.Below.{join-cong}
+use Rattle.model.proofs.Returned.{returned}
+use Rattle.model.proofs.Restart.Taken.{taken-call}
+use Rattle.model.proofs.Listing.{lines-written, list-accepted}
 use Rattle.model.proofs.Lengths.{lengths-right}
-use Rattle.model.proofs.Checked.{Checked, Restartable}
+use Rattle.model.proofs.Booleans.{both, or-none}
+use Rattle.model.proofs.Verdict.{row-passed, accepted-first}
+use Rattle.model.proofs.Checked.{Checked, rows-checked}
+use Rattle.model.proofs.Store.Checks.{shut-stage}
 use Rattle.model.proofs.ListRows.{list-verdict}
 use Rattle.model.proofs.Store.Holding.{holding-kept}
 use Rattle.model.proofs.PowerLoss.{holds-after, log-kept}
@@ -77,6 +89,12 @@ module _ (scans : ℕ → Scan) (disk : ℕ) where
           let here = leb-false n disk e in
           rw (before here, of-other disk n (λ same. omega (arith, same, here)) (scans n)) (append-nil (listedIn disk (scans disk)))
 
+disk-by-disk : (w : World) → DiskByDisk w
+unfolding DiskByDisk listedOn
+disk-by-disk w =
+    let s : Sizes = sizesOn (w .anchor) in
+    join-cong _ _ (s .disks) (λ disk below. sym (of-join (λ d. retainedFrom s (startOn (w .anchor)) (w .logs) d) disk (s .disks) below))
+
 -- What a call for a shut store's lines answers, where the image passes the checks and the bytes have a right length.
 module _ (c : Core) (w : World) (shut : c .stage ≡ Shut) (image : Checked (w .anchor) (w .logs))
     (long : length (w .logs) ≡ logWords (sizesOn (w .anchor))) (q : Look) (wrong : Bool) (number : ℕ)
@@ -109,12 +127,11 @@ answers-line c w shut image long number =
     }
 
 -- A call for a line answers by its verdict alone, and where that accepts, what the bytes held before does not matter.
-answered-by : (c : Core) (w : World) (number bytes : ℕ)
-    → resultOf (look (listLine number bytes)) c w .answer ≡ answerBy (verdict (listRows (c .stage) (notALine bytes) (w .anchor) (w .logs) number)) 0
+answered-by : (q : Look) (c : Core) (w : World) → resultOf (look q) c w .answer ≡ answerBy (verdict (lookRows q c w)) (lookValue q w)
 unfolding resultOf lookTask finishes stores made
-answered-by c w number bytes = go (verdict (listRows (c .stage) (notALine bytes) (w .anchor) (w .logs) number))
+answered-by q c w = go (verdict (lookRows q c w))
   where
-    go : (v : Verdict) → conclude v 0 (lookTask (listLine number bytes) c w) c w .answer ≡ answerBy v 0
+    go : (v : Verdict) → conclude v 0 (lookTask q c w) c w .answer ≡ answerBy v (lookValue q w)
     go accepted = refl
     go (rejected n first second) = refl
 
@@ -127,11 +144,66 @@ unfolding OneListing lineAfter
 one-listing c d v w number before other shut closed anchor logs same =
     let both : Verdict = verdict (listRows Shut (notALine (length other)) (w .anchor) (w .logs) number) in
     let one : resultOf (look (listLine number (length before))) c v .answer ≡ answerBy both 0 =
-    answered-by c v number (length before) ∙ rw (shut, anchor, logs, same) refl in
+    answered-by (listLine number (length before)) c v ∙ rw (shut, anchor, logs, same) refl in
     let another : resultOf (look (listLine number (length other))) d w .answer ≡ answerBy both 0 =
-    answered-by d w number (length other) ∙ rw closed refl in (
+    answered-by (listLine number (length other)) d w ∙ rw closed refl in (
       one ∙ sym another,
       λ took. rw (shut, closed, anchor, logs, same) (taken-filled both (sym (ap outcomeOf one) ∙ took) (getD (listing (w .anchor) (w .logs)) number []) before other),
+    )
+
+-- A taken call for lines, by its verdict.
+lines-taken : (c : Core) (w : World) (q : Look) → outcomeOf (resultOf (look q) c w .answer) ≡ taken → verdict (lookRows q c w) ≡ accepted
+lines-taken c w q took = taken-call (look q) c w took .accepted
+
+-- Where one line is asked for and the call accepted, it is so for each.
+each-accepted : (stage : Stage) (wrong : Bool) (anchor logs : List ℕ) (number other : ℕ) → verdict (listRows stage wrong anchor logs number) ≡ accepted
+    → other < length (listing anchor logs) → verdict (listRows stage false anchor logs other) ≡ accepted
+unfolding listRows lentWrong
+each-accepted stage wrong anchor logs number other ok there =
+    let rows : List Row = imageRows (lentWrong wrong logs) anchor logs in
+    let first = row-passed _ _ ok in
+    let shut = shut-stage stage (both (whenShut stage) true (not-false _ (first .0)) .0) in
+    let h = rows-checked (lentWrong wrong logs) anchor logs (accepted-first rows (row 8 (leb (length (listing anchor logs)) number) ∷ []) (first .1)) in
+    let long = eqb-true _ _ (not-false _ (or-none (not (eqb (length logs) (logWords (sizesOn anchor)))) wrong (h .1) .0)) in
+    rw shut (list-verdict anchor logs (h .0) long other ∙ rw (lt-leb (length (listing anchor logs)) other there) refl)
+
+pub taken-listable : TakenListable
+unfolding TakenListable
+taken-listable c w number bytes took =
+    let h = list-accepted (c .stage) (notALine bytes) (w .anchor) (w .logs) number (lines-taken c w (listLine number bytes) took) in
+    (h .0, h .2)
+
+-- what it answers and leaves
+pub lines-are-lines : LinesAreLines
+unfolding LinesAreLines linesAfter lineAfter Returned lookTask
+lines-are-lines c w first before took =
+    let k : Look = listLines first (length before) in
+    let rows = lines-taken c w k took in
+    let h = list-accepted (c .stage) (notLines (length before)) (w .anchor) (w .logs) first rows in
+    let count = returned (look k) c w .finished took .1 in
+    let written = lines-written (w .anchor) (w .logs) (h .0) first before in
+    record {
+      written = rw (rows, count) written;
+      each = λ i line l n.
+          let there : first + i < length (listing (w .anchor) (w .logs)) = omega (arith, l, count, written .many) in
+          let here = each-accepted (c .stage) (notLines (length before)) (w .anchor) (w .logs) first (first + i) rows there in
+          rw (rows, n, here) (written .each i (omega (arith, l, count)));
+    }
+
+pub one-listing-of-lines : OneListingOfLines
+unfolding OneListingOfLines LinesAreLines
+one-listing-of-lines c d v w first before other shut closed anchor logs same =
+    let one : Answer = resultOf (look (listLines first (length before))) c v .answer in
+    let another : Answer = resultOf (look (listLines first (length other))) d w .answer in
+    let by : Answer = answerBy (verdict (listRows Shut (notLines (length other)) (w .anchor) (w .logs) first)) (length (linesFrom (w .anchor) (w .logs) first (length other))) in
+    let mine : one ≡ by = answered-by (listLines first (length before)) c v ∙ rw (shut, anchor, logs, same) refl in
+    let theirs : another ≡ by = answered-by (listLines first (length other)) d w ∙ rw closed refl in
+    let both : one ≡ another = mine ∙ sym theirs in (
+      both,
+      λ took i l.
+          let line : getD (listing (v .anchor) (v .logs)) (first + i) [] ≡ getD (listing (w .anchor) (w .logs)) (first + i) [] = rw (anchor, logs) refl in
+          lines-are-lines c v first before took .written .each i l ∙ line
+          ∙ sym (lines-are-lines d w first other (sym (ap outcomeOf both) ∙ took) .written .each i (subst (λ (a : Answer). i < firstOf a) both l)),
     )
 
 pub listing-shows : ListingShows
@@ -145,6 +217,7 @@ listing-shows m s budget formats events a shut =
             stored = stored;
             lines = of-join _ disk _ below ∙ ap (listedIn disk) (stored .finds);
           },
+      disk-by-disk _,
       λ number. answers-line _ _ shut (kept .image) long number,
       λ first lines.
           let whole : notLines (lineBytes * lines) ≡ false = rw (eq-eqb (lineBytes * lines % lineBytes) 0 (mul-mod-right lineBytes lines)) refl in

@@ -22,7 +22,7 @@ use Rattle.model.specs.Transaction.{beginRows, updateRows, readRows, com
 use Rattle.model.specs.Abort.{abortRows}
 use Rattle.model.specs.Checkpoint.{checkpointBeginRows, checkpointStepRows, checkpointEndRows}
 use Rattle.model.specs.Restart.{imageRows, restartBeginRows, restartStepRows, restartEndRows}
-use Rattle.model.specs.Listing.{listRows, unlisted, notALine, notLines}
+use Rattle.model.specs.Listing.{listRows, lentWrong, notALine, notLines}
 use Rattle.model.specs.Call.{Call, format, begin, update, look, read, listLine, listLines, commit, abort, checkpointBegin, checkpointStep, checkpointEnd, restartBegin, restartStep, restartRun, restartEnd, newState, rowsOf, taskOf, budgetOf}
 use Rattle.model.specs.Reference.{taken, refused, interrupted}
 use Rattle.model.specs.Answers.{outcomeNumbered, imageFault, faultOf, Returns, Returned, RowNumbers}
@@ -120,9 +120,9 @@ rows-return begin c w = plain-rows begin c w _ refl
 rows-return (update number page slot value budget) c w = plain-rows (update number page slot value budget) c w _ refl
 rows-return (look (read reader page slot)) c w = plain-rows (look (read reader page slot)) c w _ refl
 rows-return (look (listLine number bytes)) c w =
-    with-image (look (listLine number bytes)) c w (row 1 _) (row 8 _) (unlisted (notALine bytes) (w .logs)) refl refl refl
+    with-image (look (listLine number bytes)) c w (row 1 _) (row 8 _) (lentWrong (notALine bytes) (w .logs)) refl refl refl
 rows-return (look (listLines first bytes)) c w =
-    with-image (look (listLines first bytes)) c w (row 1 _) (row 8 _) (unlisted (notLines bytes) (w .logs)) refl refl refl
+    with-image (look (listLines first bytes)) c w (row 1 _) (row 8 _) (lentWrong (notLines bytes) (w .logs)) refl refl refl
 rows-return (commit number budget) c w = plain-rows (commit number budget) c w _ refl
 rows-return (abort number budget) c w =
     let k : Call = abort number budget in

@@ -30,7 +30,7 @@ use Rattle.model.specs.Promise.{Always}
 
 -- The stages that a call is for: "Format (shut)", "Begin (open, copying, as the next four)", "Checkpoint begin (open)", "Checkpoint
 -- step (copying)", "Checkpoint end (copying)", "Restart begin (shut)", "Restart step (replaying)", "Restart end (replaying)". A run
--- of restart steps is for the stage of a step; a new state is handed out in every stage.
+-- of restart steps is for the stage of a step, a listing for that of restart begin; a new state is handed out in every stage.
 abbrev pub stagesOfLook : Look → Stage → Bool
 stagesOfLook (read reader page slot) stage = whenServing stage
 stagesOfLook (listLine number bytes) stage = whenShut stage

@@ -23,7 +23,7 @@ ClosingTakenInCode =
     → (o .call ≡ commit t budget → isRefused (seen o) ≡ false) × (o .call ≡ abort t budget → isRefused (seen o) ≡ false)
 
 -- What a call of the code on the slices as they were left answers: 1 exactly where the stage is none of the call's; none of 2 to 7, but
--- that a format may answer 4 or 5.
+-- that a format may answer 4 or 5, and a listing that is lent bytes of a wrong length 5.
 unfoldable pub OwnSlicesInCode : Type 0
 OwnSlicesInCode = AlwaysInCode λ m r. (o : Observed) → On m o → AnswersOwn (viewOf m) (o .call) (o .reply .answer)
 

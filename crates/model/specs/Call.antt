@@ -57,7 +57,7 @@ lookTask q c w = record { actions = []; core = c; value = lookValue q w }
 
 -- The rows of "Turned away" that a call checks. "Format checks 1, 2, 4 (of the sizes handed to it), 5 and 16; restart begin 1 to 7 and
 -- 13; the rest 1, 2, 5 and, where the cause can arise, 7 to 16, working with the sizes, c, starts and ends their state holds." Row 16 is
--- in `conclude`. A run of restart steps checks what its first step does.
+-- in `conclude`. A run of restart steps checks what its first step does; a listing 1 to 7 as restart begin, and 8.
 abbrev pub rowsOf : Call → Core → World → List Row
 rowsOf (format s budget) c w = formatRows c w s
 rowsOf begin c w = beginRows c w

@@ -1,5 +1,5 @@
 -- 02, S-1: the log on paper. A listing is a list of lines, a line the list of its 73 bytes.
-use Prim.Native.Nat.{ℕ, zero, suc, _/_, _%_, min, _-_}
+use Prim.Native.Nat.{ℕ, zero, suc, _/_, _%_}
 use mathlib.Core.List.{List, [], _∷_, _++_, flatten}
 use mathlib.Core.Bool.{Bool, true, cond, not, _||_}
 use lib.ListN.{length, getD, take, drop}
@@ -99,13 +99,13 @@ unfoldable pub listing : (anchor logs : List ℕ) → List (List ℕ)
 listing anchor logs = onPages 0 (listedOn anchor logs)
 
 -- Check 5 of a listing: of the log disks, "also for these bytes". No other slice is lent.
-unfoldable pub unlisted : (bytesWrong : Bool) → (logs : List ℕ) → Sizes → Bool
-unlisted bytesWrong logs s = not (eqb (length logs) (logWords s)) || bytesWrong
+unfoldable pub lentWrong : (bytesWrong : Bool) → (logs : List ℕ) → Sizes → Bool
+lentWrong bytesWrong logs s = not (eqb (length logs) (logWords s)) || bytesWrong
 
 -- "Checks: 1 to 7 as for restart begin, 5 also for these bytes, then 8 past the last line."
 unfoldable pub listRows : Stage → (bytesWrong : Bool) → (anchor logs : List ℕ) → (number : ℕ) → List Row
 listRows stage bytesWrong anchor logs number =
-    row 1 (forbids whenShut true stage) ∷ imageRows (unlisted bytesWrong logs) anchor logs ++ row 8 (leb (length (listing anchor logs)) number) ∷ []
+    row 1 (forbids whenShut true stage) ∷ imageRows (lentWrong bytesWrong logs) anchor logs ++ row 8 (leb (length (listing anchor logs)) number) ∷ []
 
 -- "A call writes the line of a given number, from 0 and headings included, and a byte 10 into 73 lent bytes."
 abbrev pub notALine : (bytes : ℕ) → Bool
@@ -117,7 +117,7 @@ lineAfter stage anchor logs number before =
     filled (verdict (listRows stage (notALine (length before)) anchor logs number)) (getD (listing anchor logs) number []) before
 
 -- The lines from a given number on, as many as there are and as the lent bytes have room for; not 02's, so that a whole listing is
--- written in one call (lines-are-lines in proofs/Listing.antt). The bytes are a whole number of lines.
+-- written in one call (LinesAreLines in specs/ListingPromise.antt). The bytes are a whole number of lines.
 abbrev pub notLines : (bytes : ℕ) → Bool
 notLines bytes = not (eqb (bytes % lineBytes) 0)
 

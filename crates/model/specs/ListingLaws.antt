@@ -13,7 +13,7 @@ use Rattle.model.specs.Anchor.{sizesOn}
 use Rattle.model.specs.State.{limit}
 use Rattle.model.specs.Refusal.{verdict, accepted}
 use Rattle.model.specs.Restart.{imageRows}
-use Rattle.model.specs.Listing.{gap, lineBytes, heading, kindName, Shown, shownChange, shownClose, Listed, lineOf, listedOn, onPages, listing, linesFrom, over}
+use Rattle.model.specs.Listing.{gap, lineBytes, heading, kindName, Shown, shownChange, shownClose, Listed, lineOf, listedOn, onPages, listing}
 
 -- What the checks of an image leave of a record: a kind of its own, a page and a slot that there can be.
 pub record ClearChange (kind page slot width : ℕ) : Type 0 where
@@ -88,7 +88,8 @@ ColumnsOf line disk position (shownChange kind number page slot width) =
 ColumnsOf line disk position (shownClose kind number) =
     Columns line (decimal disk) (decimal position) (kindName kind) (decimal number) [] [] []
 
--- "Each line has exactly 72 columns", no text is cut or runs into the next, and a byte 10 follows.
+-- "Each line has exactly 72 columns", no text runs into the next, and a byte 10 follows. (A number of more than twenty digits would be cut to
+-- its last twenty: ListedNumbers says that there is none.)
 unfoldable pub LineColumns : Type 0
 LineColumns = (e : Listed) → Clear e → ColumnsOf (lineOf e) (e .disk) (e .position) (e .content)
 
@@ -103,7 +104,19 @@ HeadingColumns =
     (115 ∷ 108 ∷ [])
     (108 ∷ 110 ∷ [])
 
--- Every line of a listing has 73 bytes, headings included.
+-- Every line of a listing is the heading, or the line of a record that is listed, which stands in its columns.
+pub record LineOfRecord (anchor logs line : List ℕ) : Type 0 where
+  pub listed : Listed
+  pub among : List·Memᴰ listed (listedOn anchor logs)
+  pub same : line ≡ lineOf listed
+  pub stands : ColumnsOf line (listed .disk) (listed .position) (listed .content)
+
+unfoldable pub LinesStand : Type 0
+LinesStand =
+    (anchor logs : List ℕ) → Listable anchor logs → (line : List ℕ) → List·Memᴰ line (listing anchor logs)
+    → (line ≡ heading) ⊎ LineOfRecord anchor logs line
+
+-- So each has 73 bytes, headings included.
 unfoldable pub LinesLong : Type 0
 LinesLong = (anchor logs : List ℕ) → Listable anchor logs → (line : List ℕ) → List·Memᴰ line (listing anchor logs) → length line ≡ lineBytes
 
@@ -140,10 +153,3 @@ pub record Written (lines : List (List ℕ)) (first count : ℕ) (before after :
   pub as-long : length after ≡ length before
   pub each : (i : ℕ) → i < count → part (lineBytes * i) lineBytes after ≡ getD lines (first + i) []
   pub rest : drop (lineBytes * count) after ≡ drop (lineBytes * count) before
-
--- A call for lines writes what as many calls for one line write, into 73 bytes each.
-unfoldable pub LinesAreLines : Type 0
-LinesAreLines =
-    (anchor logs : List ℕ) → Listable anchor logs → (first : ℕ) (before : List ℕ)
-    → let lines : List (List ℕ) = linesFrom anchor logs first (length before) in
-    Written (listing anchor logs) first (length lines) before (over lines before)

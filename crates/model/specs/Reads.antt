@@ -1,6 +1,6 @@
 -- What a call tests of a state that no call made. Each tests what it reads, so that every index and sum is safe; a state that a call
--- handed back passes (reads-pass in proofs/Tested.antt). The calls that read the whole state test all of it: `sound`. A format and a
--- restart begin read no state, and test none.
+-- handed back passes (reads-pass in proofs/Tested.antt). The calls that read the whole state test all of it: `sound`. A format, a
+-- restart begin and a listing read no state but its stage, and test none.
 use Prim.Native.Nat.{ℕ, _+_, _-_}
 use mathlib.Core.Bool.{Bool, not, _&&_, _||_}
 use lib.Dec.{leb, ltb, eqb}
