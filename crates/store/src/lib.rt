@@ -1,6 +1,7 @@
 // The store's calls. A state is made by these and by nothing else: its field is private.
 pub mod checkpoints;
 pub mod formats;
+pub mod listings;
 pub mod restarts;
 pub mod transactions;
 mod whole;
