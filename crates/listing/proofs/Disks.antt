@@ -1,6 +1,6 @@
 -- The disks one after the other: what is read by ring index is what a restart begin reads.
 use Prim.Native.Nat.{ℕ, _+_, _≤_, _<_}
-use mathlib.Core.Path.{_≡_, refl, sym, ap, _∙_}
+use mathlib.Core.Path.{_≡_, sym, ap}
 use mathlib.Core.List.{List, [], _++_, append-assoc, append-nil}
 use mathlib.Core.Bool.{true}
 use native.Mathlib.Omega.{arith}
@@ -18,9 +18,9 @@ use Rattle.model.proofs.Faults.{no-fault}
 use Rattle.model.proofs.Verdict.{row-passed}
 use Rattle.model.proofs.Checked.{Whole, rows-whole}
 use Rattle.log.specs.Reading.{Checkable}
-use Rattle.log.specs.Ring.{readRing, ringAt, Ring}
+use Rattle.log.specs.Ring.{readRing, ringAt}
 use Rattle.log.proofs.Ready.{checkable}
-use Rattle.log.proofs.Rings.{disk-fits, disk-ring, ring-scan}
+use Rattle.log.proofs.Rings.{disk-fits, ring-scan}
 use Rattle.listing.specs.declared.pages.Sheet.{Sheet}
 use Rattle.listing.specs.Laid.{laid}
 use Rattle.listing.specs.Sheets.{Listing, finished, LaidAll}

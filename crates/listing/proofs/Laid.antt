@@ -6,7 +6,7 @@ use mathlib.Core.Bool.{Bool, true, false, cond}
 use native.Mathlib.Omega.{arith}
 use native.Mathlib.Decide.{decLt}
 use lib.ListN.{length, getD, take, drop, length-append, length-take, length-drop, drop-of-length-le}
-use lib.Seq.{sets, sets-eq, length-sets, take-nil, take-at, drop-at, drop-drop, drop-cons, drop-append-add, drop-length}
+use lib.Seq.{sets, sets-eq, length-sets, take-nil, take-at, drop-drop, drop-cons, drop-append-add}
 use lib.Dec.{leb, ltb}
 use borrow.Author.Tests.{ltb-true, leb-true, le-leb, lt-leb, lt-ltb, le-ltb}
 use Rattle.model.specs.Listing.{lineBytes, over}

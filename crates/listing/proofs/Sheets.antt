@@ -8,14 +8,13 @@ use mathlib.Core.Bool.{true}
 use Rattle.model.specs.declared.Sizes.{Sizes}
 use Rattle.model.specs.declared.Decoded.{Decoded}
 use Rattle.model.specs.declared.Decoded.the-variants.{Change, Close, Malformed}
-use Rattle.model.specs.Sizes.{widthIn, sizesInBounds}
+use Rattle.model.specs.Sizes.{sizesInBounds}
 use Rattle.model.specs.Decode.{span, decodeAt}
 use Rattle.model.specs.Scan.{scan}
 use Rattle.model.specs.Listing.{Listed, shownLine, heading, lineOf, listedIn, onPages}
 use Rattle.model.proofs.Bounds.{bounded}
 use Rattle.model.proofs.Decode.{found-change, found-close}
 use Rattle.model.proofs.Scan.{scan-end, scan-change, scan-close, scan-bad}
-use Rattle.listing.specs.declared.pages.Sheet.{Sheet}
 use Rattle.listing.specs.Laid.{laidLine, laid}
 use Rattle.listing.specs.Sheets.{shownOf, Fits, listedAs, Listing, finished}
 

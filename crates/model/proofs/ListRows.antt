@@ -1,7 +1,7 @@
 -- The rows of a listing of a shut store whose image passes the checks: 5 for the lent bytes, then 8.
-use mathlib.Core.Path.{_≡_, refl}
+use mathlib.Core.Path.{_≡_}
 use mathlib.Core.List.{List, [], _∷_}
-use mathlib.Core.Bool.{Bool, true, false, cond, or-true}
+use mathlib.Core.Bool.{true, false, cond, or-true}
 use Prim.Native.Nat.{ℕ}
 use native.Mathlib.Omega.{arith}
 use lib.Dec.{leb}

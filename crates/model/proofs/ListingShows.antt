@@ -25,9 +25,9 @@ use Rattle.model.specs.Transaction.{filled}
 use Rattle.model.specs.Listing.{Listed, lineBytes, listedIn, listedOn, listing, lentWrong, listRows, notALine, notLines, lineAfter, linesAfter, linesFrom}
 use Rattle.model.specs.Call.{Look, look, listLine, listLines, lookRows, lookValue, lookTask, resultOf}
 use Rattle.model.specs.Reference.{outcomeOf, taken}
-use Rattle.model.specs.Machine.{Machine, result}
+use Rattle.model.specs.Machine.{result}
 use Rattle.model.specs.LogPromise.{LogKept}
-use Rattle.model.specs.ListingPromise.{OneListing, OneListingOfLines, TakenListable, LinesAreLines, ofDisk, ShowsDisk, DiskByDisk, AnswersLine, ListingShows}
+use Rattle.model.specs.ListingPromise.{OneListing, OneListingOfLines, TakenListable, LinesAreLines, ofDisk, DiskByDisk, AnswersLine, ListingShows}
 use Rattle.model.specs.Answers.{Returned}
 use Rattle.model.proofs.Below.{join-cong}
 use Rattle.model.proofs.Returned.{returned}

@@ -1,10 +1,8 @@
 -- A small log on paper, computed.
 use mathlib.Core.Path.{_≡_, refl}
 use mathlib.Core.List.{List, [], _∷_, _++_, map}
-use Prim.Native.Nat.{ℕ}
 use lib.ListN.{replicate}
 use Rattle.model.specs.declared.Stage.the-variants.{Shut}
-use Rattle.model.specs.World.{World}
 use Rattle.model.specs.Refusal.{numberOf}
 use Rattle.model.specs.Listing.{lineAfter}
 use Rattle.model.specs.Call.{Call, format, begin, update, look, listLine, listLines, commit, abort, newState}

@@ -1,5 +1,5 @@
 -- The checks of an image as the code makes them: the anchor first, then what is lent beside it, then the logs from the starts that it read.
-use mathlib.Core.Path.{_≡_, refl, _∙_}
+use mathlib.Core.Path.{_≡_, refl}
 use mathlib.Core.Bool.{Bool, true, false, cond, not}
 use mathlib.Core.List.{List, [], _∷_, _++_}
 use Prim.Native.Nat.{ℕ, _≤_}

@@ -1,8 +1,6 @@
 -- The promises on the log on paper for traces of the code's own calls: see specs/ListingPromise.antt.
-use mathlib.Core.Path.{_≡_, refl, sym, ap, subst, _∙_}
+use mathlib.Core.Path.{_≡_, sym, ap, subst, _∙_}
 use Prim.Native.Nat.{ℕ, _*_, _<_}
-use mathlib.Core.List.{List}
-use lib.ListN.{length}
 use Rattle.model.specs.declared.Stage.the-variants.{Shut}
 use Rattle.model.specs.declared.Answer.{Answer}
 use Rattle.model.specs.Anchor.{sizesOn}

@@ -1,5 +1,5 @@
 -- A listing as a call of the code: it reads the anchor, the log disks and the stage, whatever else is lent, and leaves every word.
-use mathlib.Core.Path.{_≡_, refl, _∙_}
+use mathlib.Core.Path.{_≡_, refl}
 use mathlib.Core.Bool.{Bool, true}
 use Prim.Native.Nat.{ℕ}
 use borrow.Author.Tests.{not-false}
@@ -10,7 +10,7 @@ use Rattle.model.specs.World.{World, run, covered, perform, made, stores
 use Rattle.model.specs.Refusal.{Verdict, accepted, rejected, verdict, answerBy}
 use Rattle.model.specs.Causes.{whenShut}
 use Rattle.model.specs.Listing.{listRows}
-use Rattle.model.specs.Call.{Look, look, lookRows, lookValue, lookTask, rowsOf, resultOf}
+use Rattle.model.specs.Call.{Look, look, lookRows, lookValue, lookTask, resultOf}
 use Rattle.model.specs.View.{coreOf, bodyOf, given, Serves}
 use Rattle.model.proofs.Booleans.{both}
 use Rattle.model.proofs.Verdict.{row-passed}

@@ -1,6 +1,5 @@
 -- `listing::call::list` meets its contract: rows 1 to 5, and then the others. Assumes nothing.
 use mathlib.Core.Path.{refl, sym, _∙_}
-use native.Mathlib.Omega.{arith}
 use borrow.Author.Tests.{not-true, not-false}
 use denote.Ref.{now}
 use Rattle.model.proofs.Bounds.{bounded}

@@ -1,9 +1,9 @@
 -- `listing::pages::lay_disk` meets its contract. The loop keeps: what comes of the records from p on is what comes of all from the
 -- start, and at most as many lines as words were passed. The measure is the words left.
-use Prim.Native.Nat.{ℕ, _+_, _-_, _≤_}
+use Prim.Native.Nat.{_+_, _-_, _≤_}
 use mathlib.Core.Path.{_≡_, refl, sym, ap, _∙_}
 use mathlib.Core.Logic.{⊎-elim}
-use mathlib.Core.List.{List, _∷_, _++_}
+use mathlib.Core.List.{List, _++_}
 use native.Mathlib.Omega.{arith}
 use lib.ListN.{length}
 use borrow.Author.Needs.{needs}
@@ -13,7 +13,7 @@ use Rattle.model.specs.Scan.{scan}
 use Rattle.model.specs.Listing.{Listed, listedIn}
 use Rattle.log.specs.Ring.{readRing, EntriesOf}
 use Rattle.log.proofs.Rings.{entries-long}
-use Rattle.listing.specs.Sheets.{finished, listedAs}
+use Rattle.listing.specs.Sheets.{finished}
 use Rattle.listing.proofs.Sheets.{Next, next-far, listed-end, listed-bad, listed-next}
 use Rattle.listing.proofs.pages.lay_disk.Statement.{statement}
 use Rattle.listing.proofs.pages.lay_disk.Tie as tie

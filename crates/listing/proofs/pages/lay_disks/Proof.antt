@@ -1,7 +1,7 @@
 -- `listing::pages::lay_disks` meets its contract. The loop keeps: what comes of the disks from d on is what comes of all of them. The
 -- measure is the disks left.
 use Prim.Native.Nat.{ℕ, _+_, _-_, _*_, _≤_}
-use mathlib.Core.Path.{_≡_, refl, sym, ap, _∙_}
+use mathlib.Core.Path.{_≡_, refl, ap, _∙_}
 use mathlib.Core.Bool.{true}
 use mathlib.Core.List.{List, [], _++_}
 use native.Mathlib.Omega.{arith}
@@ -14,7 +14,7 @@ use Rattle.model.specs.Sizes.{sizesInBounds}
 use Rattle.model.specs.Causes.{retainedFrom}
 use Rattle.model.specs.Listing.{Listed, listedIn}
 use Rattle.model.proofs.Bounds.{bounded}
-use Rattle.log.specs.Ring.{Ring, Entries, EntriesOf}
+use Rattle.log.specs.Ring.{Ring, EntriesOf}
 use Rattle.log.proofs.Rings.{ring-is, disk-fits, disk-ring}
 use Rattle.listing.specs.Sheets.{finished}
 use Rattle.listing.proofs.Disks.{all-checkable, tail-near, disk-listed, join-more, all-laid}
@@ -27,7 +27,7 @@ on sizes starts logs d = listedIn d (retainedFrom sizes (λ e. getD starts e 0) 
 
 abbrev Inv-loop : tie.InvT-loop
 Inv-loop sizes logs out₀ first starts disks slots widths sheet₀ d₀ out sheet d =
-    (d ≤ disks) × (sheet .line ≤ 65536 * d) × (length out ≡ length out₀)
+    (d ≤ disks) × (sheet .line ≤ 65536 * d + 1) × (length out ≡ length out₀)
     × ((more : List Listed) → finished first sheet more out
     ≡ finished first (record { line = 0; left = 0 }) (joinBelow (on sizes starts logs) d ++ more) out₀)
 
