@@ -23,16 +23,17 @@ ClosingTakenInCode =
     → (o .call ≡ commit t budget → isRefused (seen o) ≡ false) × (o .call ≡ abort t budget → isRefused (seen o) ≡ false)
 
 -- What a call of the code on the slices as they were left answers: 1 exactly where the stage is none of the call's; none of 2 to 7, but
--- that a format may answer 4 or 5, and a listing that is lent bytes of a wrong length 5.
+-- that a format may answer 4 or 5, and a listing or a table of classes that is lent bytes or lines of a wrong length 5.
 unfoldable pub OwnSlicesInCode : Type 0
 OwnSlicesInCode = AlwaysInCode λ m r. (o : Observed) → On m o → AnswersOwn (viewOf m) (o .call) (o .reply .answer)
 
 -- A begin of the code on the slices as they were left: if it is taken, it opens the transaction whose number it answered, which was not
--- open before, on the idlest disk by started blocks of those with room, the lowest of several; it answers 14 only where none has room.
+-- open before, on the idlest disk by started blocks of those of its class's set with room, the lowest of several; it answers 14 exactly
+-- where none of the set has room, unless another row comes first.
 unfoldable pub BeginDiskInCode : Type 0
 BeginDiskInCode =
-    AlwaysInCode λ m r. (o : Observed) → o .call ≡ begin → On m o
-    → BeginsOn (viewOf m .core) (o .reply .answer) (viewOf (machineAfter o) .core)
+    AlwaysInCode λ m r. (class : ℕ) (o : Observed) → o .call ≡ begin class → On m o
+    → BeginsOn class (viewOf m .core) (o .reply .answer) (viewOf (machineAfter o) .core)
 
 -- "Only these calls, and one that hands out a new state, make a state.": what a call of the code hands back for such a state is one
 -- again. It answers 1, on whatever slices, exactly where the stage is none of the call's. The state is seen in what is carried and in the

@@ -14,6 +14,7 @@ use Rattle.model.specs.Abort.{abortRows, abortTask}
 use Rattle.model.specs.Format.{formatRows, formatTask}
 use Rattle.model.specs.Checkpoint.{checkpointBeginRows, checkpointBeginTask, checkpointStepRows, checkpointStepTask, checkpointEndRows, checkpointEndTask}
 use Rattle.model.specs.Restart.{restartBeginRows, restartBeginTask, restartStepRows, restartStepTask, restartRunTask, restartEndRows, restartEndTask}
+use Rattle.model.specs.SetClasses.{setClassesRows, setClassesTask}
 use Rattle.model.specs.Listing.{listRows, notALine, notLines, linesFrom}
 
 -- Calls that only look: they hand back the state that they got, change no word and store nothing.
@@ -27,10 +28,12 @@ pub data Look : Type 0 where
 -- a state." `restartRun` is not 01's (specs/Restart.antt).
 pub data Call : Type 0 where
   format : Sizes → (budget : ℕ) → Call
-  begin : Call
+  begin : (class : ℕ) → Call
   update : (number page slot : ℕ) → List ℕ → (budget : ℕ) → Call
   commit : (number budget : ℕ) → Call
   abort : (number budget : ℕ) → Call
+  -- 02's S-5: a table of classes, three words a line
+  setClasses : (lines : List ℕ) → Call
   checkpointBegin : Call
   checkpointStep : (budget : ℕ) → Call
   checkpointEnd : (budget : ℕ) → Call
@@ -57,14 +60,15 @@ lookTask q c w = record { actions = []; core = c; value = lookValue q w }
 
 -- The rows of "Turned away" that a call checks. "Format checks 1, 2, 4 (of the sizes handed to it), 5 and 16; restart begin 1 to 7 and
 -- 13; the rest 1, 2, 5 and, where the cause can arise, 7 to 16, working with the sizes, c, starts and ends their state holds." Row 16 is
--- in `conclude`. A run of restart steps checks what its first step does; a listing 1 to 7 as restart begin, and 8.
+-- in `conclude`. A run of restart steps checks what its first step does; a listing 1 to 7 as restart begin, and 8; a table of classes 1, 5 and 17 to 19.
 abbrev pub rowsOf : Call → Core → World → List Row
 rowsOf (format s budget) c w = formatRows c w s
-rowsOf begin c w = beginRows c w
+rowsOf (begin class) c w = beginRows c w class
 rowsOf (update number page slot value budget) c w = updateRows c w number page slot value
 rowsOf (look q) c w = lookRows q c w
 rowsOf (commit number budget) c w = commitRows c w number
 rowsOf (abort number budget) c w = abortRows c w number
+rowsOf (setClasses lines) c w = setClassesRows c w lines
 rowsOf checkpointBegin c w = checkpointBeginRows c w
 rowsOf (checkpointStep budget) c w = checkpointStepRows c w
 rowsOf (checkpointEnd budget) c w = checkpointEndRows c w
@@ -77,11 +81,12 @@ rowsOf newState c w = []
 -- what it does when none of them applies
 abbrev pub taskOf : Call → Core → World → Task
 taskOf (format s budget) c w = formatTask s
-taskOf begin c w = beginTask c w
+taskOf (begin class) c w = beginTask c w class
 taskOf (update number page slot value budget) c w = updateTask c w number page slot value
 taskOf (look q) c w = lookTask q c w
 taskOf (commit number budget) c w = commitTask c w number
 taskOf (abort number budget) c w = abortTask c w number
+taskOf (setClasses lines) c w = setClassesTask c lines
 taskOf checkpointBegin c w = checkpointBeginTask c w
 taskOf (checkpointStep budget) c w = checkpointStepTask c w
 taskOf (checkpointEnd budget) c w = checkpointEndTask c w
@@ -94,11 +99,12 @@ taskOf newState c w = record { actions = []; core = newCore; value = 0 }
 -- a call that stores nothing needs no budget
 abbrev pub budgetOf : Call → ℕ
 budgetOf (format s budget) = budget
-budgetOf begin = 0
+budgetOf (begin class) = 0
 budgetOf (update number page slot value budget) = budget
 budgetOf (look q) = 0
 budgetOf (commit number budget) = budget
 budgetOf (abort number budget) = budget
+budgetOf (setClasses lines) = 0
 budgetOf checkpointBegin = 0
 budgetOf (checkpointStep budget) = budget
 budgetOf (checkpointEnd budget) = budget

@@ -1,5 +1,5 @@
 -- 01, "Turned away": one definition for the cause of each row, shared by all the calls that check it. Row 14, "no log room (begin: on
--- no disk)", is `hasRoom` and `idlest` (specs/Room.antt); row 15, "an end call while items remain, or a step where none remain",
+-- no disk)", is `hasRoom` and `idlest` (specs/Room.antt), of its class's set by 02; row 15, "an end call while items remain, or a step where none remain",
 -- `lowestToCopy` and `remaining` (specs/Checkpoint.antt, specs/Restart.antt); row 16, "list longer than the allowance", `finishes`.
 use Prim.Native.Nat.{ℕ, zero, suc, _+_}
 use mathlib.Core.List.{List, [], _∷_}

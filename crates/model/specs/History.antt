@@ -16,7 +16,7 @@ use Rattle.model.specs.World.{World}
 use Rattle.model.specs.Memory.{copyOf}
 use Rattle.model.specs.Causes.{tailOn}
 use Rattle.model.specs.Transaction.{diskOf}
-use Rattle.model.specs.Call.{Call, format, begin, update, look, commit, abort, checkpointBegin, checkpointStep, checkpointEnd, restartBegin, restartStep, restartRun, restartEnd, newState}
+use Rattle.model.specs.Call.{Call, format, begin, update, look, commit, abort, setClasses, checkpointBegin, checkpointStep, checkpointEnd, restartBegin, restartStep, restartRun, restartEnd, newState}
 use Rattle.model.specs.Reference.{Reference, Outcome, taken, refused, interrupted, slotIndex, plainTable, WriteSet}
 use Rattle.model.specs.Machine.{Event, call, lent, scramble, outcome, after, referred, Run}
 
@@ -80,8 +80,9 @@ putBy (abort number budget) x t =
     (updatesPut t (diskOf (x .machine .core) number) number)
     ++ putUnder x number (close abortKind number) ∷ []
 putBy (format s budget) x t = []
-putBy begin x t = []
+putBy (begin class) x t = []
 putBy (look q) x t = []
+putBy (setClasses lines) x t = []
 putBy checkpointBegin x t = []
 putBy (checkpointStep budget) x t = []
 putBy (checkpointEnd budget) x t = []
@@ -119,11 +120,12 @@ abbrev pub startsAfter : Call → Run → Told → Told
 startsAfter (restartEnd budget) x t = emptyFrom (tailOn (x .machine .core .sizes) (x .machine .world))
 startsAfter (format s budget) x t = nothingTold
 startsAfter newState x t = t
-startsAfter begin x t = t
+startsAfter (begin class) x t = t
 startsAfter (update number page slot value budget) x t = t
 startsAfter (look q) x t = t
 startsAfter (commit number budget) x t = t
 startsAfter (abort number budget) x t = t
+startsAfter (setClasses lines) x t = t
 startsAfter checkpointBegin x t = marked t
 startsAfter (checkpointStep budget) x t = t
 startsAfter (checkpointEnd budget) x t = startedFrom (startPut t (x .reference .writeSets)) t

@@ -25,6 +25,7 @@ pub mod Scan
 pub mod World
 pub mod Moments
 pub mod Memory
+pub mod Classes
 pub mod State
 pub mod Room
 pub mod Refusal
@@ -37,6 +38,7 @@ pub mod Transaction
 pub mod Abort
 pub mod Checkpoint
 pub mod Restart
+pub mod SetClasses
 pub mod Listing
 pub mod Call
 -- The state by value and in the lent work memory.
@@ -58,3 +60,6 @@ pub mod AnswersInCode
 -- The log on paper: what a listing tells, and that it is told of every list of calls.
 pub mod ListingLaws
 pub mod ListingPromise
+-- Which disks serve which class: the table in force, and what it decides.
+pub mod ClassPromise
+pub mod ClassPromiseInCode

@@ -9,7 +9,7 @@ use Rattle.model.specs.declared.Core.{Core}
 use Rattle.model.specs.World.{World}
 use Rattle.model.specs.Refusal.{Result}
 use Rattle.model.specs.Causes.{whenShut}
-use Rattle.model.specs.Call.{Call, format, begin, update, look, commit, abort, checkpointBegin, checkpointStep, checkpointEnd, restartBegin, restartStep, restartRun, restartEnd, newState, resultOf}
+use Rattle.model.specs.Call.{Call, format, begin, update, look, commit, abort, setClasses, checkpointBegin, checkpointStep, checkpointEnd, restartBegin, restartStep, restartRun, restartEnd, newState, resultOf}
 use Rattle.model.specs.Reference.{Outcome, taken, refused, interrupted, outcomeOf, Reference, blank, heardOf, hear}
 
 -- The state, and the devices and memory that go with it.
@@ -42,11 +42,12 @@ isRefused interrupted = false
 -- "and a format if refused"
 abbrev pub allowedCall : Machine → Call → Bool
 allowedCall m (format s budget) = isRefused (outcome m (format s budget))
-allowedCall m begin = true
+allowedCall m (begin class) = true
 allowedCall m (update number page slot value budget) = true
 allowedCall m (look q) = true
 allowedCall m (commit number budget) = true
 allowedCall m (abort number budget) = true
+allowedCall m (setClasses lines) = true
 allowedCall m checkpointBegin = true
 allowedCall m (checkpointStep budget) = true
 allowedCall m (checkpointEnd budget) = true

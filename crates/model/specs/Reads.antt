@@ -52,7 +52,7 @@ abortFits number c =
     not (isOpen (c .table) number)
     || placeFits (placeOf (c .table) number) c && scopeFits (placeOf (c .table) number) c && sizesFit c
 
--- A call that reads a state tests P, D, W and T (a begin no more than these); and where the lent slices have the lengths that these
+-- A call that reads a state tests P, D, W and T (a begin and a table of classes no more than these); and where the lent slices have the lengths that these
 -- give, what it reads: else it is refused for a length.
 unfoldable pub fitsOn : (test : Bool) → Core → World → Bool
 fitsOn test c w = countsFit c && (lengthsWrong (c .sizes) (c .bases .total) w || test)

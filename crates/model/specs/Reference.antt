@@ -11,7 +11,7 @@ use Rattle.model.specs.declared.Answer.the-variants.{Finished, Refused, 
 use Rattle.model.specs.Below.{sumBelow, joinBelow}
 use Rattle.model.specs.Sizes.{slotsIn, widthIn}
 use Rattle.model.specs.World.{World}
-use Rattle.model.specs.Call.{Call, format, begin, update, look, commit, abort, checkpointBegin, checkpointStep, checkpointEnd, restartBegin, restartStep, restartRun, restartEnd, newState}
+use Rattle.model.specs.Call.{Call, format, begin, update, look, commit, abort, setClasses, checkpointBegin, checkpointStep, checkpointEnd, restartBegin, restartStep, restartRun, restartEnd, newState}
 
 -- An entry: page, slot and value.
 pub record Write : Type 0 where
@@ -49,12 +49,13 @@ pub record Heard : Type 0 where
   pub number : ℕ
 
 abbrev pub isBegin : Call → Bool
-isBegin begin = true
+isBegin (begin class) = true
 isBegin (format s budget) = false
 isBegin (update number page slot value budget) = false
 isBegin (look q) = false
 isBegin (commit number budget) = false
 isBegin (abort number budget) = false
+isBegin (setClasses lines) = false
 isBegin checkpointBegin = false
 isBegin (checkpointStep budget) = false
 isBegin (checkpointEnd budget) = false
@@ -114,7 +115,7 @@ abbrev pub afterTaken : Call → ℕ → Reference → Reference
 -- a format makes a new book; in a list of events it is only ever refused
 afterTaken (format s budget) n r = blank s
 -- "Begin taken: an empty sheet under the number answered."
-afterTaken begin n r = withSets r (record { number = n; writes = [] } ∷ r .writeSets)
+afterTaken (begin class) n r = withSets r (record { number = n; writes = [] } ∷ r .writeSets)
 -- "Update taken: page, slot and value go to the end of its sheet."
 afterTaken (update number page slot value budget) n r =
     withSets r (added number (record { page = page; slot = slot; value = value }) (r .writeSets))
@@ -127,6 +128,7 @@ afterTaken (abort number budget) n r = withSets r (removed number (r .writeSets)
 afterTaken newState n r = withSets r []
 -- "Any other call, and every refused one: nothing."
 afterTaken (look q) n r = r
+afterTaken (setClasses lines) n r = r
 afterTaken checkpointBegin n r = r
 afterTaken (checkpointStep budget) n r = r
 afterTaken (checkpointEnd budget) n r = r

@@ -13,8 +13,10 @@ use Rattle.model.specs.declared.Logs.{Logs}
 use Rattle.model.specs.declared.Table.{Table}
 use Rattle.model.specs.declared.Checkpoint.{Checkpoint}
 use Rattle.model.specs.declared.Replay.{Replay}
+use Rattle.model.specs.declared.Classes.{Classes}
 use Rattle.model.specs.declared.Core.{Core}
 use Rattle.model.specs.Below.{within, sumBelow, allBelow, firstBelow, listBelow}
+use Rattle.model.specs.Classes.{noClasses}
 use Rattle.model.specs.Sizes.{widthIn, pageWords, pageBase, total, ringOf, sizesInBounds}
 
 -- "sixteen transactions may be open"; the bound of positions, checkpoint numbers and transaction numbers
@@ -50,12 +52,12 @@ emptyLogs tails = record { starts = tails; tails = tails; fills = replicate 8 0 
 
 unfoldable pub newCore : Core
 newCore =
-    record { stage = Shut; sizes = noSizes; bases = noBases; epoch = 0; logs = emptyLogs (replicate 8 0); table = noTable; next = 0; checkpoint = noCheckpoint; replay = noReplay }
+    record { stage = Shut; sizes = noSizes; bases = noBases; epoch = 0; logs = emptyLogs (replicate 8 0); table = noTable; next = 0; checkpoint = noCheckpoint; replay = noReplay; classes = noClasses }
 
 -- An open state with no transaction, as format and restart end leave it: "next number, from 1 after a format or restart".
 unfoldable pub openCore : Sizes → ℕ → List ℕ → Core
 openCore sizes epoch tails =
-    record { stage = Open; sizes = sizes; bases = basesOf sizes; epoch = epoch; logs = emptyLogs tails; table = noTable; next = 1; checkpoint = noCheckpoint; replay = noReplay }
+    record { stage = Open; sizes = sizes; bases = basesOf sizes; epoch = epoch; logs = emptyLogs tails; table = noTable; next = 1; checkpoint = noCheckpoint; replay = noReplay; classes = noClasses }
 
 -- The state that a restart begin leaves: its steps go on from the starts and from page 0.
 abbrev pub replayingCore : Sizes → ℕ → List ℕ → List ℕ → Core
@@ -70,13 +72,14 @@ replayingCore sizes epoch starts tails =
       next = 0;
       checkpoint = noCheckpoint;
       replay = record { positions = starts; page = 0 };
+      classes = noClasses;
     }
 
 -- States with some parts changed. Only in this file is a state written out field by field.
 -- other logs, another table and another next number
 abbrev pub servingWith : Core → Logs → Table → ℕ → Core
 servingWith c logs table next =
-    record { stage = c .stage; sizes = c .sizes; bases = c .bases; epoch = c .epoch; logs = logs; table = table; next = next; checkpoint = c .checkpoint; replay = c .replay }
+    record { stage = c .stage; sizes = c .sizes; bases = c .bases; epoch = c .epoch; logs = logs; table = table; next = next; checkpoint = c .checkpoint; replay = c .replay; classes = c .classes }
 
 -- after a begin: another table, and the next number
 abbrev pub begunWith : Core → Table → Core
@@ -85,16 +88,21 @@ begunWith c table = servingWith c (c .logs) table (c .next + 1)
 -- a checkpoint under way
 abbrev pub withCheckpoint : Core → Stage → Checkpoint → Core
 withCheckpoint c stage checkpoint =
-    record { stage = stage; sizes = c .sizes; bases = c .bases; epoch = c .epoch; logs = c .logs; table = c .table; next = c .next; checkpoint = checkpoint; replay = c .replay }
+    record { stage = stage; sizes = c .sizes; bases = c .bases; epoch = c .epoch; logs = c .logs; table = c .table; next = c .next; checkpoint = checkpoint; replay = c .replay; classes = c .classes }
 
 -- the checkpoint under way ended: it is the current one, with these logs
 abbrev pub switchedTo : Core → Logs → Core
 switchedTo c logs =
-    record { stage = Open; sizes = c .sizes; bases = c .bases; epoch = c .epoch + 1; logs = logs; table = c .table; next = c .next; checkpoint = noCheckpoint; replay = c .replay }
+    record { stage = Open; sizes = c .sizes; bases = c .bases; epoch = c .epoch + 1; logs = logs; table = c .table; next = c .next; checkpoint = noCheckpoint; replay = c .replay; classes = c .classes }
 
 unfoldable pub withReplay : Core → Replay → Core
 withReplay c r =
-    record { stage = c .stage; sizes = c .sizes; bases = c .bases; epoch = c .epoch; logs = c .logs; table = c .table; next = c .next; checkpoint = c .checkpoint; replay = r }
+    record { stage = c .stage; sizes = c .sizes; bases = c .bases; epoch = c .epoch; logs = c .logs; table = c .table; next = c .next; checkpoint = c .checkpoint; replay = r; classes = c .classes }
+
+-- another table of classes
+abbrev pub withClasses : Core → Classes → Core
+withClasses c classes =
+    record { stage = c .stage; sizes = c .sizes; bases = c .bases; epoch = c .epoch; logs = c .logs; table = c .table; next = c .next; checkpoint = c .checkpoint; replay = c .replay; classes = classes }
 
 -- the state with other logs and another table
 unfoldable pub withLog : Core → Logs → Table → Core

@@ -22,23 +22,23 @@ use Rattle.model.specs.Append.{Appended, append, flush}
 unfoldable pub diskOf : Core → ℕ → ℕ
 diskOf c number = diskAtPlace (c .table) (placeOf (c .table) number)
 
--- Begin: "next number", and the idlest disk "among those with log room" (specs/Room.antt). "Begin needs 2."
-unfoldable pub beginRows : Core → World → List Row
-beginRows c w =
+-- Begin: "next number", and the idlest disk "with room within its set", the class's (specs/Room.antt). "Begin needs 2."
+unfoldable pub beginRows : Core → World → (class : ℕ) → List Row
+beginRows c w class =
     row 1 (stageForbids whenServing (countsFit c) c) ∷ row 2 (anchorWrong (w .anchor)) ∷ row 5 (lengthsWrong (c .sizes) (c .bases .total) w) ∷ row 12 (tableFull c)
-    ∷ row 13 (spent (c .next)) ∷ row 14 (leb noDisk (idlest c 2)) ∷ []
+    ∷ row 13 (spent (c .next)) ∷ row 14 (leb noDisk (idlest c class 2)) ∷ []
 
 -- its first position is set by its first update; it takes the lowest free place
-unfoldable pub begun : Core → Core
-begun c =
+unfoldable pub begun : Core → (class : ℕ) → Core
+begun c class =
     begunWith c
     (withReserved (withPlace (c .table) (placeOf (c .table) 0) (c .next) disk 0 2) disk (reservedOn (c .table) disk + 2))
   where
     disk : ℕ
-    disk = idlest c 2
+    disk = idlest c class 2
 
-unfoldable pub beginTask : Core → World → Task
-beginTask c w = record { actions = []; core = begun c; value = c .next }
+unfoldable pub beginTask : Core → World → (class : ℕ) → Task
+beginTask c w class = record { actions = []; core = begun c class; value = c .next }
 
 -- Update: "record appended, slot changed. The slot is held until its transaction closes. An equal value is still logged."
 unfoldable pub slotWords : Core → World → ℕ → ℕ → List ℕ

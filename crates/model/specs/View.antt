@@ -78,6 +78,7 @@ coreIn h head =
       next = h .next;
       checkpoint = record { ends = h .ends; copied = h .copied };
       replay = record { positions = part headPositions 8 head; page = getD head headPage 0 };
+      classes = h .classes;
     }
 
 -- A shut state has nothing in the work memory, and one of another length than the state's sizes give is not its own.
@@ -103,6 +104,7 @@ carriedOf c =
       starts = c .logs .starts;
       tails = c .logs .tails;
       ends = c .checkpoint .ends;
+      classes = c .classes;
     }
 
 -- the lists of the head, in their order

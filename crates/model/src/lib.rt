@@ -52,6 +52,13 @@ pub struct Replay {
     pub page: u64,
 }
 
+// Which disks serve which class of transactions, by line: lowest class, highest class, set of disks; zeros where there is no line.
+pub struct Classes {
+    pub lows: [u8; 16],
+    pub highs: [u8; 16],
+    pub sets: [u8; 16],
+}
+
 // The state by value: `epoch` is 01's checkpoint number c, `next` the number that the next begin answers.
 // Buffers, slot owners and copy numbers lie in the lent work memory.
 pub struct Core {
@@ -64,6 +71,7 @@ pub struct Core {
     pub next: u64,
     pub checkpoint: Checkpoint,
     pub replay: Replay,
+    pub classes: Classes,
 }
 
 // What a call answers; specs/Refusal.antt gives 01's number and values for each case.
@@ -126,7 +134,7 @@ pub struct Reply {
     pub core: Core,
 }
 
-// A state in two parts: what goes from call to call by value, 256 bytes; the rest of Core lies in the head of the lent work memory
+// A state in two parts: what goes from call to call by value, 304 bytes; the rest of Core lies in the head of the lent work memory
 // (specs/View.antt). `total` is 01's T, `copied` how many pages the checkpoint under way has copied, `ends` its ends.
 pub struct Carried {
     pub stage: Stage,
@@ -140,6 +148,7 @@ pub struct Carried {
     pub starts: [u64; 8],
     pub tails: [u64; 8],
     pub ends: [u64; 8],
+    pub classes: Classes,
 }
 
 // What a call hands back beside the lent slices and the budget, where the state is in two parts.
