@@ -30,7 +30,7 @@ changed c w = record { answer = Finished 0 0; budget = 0; core = c; world = act 
 
 pub script : List Step
 script =
-    does (format threePages plenty) ∷ does begin ∷ does begin ∷ does (update 1 0 0 (7 ∷ []) plenty) ∷ does (commit 2 plenty) ∷ changed
+    does (format threePages plenty) ∷ does (begin 0) ∷ does (begin 0) ∷ does (update 1 0 0 (7 ∷ []) plenty) ∷ does (commit 2 plenty) ∷ changed
     ∷ does (update 1 2 0 (1 ∷ 2 ∷ 3 ∷ []) plenty) ∷ does (update 1 0 0 (9 ∷ []) plenty) ∷ []
 
 pub torn : Machine

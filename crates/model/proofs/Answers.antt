@@ -26,12 +26,14 @@ use Rattle.model.specs.Abort.{abortFault, abortRows}
 use Rattle.model.specs.Checkpoint.{checkpointBeginRows, checkpointStepRows, checkpointEndRows}
 use Rattle.model.specs.Restart.{restartBeginRows, restartStepRows, restartEndRows}
 use Rattle.model.specs.Listing.{listing, listRows}
-use Rattle.model.specs.Call.{Call, format, begin, update, look, read, listLine, listLines, commit, abort, checkpointBegin, checkpointStep, checkpointEnd, restartBegin, restartStep, restartRun, restartEnd, newState, rowsOf, resultOf}
+use Rattle.model.specs.Classes.{classCount, lineCount, notATable, wrongLine, uncoveredClass, twiceCovered}
+use Rattle.model.specs.SetClasses.{leastRow, workWrong, setClassesRows}
+use Rattle.model.specs.Call.{Call, format, begin, update, look, read, listLine, listLines, commit, abort, setClasses, checkpointBegin, checkpointStep, checkpointEnd, restartBegin, restartStep, restartRun, restartEnd, newState, rowsOf, resultOf}
 use Rattle.model.specs.Reference.{Reference, taken, outcomeOf}
 use Rattle.model.specs.Machine.{Machine, Event, result, outcome, isRefused, follow, allowedAll, formatted}
 use Rattle.model.specs.History.{Told}
 use Rattle.model.specs.Promise.{Always}
-use Rattle.model.specs.Answers.{stagesOf, fitsCall, isFormat, bytesWrong, ClosingTaken, OwnSlices}
+use Rattle.model.specs.Answers.{stagesOf, fitsCall, isFormat, besideWrong, ClosingTaken, OwnSlices}
 use Rattle.model.proofs.Sound.Test.{replay-sound}
 use Rattle.model.proofs.KeptBases.{total-kept}
 use Rattle.model.proofs.Booleans.{true-false}
@@ -50,12 +52,12 @@ use Rattle.model.proofs.Sound.Made.{stage-alone, stage-answers}
 use Rattle.model.proofs.PowerLoss.{holds-after}
 
 -- What holds of a machine that a list of events reached, as far as refusals go.
-record Right (c : Core) (w : World) : Type 0 where
-  sound : sound c ≡ true
-  restarts : Restartable w
-  lengths : whenShut (c .stage) ≡ false → lengthsRight (c .sizes) (c .bases .total) w ≡ true
-  replays : whenReplaying (c .stage) ≡ true → Progress c w
-  aborts : whenServing (c .stage) ≡ true → (number : ℕ) → abortFault c w number ≡ NoFault
+pub record Right (c : Core) (w : World) : Type 0 where
+  pub sound : sound c ≡ true
+  pub restarts : Restartable w
+  pub lengths : whenShut (c .stage) ≡ false → lengthsRight (c .sizes) (c .bases .total) w ≡ true
+  pub replays : whenReplaying (c .stage) ≡ true → Progress c w
+  pub aborts : whenServing (c .stage) ≡ true → (number : ℕ) → abortFault c w number ≡ NoFault
 
 -- the slices have the lengths that the state's sizes give, and T that it keeps
 right-lengths : {puts : Told} {m : Machine} {r : Reference} → sound (m .core) ≡ true → Holding puts m r → whenShut (m .core .stage) ≡ false
@@ -65,7 +67,7 @@ right-lengths ok (replaying p k n _) e =
     rw (total-kept _ (replay-sound _ (ap whenReplaying (p .stage)) ok .bases), p .sizes) (k .restartable .lengths)
 right-lengths ok (serving g) e = rw (total-kept _ (g .serving .safe .devices .bases)) (g .serving .safe .devices .lengths)
 
-reached : (m : Machine) (s : Sizes) (budget : ℕ) → outcome m (format s budget) ≡ taken → (es : List Event)
+pub reached : (m : Machine) (s : Sizes) (budget : ℕ) → outcome m (format s budget) ≡ taken → (es : List Event)
     → allowedAll es (formatted m s budget .machine) ≡ true
     → Right (follow es (formatted m s budget) .machine .core) (follow es (formatted m s budget) .machine .world)
 reached m s budget formats es a =
@@ -84,11 +86,17 @@ module _ (c : Core) (w : World) (right : Right c w) where
   anchor-right = rw (eq-eqb (length (w .anchor)) anchorWords (right .restarts .image .long))
 
   -- rows 1, 2 and 5, which every call but format, restart begin and a new state has first
-  first-three : (k : Call) → stagesOf k Shut ≡ false → stagesOf k (c .stage) ≡ true → (rest : List Row)
+  pub first-three : (k : Call) → stagesOf k Shut ≡ false → stagesOf k (c .stage) ≡ true → (rest : List Row)
       → verdict (row 1 (stageForbids (stagesOf k) (fitsCall k c w) c) ∷ row 2 (anchorWrong (w .anchor)) ∷ row 5 (lengthsWrong (c .sizes) (c .bases .total) w) ∷ rest) ≡ verdict rest
   unfolding verdict lengthsWrong
   first-three k none stage rest =
       rw (stage-alone k c w (right .sound), stage, anchor-right, right .lengths (not-shut (stagesOf k) none (c .stage) stage))
+
+  -- the work memory of an open store has its length
+  own-work : whenServing (c .stage) ≡ true → workWrong c w ≡ false
+  unfolding workWrong
+  own-work stage =
+      rw (eq-eqb _ _ (lengths-right (c .sizes) (c .bases .total) w (right .lengths (not-shut whenServing refl (c .stage) stage)) .work))
 
 -- In its stage a call's verdict is that of rows above 7.
 record Late (k : Call) (c : Core) (w : World) : Type 0 where
@@ -130,10 +138,29 @@ module _ (c : Core) (w : World) (right : Right c w) where
         same = ap verdict rows ∙ rw (none, shut-stage (c .stage) stage) (list-verdict (w .anchor) (w .logs) (right .restarts .image) long number);
       }
 
-  late-rows : (k : Call) → isFormat k ≡ false → bytesWrong k ≡ false → stagesOf k (c .stage) ≡ true → Late k c w
+  -- a table of classes has rows 1 and 5 first
+  late-classes : (lines : List ℕ) → notATable lines ≡ false → whenServing (c .stage) ≡ true → Late (setClasses lines) c w
+  unfolding ascendingFrom verdict setClassesRows workWrong
+  late-classes lines none stage =
+      record {
+        rest = leastRow 17 (wrongLine (c .sizes .disks) lines) (lineCount lines)
+            ∷ leastRow 18 (uncoveredClass lines) classCount ∷ leastRow 19 (twiceCovered lines) classCount ∷ [];
+        late = refl;
+        same = rw (stage-alone (setClasses lines) c w (right .sound), stage, own-work c w right stage, none);
+      }
+
+  -- lines of a wrong length
+  five-classes : (lines : List ℕ) → notATable lines ≡ true → whenServing (c .stage) ≡ true → numberOf (resultOf (setClasses lines) c w .answer) ≡ 5
+  unfolding verdict setClassesRows workWrong
+  five-classes lines wrong stage =
+      let v : verdict (setClassesRows c w lines) ≡ rejected 5 0 0 =
+      rw (stage-alone (setClasses lines) c w (right .sound), stage, own-work c w right stage, wrong) in
+      rw (refused-leaves (setClasses lines) c w 5 0 0 v) refl
+
+  late-rows : (k : Call) → isFormat k ≡ false → besideWrong k ≡ false → stagesOf k (c .stage) ≡ true → Late k c w
   unfolding ascendingFrom beginRows updateRows readRows commitRows abortRows checkpointBeginRows checkpointStepRows checkpointEndRows restartStepRows restartEndRows
   late-rows (format s budget) other bytes stage = true-false refl other
-  late-rows begin other bytes stage = record { rest = _; late = refl; same = first-three c w right begin refl stage _ }
+  late-rows (begin class) other bytes stage = record { rest = _; late = refl; same = first-three c w right (begin class) refl stage _ }
   late-rows (update number page slot value budget) other bytes stage =
       record { rest = _; late = refl; same = first-three c w right (update number page slot value budget) refl stage _ }
   late-rows (look (read reader page slot)) other bytes stage =
@@ -147,6 +174,7 @@ module _ (c : Core) (w : World) (right : Right c w) where
         late = refl;
         same = first-three c w right (abort number budget) refl stage _ ∙ fourth _ (row 9 _ ∷ []) (right .aborts stage number);
       }
+  late-rows (setClasses lines) other beside stage = late-classes lines beside stage
   late-rows checkpointBegin other bytes stage = record { rest = _; late = refl; same = first-three c w right checkpointBegin refl stage _ }
   late-rows (checkpointStep budget) other bytes stage = record { rest = _; late = refl; same = first-three c w right (checkpointStep budget) refl stage _ }
   late-rows (checkpointEnd budget) other bytes stage = record { rest = _; late = refl; same = first-three c w right (checkpointEnd budget) refl stage _ }
@@ -161,7 +189,7 @@ module _ (c : Core) (w : World) (right : Right c w) where
   late-rows (restartEnd budget) other bytes stage = record { rest = _; late = refl; same = first-three c w right (restartEnd budget) refl stage _ }
   late-rows newState other bytes stage = record { rest = []; late = refl; same = refl }
 
-  own-late : (k : Call) → isFormat k ≡ false → bytesWrong k ≡ false → within 2 7 (numberOf (resultOf k c w .answer)) ≡ false
+  own-late : (k : Call) → isFormat k ≡ false → besideWrong k ≡ false → within 2 7 (numberOf (resultOf k c w .answer)) ≡ false
   unfolding within
   own-late k other bytes = go (stagesOf k (c .stage)) refl
     where
@@ -183,23 +211,24 @@ module _ (c : Core) (w : World) (right : Right c w) where
       ap verdict rows ∙ rw (some, shut-stage (c .stage) stage) (list-bytes (w .anchor) (w .logs) (right .restarts .image) number) in
       rw (refused-leaves k c w 5 0 0 v) refl
 
-  own-bytes : (k : Call) → bytesWrong k ≡ true → stagesOf k (c .stage) ≡ true → numberOf (resultOf k c w .answer) ≡ 5
-  own-bytes (look (read reader page slot)) wrong stage = true-false refl (sym wrong)
-  own-bytes (look (listLine number bytes)) wrong stage = five-bytes (look (listLine number bytes)) _ number refl wrong stage
-  own-bytes (look (listLines first bytes)) wrong stage = five-bytes (look (listLines first bytes)) _ first refl wrong stage
-  own-bytes (format s budget) wrong stage = true-false refl (sym wrong)
-  own-bytes begin wrong stage = true-false refl (sym wrong)
-  own-bytes (update number page slot value budget) wrong stage = true-false refl (sym wrong)
-  own-bytes (commit number budget) wrong stage = true-false refl (sym wrong)
-  own-bytes (abort number budget) wrong stage = true-false refl (sym wrong)
-  own-bytes checkpointBegin wrong stage = true-false refl (sym wrong)
-  own-bytes (checkpointStep budget) wrong stage = true-false refl (sym wrong)
-  own-bytes (checkpointEnd budget) wrong stage = true-false refl (sym wrong)
-  own-bytes restartBegin wrong stage = true-false refl (sym wrong)
-  own-bytes (restartStep source) wrong stage = true-false refl (sym wrong)
-  own-bytes (restartRun source most) wrong stage = true-false refl (sym wrong)
-  own-bytes (restartEnd budget) wrong stage = true-false refl (sym wrong)
-  own-bytes newState wrong stage = true-false refl (sym wrong)
+  own-beside : (k : Call) → besideWrong k ≡ true → stagesOf k (c .stage) ≡ true → numberOf (resultOf k c w .answer) ≡ 5
+  own-beside (look (read reader page slot)) wrong stage = true-false refl (sym wrong)
+  own-beside (look (listLine number bytes)) wrong stage = five-bytes (look (listLine number bytes)) _ number refl wrong stage
+  own-beside (look (listLines first bytes)) wrong stage = five-bytes (look (listLines first bytes)) _ first refl wrong stage
+  own-beside (format s budget) wrong stage = true-false refl (sym wrong)
+  own-beside (begin class) wrong stage = true-false refl (sym wrong)
+  own-beside (update number page slot value budget) wrong stage = true-false refl (sym wrong)
+  own-beside (commit number budget) wrong stage = true-false refl (sym wrong)
+  own-beside (abort number budget) wrong stage = true-false refl (sym wrong)
+  own-beside (setClasses lines) wrong stage = five-classes lines wrong stage
+  own-beside checkpointBegin wrong stage = true-false refl (sym wrong)
+  own-beside (checkpointStep budget) wrong stage = true-false refl (sym wrong)
+  own-beside (checkpointEnd budget) wrong stage = true-false refl (sym wrong)
+  own-beside restartBegin wrong stage = true-false refl (sym wrong)
+  own-beside (restartStep source) wrong stage = true-false refl (sym wrong)
+  own-beside (restartRun source most) wrong stage = true-false refl (sym wrong)
+  own-beside (restartEnd budget) wrong stage = true-false refl (sym wrong)
+  own-beside newState wrong stage = true-false refl (sym wrong)
 
 -- a format's rows are 1, 4 and 5: the anchor has its length
 unfoldable formatNumber : ℕ → Bool
@@ -259,6 +288,6 @@ own-slices m s budget formats es a k =
     record {
       stage = stage-answers k _ _ (right .sound);
       slices = own-late _ _ right k;
-      bytes = own-bytes _ _ right k;
+      beside = own-beside _ _ right k;
       formats = λ sizes b is. rw is (own-format _ _ right sizes b);
     }

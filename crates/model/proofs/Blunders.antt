@@ -120,9 +120,9 @@ twoDisks = record { pages = 1; disks = 2; ring = 128; slots = 2 ∷ replicate 63
 handOver : Step → Machine
 handOver committing =
     play (
-    does (format twoDisks plenty) ∷ does begin ∷ does (update 1 0 0 (2 ∷ []) plenty) ∷ does (commit 1 plenty)
-    ∷ does begin ∷ does (update 2 0 0 (12 ∷ []) plenty) ∷ committing
-    ∷ does begin ∷ does (update 3 0 0 (5 ∷ []) plenty) ∷ does (commit 3 plenty) ∷ []
+    does (format twoDisks plenty) ∷ does (begin 0) ∷ does (update 1 0 0 (2 ∷ []) plenty) ∷ does (commit 1 plenty)
+    ∷ does (begin 0) ∷ does (update 2 0 0 (12 ∷ []) plenty) ∷ committing
+    ∷ does (begin 0) ∷ does (update 3 0 0 (5 ∷ []) plenty) ∷ does (commit 3 plenty) ∷ []
     ) (unformatted twoDisks)
 
 slotBy : (ℕ → Step) → Machine → ℕ
@@ -158,17 +158,17 @@ committedSlot s calls = getD (wordsIn (follow (map call calls) (formatted (unfor
 
 -- slot 0 committed as 2, then a second transaction that sets it to 12
 first : List Call
-first = begin ∷ update 1 0 0 (2 ∷ []) plenty ∷ commit 1 plenty ∷ []
+first = begin 0 ∷ update 1 0 0 (2 ∷ []) plenty ∷ commit 1 plenty ∷ []
 
 second : List Call
-second = begin ∷ update 2 0 0 (12 ∷ []) plenty ∷ []
+second = begin 0 ∷ update 2 0 0 (12 ∷ []) plenty ∷ []
 
 pub referenced : List ℕ
 referenced =
     committedSlot (small 1) (first ++ second ++ checkpointBegin ∷ abort 2 plenty ∷ checkpointStep plenty ∷ checkpointEnd plenty ∷ [])
     ∷ committedSlot (small 1) (first ++ checkpointBegin ∷ checkpointStep plenty ∷ second ++ commit 2 plenty ∷ checkpointEnd plenty ∷ [])
     ∷ committedSlot (small 1) (first ++ checkpointBegin ∷ second ++ checkpointStep plenty ∷ commit 2 plenty ∷ checkpointEnd plenty ∷ [])
-    ∷ committedSlot twoDisks (first ++ second ++ commit 2 plenty ∷ begin ∷ update 3 0 0 (5 ∷ []) plenty ∷ commit 3 plenty ∷ [])
+    ∷ committedSlot twoDisks (first ++ second ++ commit 2 plenty ∷ begin 0 ∷ update 3 0 0 (5 ∷ []) plenty ∷ commit 3 plenty ∷ [])
     ∷ []
 
 opens : ℕ

@@ -21,13 +21,13 @@ restart steps = scramble (9 ∷ 9 ∷ []) (replicate 130 9) ∷ map call (restar
 
 -- a transaction of n updates of slot 0
 writing : ℕ → ℕ → List Event
-writing number n = call begin ∷ replicate n (call (update number 0 0 (12 ∷ []) plenty))
+writing number n = call (begin 0) ∷ replicate n (call (update number 0 0 (12 ∷ []) plenty))
 
 -- slot 0 is committed as 2; a commit of 12 is cut before its tail word, an abort inside its flush, a checkpoint before its
 -- last store
 pub events : List Event
 events =
-    map call (begin ∷ update 1 0 0 (2 ∷ []) plenty ∷ commit 1 plenty ∷ [])
+    map call (begin 0 ∷ update 1 0 0 (2 ∷ []) plenty ∷ commit 1 plenty ∷ [])
     ++ writing 2 1 ++ call (commit 2 6) ∷ [] ++ restart 4 ++ call (restartEnd plenty) ∷ []
     ++ writing 1 15 ++ call (abort 1 40) ∷ [] ++ restart 1 ++ call (restartEnd plenty) ∷ []
     ++ writing 1 1 ++ map call (checkpointBegin ∷ checkpointStep plenty ∷ checkpointEnd 6 ∷ []) ++ restart 2
@@ -37,13 +37,13 @@ start = unformatted (small 1)
 
 -- a committed update and one that is taken back
 pub few : List Event
-few = map call (begin ∷ update 1 0 0 (2 ∷ []) plenty ∷ commit 1 plenty ∷ begin ∷ update 2 0 0 (12 ∷ []) plenty ∷ abort 2 plenty ∷ [])
+few = map call (begin 0 ∷ update 1 0 0 (2 ∷ []) plenty ∷ commit 1 plenty ∷ begin 0 ∷ update 2 0 0 (12 ∷ []) plenty ∷ abort 2 plenty ∷ [])
 
 -- a checkpoint during which one transaction commits and another makes its first update, and the whole of a next one
 pub during : List Event
 during =
-    map call (begin ∷ update 1 0 0 (2 ∷ []) plenty ∷ checkpointBegin ∷ checkpointStep plenty ∷ commit 1 plenty
-    ∷ begin ∷ update 2 0 0 (12 ∷ []) plenty ∷ checkpointEnd plenty ∷ [])
+    map call (begin 0 ∷ update 1 0 0 (2 ∷ []) plenty ∷ checkpointBegin ∷ checkpointStep plenty ∷ commit 1 plenty
+    ∷ begin 0 ∷ update 2 0 0 (12 ∷ []) plenty ∷ checkpointEnd plenty ∷ [])
 
 pub next : List Event
 next = map call (checkpointBegin ∷ checkpointStep plenty ∷ checkpointEnd plenty ∷ [])

@@ -8,11 +8,11 @@ use Rattle.model.proofs.Positions.{plenty, small, fresh}
 
 -- transaction 1 holds the slot when the power goes
 unfoldable pub holding : List Step
-holding = does begin ∷ does (update 1 0 0 (12 ∷ []) plenty) ∷ []
+holding = does (begin 0) ∷ does (update 1 0 0 (12 ∷ []) plenty) ∷ []
 
 -- after the restart there is a transaction 1 again, and transaction 2 sets the slot
 unfoldable pub afterwards : List Step
-afterwards = does begin ∷ does begin ∷ does (update 2 0 0 (5 ∷ []) plenty) ∷ []
+afterwards = does (begin 0) ∷ does (begin 0) ∷ does (update 2 0 0 (5 ∷ []) plenty) ∷ []
 
 -- none of these calls is refused: 11 would be the old number's lock
 pub held-no-more : numbers afterwards (restartBy (λ source. does (restartStep source)) plenty (play holding fresh)) ≡ 0 ∷ 0 ∷ 0 ∷ []

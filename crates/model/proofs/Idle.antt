@@ -19,11 +19,11 @@ hallSizes = record { pages = 2; disks = 2; ring = 128; slots = 4 ∷ 4 ∷ repli
 unfoldable pub rounds : ℕ → ℕ → List Call
 rounds zero t = []
 rounds (suc n) t =
-    begin ∷ update t 0 0 (t ∷ []) plenty ∷ commit t plenty ∷ checkpointBegin ∷ checkpointStep plenty ∷ checkpointStep plenty
+    begin 0 ∷ update t 0 0 (t ∷ []) plenty ∷ commit t plenty ∷ checkpointBegin ∷ checkpointStep plenty ∷ checkpointStep plenty
     ∷ checkpointEnd plenty ∷ rounds n (t + 1)
 
 unfoldable pub idleBeside : ℕ → List Call
-idleBeside n = format hallSizes plenty ∷ begin ∷ rounds n 2
+idleBeside n = format hallSizes plenty ∷ begin 0 ∷ rounds n 2
 
 by-stage : numbers (map byStage (idleBeside 30)) (unformatted hallSizes) ≡ replicate 212 0
 unfolding everything rest byStage numbers unformatted hallSizes rounds idleBeside

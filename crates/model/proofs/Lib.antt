@@ -56,6 +56,10 @@ pub mod Remaining
 pub mod Finish
 pub mod Answers
 pub mod ListingShows
+-- Classes of transactions.
+pub mod ClassLines
+pub mod ClassTables
+pub mod TwoTables
 -- The state by value and in the lent work memory.
 pub mod View
 -- Computed tables.
@@ -66,6 +70,7 @@ pub mod Positions
 pub mod Blunders
 pub mod Idle
 pub mod BeginDisk
+pub mod ClassDisks
 pub mod OnesTold
 pub mod OnPaper
 pub mod Held

@@ -96,6 +96,14 @@ module _ (eligible : ℕ → Bool) (load : ℕ → ℕ) where
       go (inl d) = absurd (omega (arith, d .below))
       go (inr d) = d .none
 
+  -- where none is, none is found
+  pub idlest-no : (n : ℕ) → n ≤ 8 → ((i : ℕ) → i < n → eligible i ≡ false) → idlestBelow eligible load n ≡ noDisk
+  idlest-no n h none = go (idlest-chosen n h)
+    where
+      go : Chosen eligible load n (idlestBelow eligible load n) → idlestBelow eligible load n ≡ noDisk
+      go (inl d) = absurd (true≢false (sym (d .passes) ∙ none _ (d .below)))
+      go (inr d) = d .eight
+
 -- "A start is the remembered end, or the first record of a transaction of that disk still open, if that is smaller."
 abbrev pub Holds : Table → ℕ → ℕ → Type 0
 Holds t disk i = (servedBy t disk i ≡ true) × (hasUpdate t i ≡ true)

@@ -17,8 +17,8 @@ use Rattle.model.proofs.Positions.{small, plenty}
 -- their heading seven lines.
 pub written : List Call
 written =
-    format (small 1) plenty ∷ begin ∷ update 1 0 0 (2 ∷ []) plenty ∷ commit 1 plenty ∷ begin ∷ update 2 0 1 (7 ∷ []) plenty ∷ abort 2 plenty
-    ∷ begin ∷ commit 3 plenty ∷ newState ∷ []
+    format (small 1) plenty ∷ begin 0 ∷ update 1 0 0 (2 ∷ []) plenty ∷ commit 1 plenty ∷ begin 0 ∷ update 2 0 1 (7 ∷ []) plenty ∷ abort 2 plenty
+    ∷ begin 0 ∷ commit 3 plenty ∷ newState ∷ []
 
 pub paper : Machine
 paper = play (map does written) (unformatted (small 1))

@@ -113,7 +113,7 @@ ones-told m z budget formats es a k =
 -- four. Then the same again: none. The abort takes all three back: five bits, where its last compensation alone has three.
 pub chatter : List Call
 chatter =
-    format (small 2) plenty ∷ begin ∷ update 1 0 0 (5 ∷ 1 ∷ []) plenty ∷ update 1 0 0 (6 ∷ 1 ∷ []) plenty ∷ update 1 0 0 (6 ∷ 1 ∷ []) plenty
+    format (small 2) plenty ∷ begin 0 ∷ update 1 0 0 (5 ∷ 1 ∷ []) plenty ∷ update 1 0 0 (6 ∷ 1 ∷ []) plenty ∷ update 1 0 0 (6 ∷ 1 ∷ []) plenty
     ∷ abort 1 plenty ∷ []
 
 pub chatter-computed : shows answered (map does chatter) (unformatted (small 2)) ≡ 0 ∷ 1 ∷ 3 ∷ 2 ∷ 0 ∷ 5 ∷ []

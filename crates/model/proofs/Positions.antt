@@ -26,11 +26,11 @@ fresh = play (does (format (small 1) plenty) ∷ []) (unformatted (small 1))
 
 -- "slot 0 committed as 2"
 unfoldable pub setUp : Machine
-setUp = play (does begin ∷ does (update 1 0 0 (2 ∷ []) plenty) ∷ does (commit 1 plenty) ∷ []) fresh
+setUp = play (does (begin 0) ∷ does (update 1 0 0 (2 ∷ []) plenty) ∷ does (commit 1 plenty) ∷ []) fresh
 
 -- a second transaction that sets the slot to 12
 unfoldable pub twelve : List Step
-twelve = does begin ∷ does (update 2 0 0 (12 ∷ []) plenty) ∷ []
+twelve = does (begin 0) ∷ does (update 2 0 0 (12 ∷ []) plenty) ∷ []
 
 abbrev pub mark : Step
 mark = does checkpointBegin
@@ -87,7 +87,7 @@ second =
 unfoldable third : List ℕ
 third =
     -- P9 freshly formatted, one transaction: 15 updates fit, each answers 0. P10 the 16th answers 14.
-    numbers (updates 16) (play (does begin ∷ []) fresh)
+    numbers (updates 16) (play (does (begin 0) ∷ []) fresh)
     -- P11 slot length 32 accepted, 33 answers 4
     ++ answers [] (format (small 32) plenty) (unformatted (small 32))
     ∷ answers [] (format (small 33) plenty) (unformatted (small 33))

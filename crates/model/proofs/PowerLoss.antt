@@ -41,7 +41,7 @@ use Rattle.model.proofs.Sound.Test.{Passing}
 use Rattle.model.proofs.Sound.Lists.{event-passes, formatted-passes}
 
 -- what the reference hears of a refused call changes nothing
-heard-refused : (k : Call) (c : Core) (w : World) (a : Answer) (r : Reference) → isRefused (outcomeOf a) ≡ true
+pub heard-refused : (k : Call) (c : Core) (w : World) (a : Answer) (r : Reference) → isRefused (outcomeOf a) ≡ true
     → hear (heardOf k c w a) r ≡ r
 unfolding hear
 heard-refused k c w (Finished n v) r e = true-false e refl
@@ -95,17 +95,19 @@ pub always : (P : Machine → Reference → Type 0) → ((puts : Told) (m : Mach
 unfolding Always
 always P f m s budget formats events a = f _ _ _ (holds-after m s budget formats events a)
 
+-- a restart end that is taken leaves the committed contents
+pub end-leaves : (puts : Told) (m : Machine) (r : Reference) → Holding puts m r → (budget : ℕ) → outcome m (restartEnd budget) ≡ taken
+    → result m (restartEnd budget) .world .pages ≡ wordsIn (r .committed)
+unfolding result outcome restartEndRows
+end-leaves puts m r h budget o =
+    let t = taken-call (restartEnd budget) (m .core) (m .world) o in
+    let k = replayed h (row-one whenReplaying _ (m .core) _ (t .accepted)) in
+    end-gives (m .core) (m .world) budget (k .progress) o .0 ∙ k .kept .image
+
 -- The power-loss theorem: see specs/Promise.antt.
 pub power-loss : PowerLoss
-unfolding PowerLoss result outcome restartEndRows
-power-loss = always _ given
-  where
-    given : (puts : Told) (m : Machine) (r : Reference) → Holding puts m r → (budget : ℕ) → outcome m (restartEnd budget) ≡ taken
-        → result m (restartEnd budget) .world .pages ≡ wordsIn (r .committed)
-    given puts m r h budget o =
-        let t = taken-call (restartEnd budget) (m .core) (m .world) o in
-        let k = replayed h (row-one whenReplaying _ (m .core) _ (t .accepted)) in
-        end-gives (m .core) (m .world) budget (k .progress) o .0 ∙ k .kept .image
+unfolding PowerLoss
+power-loss = always _ end-leaves
 
 -- A restart begin of a shut store is refused for its number only.
 pub restart-accepted : RestartAccepted

@@ -15,7 +15,8 @@ use Rattle.model.specs.Abort.{abortRows}
 use Rattle.model.specs.Checkpoint.{checkpointBeginRows, checkpointStepRows, checkpointEndRows}
 use Rattle.model.specs.Restart.{restartBeginRows, restartStepRows, restartEndRows}
 use Rattle.model.specs.Listing.{listRows}
-use Rattle.model.specs.Call.{Call, format, begin, update, look, read, listLine, listLines, commit, abort, checkpointBegin, checkpointStep, checkpointEnd, restartBegin, restartStep, restartRun, restartEnd, newState, rowsOf, taskOf, budgetOf, resultOf}
+use Rattle.model.specs.SetClasses.{setClassesRows}
+use Rattle.model.specs.Call.{Call, format, begin, update, look, read, listLine, listLines, commit, abort, setClasses, checkpointBegin, checkpointStep, checkpointEnd, restartBegin, restartStep, restartRun, restartEnd, newState, rowsOf, taskOf, budgetOf, resultOf}
 use Rattle.model.specs.Machine.{Machine}
 use Rattle.model.specs.Answers.{stagesOf, fitsCall}
 use Rattle.model.proofs.Play.{Step, does, numbers}
@@ -43,15 +44,16 @@ module _ (c : Core) (w : World) (ok : sound c ≡ true) where
       first-row k rows = rw (stage-alone k c w ok)
 
   pub by-stage : (k : Call) → byStage k c w ≡ resultOf k c w
-  unfolding byStage resultOf rest verdict stageForbids formatRows beginRows updateRows readRows listRows commitRows abortRows checkpointBeginRows checkpointStepRows checkpointEndRows restartBeginRows restartStepRows restartEndRows
+  unfolding byStage resultOf rest verdict stageForbids formatRows beginRows updateRows readRows listRows commitRows abortRows setClassesRows checkpointBeginRows checkpointStepRows checkpointEndRows restartBeginRows restartStepRows restartEndRows
   by-stage (format s budget) = first-same (format s budget) _ refl
-  by-stage begin = first-same begin _ refl
+  by-stage (begin class) = first-same (begin class) _ refl
   by-stage (update number page slot value budget) = first-same (update number page slot value budget) _ refl
   by-stage (look (read reader page slot)) = first-same (look (read reader page slot)) _ refl
   by-stage (look (listLine number bytes)) = first-same (look (listLine number bytes)) _ refl
   by-stage (look (listLines first bytes)) = first-same (look (listLines first bytes)) _ refl
   by-stage (commit number budget) = first-same (commit number budget) _ refl
   by-stage (abort number budget) = first-same (abort number budget) _ refl
+  by-stage (setClasses lines) = first-same (setClasses lines) _ refl
   by-stage checkpointBegin = first-same checkpointBegin _ refl
   by-stage (checkpointStep budget) = first-same (checkpointStep budget) _ refl
   by-stage (checkpointEnd budget) = first-same (checkpointEnd budget) _ refl

@@ -29,6 +29,7 @@ pub mod Left
 pub mod Told
 pub mod BeginTable
 pub mod Begin
+pub mod SetClasses
 pub mod UpdateRoom
 pub mod UpdateOwners
 pub mod UpdateTable

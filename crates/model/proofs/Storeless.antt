@@ -15,18 +15,20 @@ use Rattle.model.specs.World.{World, Action, pages, perform, stores, fin
 use Rattle.model.specs.Refusal.{Task, Verdict, accepted, rejected, verdict, conclude}
 use Rattle.model.specs.Transaction.{beginTask}
 use Rattle.model.specs.Abort.{xorIn}
+use Rattle.model.specs.SetClasses.{setClassesTask}
 use Rattle.model.specs.Checkpoint.{checkpointBeginTask}
 use Rattle.model.specs.Restart.{replays, positionOf, readDisk, fateFrom, backupStep, recordStep, nextRecord, restartBeginTask, restartStepRows, restartStepTask, stepThen, restartRunTask}
-use Rattle.model.specs.Call.{Call, format, begin, update, look, commit, abort, checkpointBegin, checkpointStep, checkpointEnd, restartBegin, restartStep, restartRun, restartEnd, newState, rowsOf, taskOf, budgetOf, resultOf, lookTask}
+use Rattle.model.specs.Call.{Call, format, begin, update, look, commit, abort, setClasses, checkpointBegin, checkpointStep, checkpointEnd, restartBegin, restartStep, restartRun, restartEnd, newState, rowsOf, taskOf, budgetOf, resultOf, lookTask}
 use Rattle.model.proofs.Run.{stores-append, stores-written}
 
 abbrev pub storesNothing : Call → Bool
 storesNothing (format s budget) = false
-storesNothing begin = true
+storesNothing (begin class) = true
 storesNothing (update number page slot value budget) = false
 storesNothing (look q) = true
 storesNothing (commit number budget) = false
 storesNothing (abort number budget) = false
+storesNothing (setClasses lines) = true
 storesNothing checkpointBegin = true
 storesNothing (checkpointStep budget) = false
 storesNothing (checkpointEnd budget) = false
@@ -77,13 +79,14 @@ run-stores (suc n) c w source = go (verdict (restartStepRows c w source)) (run-s
     go accepted more = stores-append (step .actions) _ ∙ omega (arith, step-stores c w source, more)
 
 pub nothing-stored : (k : Call) (c : Core) (w : World) → storesNothing k ≡ true → stores (taskOf k c w .actions) ≡ 0
-unfolding stores beginTask lookTask checkpointBeginTask restartBeginTask
+unfolding stores beginTask lookTask setClassesTask checkpointBeginTask restartBeginTask
 nothing-stored (format s budget) c w h = absurd (false≢true h)
-nothing-stored begin c w h = refl
+nothing-stored (begin class) c w h = refl
 nothing-stored (update number page slot value budget) c w h = absurd (false≢true h)
 nothing-stored (look q) c w h = refl
 nothing-stored (commit number budget) c w h = absurd (false≢true h)
 nothing-stored (abort number budget) c w h = absurd (false≢true h)
+nothing-stored (setClasses lines) c w h = refl
 nothing-stored checkpointBegin c w h = refl
 nothing-stored (checkpointStep budget) c w h = absurd (false≢true h)
 nothing-stored (checkpointEnd budget) c w h = absurd (false≢true h)

@@ -14,7 +14,7 @@ use Rattle.model.specs.Memory.{lengthsRight}
 use Rattle.model.specs.State.{placeOf, isOpen, endOf, firstAt, reservedAt, hasUpdate, baseOf, basesRight, servingSound, checkpointSound, soundIn, sound}
 use Rattle.model.specs.Causes.{whenShut, whenReplaying, whenOpen, whenCopying, whenServing, stageForbids, lengthsWrong, slotMissing}
 use Rattle.model.specs.Reads.{countsFit, slotFits, placeFits, homeFits, scopeFits, sizesFit, abortFits, fitsOn, updateFits}
-use Rattle.model.specs.Call.{Call, format, begin, update, look, read, listLine, listLines, commit, abort, checkpointBegin, checkpointStep, checkpointEnd, restartBegin, restartStep, restartRun, restartEnd, newState}
+use Rattle.model.specs.Call.{Call, format, begin, update, look, read, listLine, listLines, commit, abort, setClasses, checkpointBegin, checkpointStep, checkpointEnd, restartBegin, restartStep, restartRun, restartEnd, newState}
 use Rattle.model.specs.Transaction.{diskOf}
 use Rattle.model.specs.Answers.{stagesOf, fitsCall}
 use Rattle.model.proofs.Booleans.{true-false, both, or-none, or-right}
@@ -127,7 +127,7 @@ module _ (c : Core) (ok : servingSound c ≡ true) where
 pub reads-pass : (k : Call) (c : Core) (w : World) → sound c ≡ true → stagesOf k (c .stage) ≡ true → fitsCall k c w ≡ true
 unfolding updateFits
 reads-pass (format s budget) c w ok stage = refl
-reads-pass begin c w ok stage = counts-pass c ok (not-shut whenServing refl (c .stage) stage)
+reads-pass (begin class) c w ok stage = counts-pass c ok (not-shut whenServing refl (c .stage) stage)
 reads-pass (update number page slot value budget) c w ok stage =
     let good = serving-sound c stage ok in
     fits-passes whenServing refl _ c w ok stage (rw (slot-passes c good page slot, home-passes c good number))
@@ -136,6 +136,7 @@ reads-pass (look (listLine number bytes)) c w ok stage = refl
 reads-pass (look (listLines first bytes)) c w ok stage = refl
 reads-pass (commit number budget) c w ok stage = fits-passes whenServing refl _ c w ok stage (home-passes c (serving-sound c stage ok) number)
 reads-pass (abort number budget) c w ok stage = fits-passes whenServing refl _ c w ok stage (abort-reads-pass c (serving-sound c stage ok) number)
+reads-pass (setClasses lines) c w ok stage = counts-pass c ok (not-shut whenServing refl (c .stage) stage)
 reads-pass checkpointBegin c w ok stage = fits-passes whenOpen refl _ c w ok stage ok
 reads-pass (checkpointStep budget) c w ok stage = fits-passes whenCopying refl _ c w ok stage ok
 reads-pass (checkpointEnd budget) c w ok stage = fits-passes whenCopying refl _ c w ok stage ok

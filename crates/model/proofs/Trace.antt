@@ -6,5 +6,6 @@ pub mod Table
 pub mod Commit
 pub mod Answers
 pub mod Listing
+pub mod TwoTables
 pub mod OtherWork
 pub mod Converse

@@ -20,7 +20,8 @@ use Rattle.model.specs.Anchor.{sizesOn, startOn}
 use Rattle.model.specs.Checkpoint.{checkpointBeginRows, checkpointStepRows, checkpointEndRows}
 use Rattle.model.specs.Restart.{imageRows, restartBeginRows, stepFault, restartStepRows, restartEndRows}
 use Rattle.model.specs.Listing.{listRows}
-use Rattle.model.specs.Call.{Call, format, begin, update, look, read, listLine, listLines, commit, abort, checkpointBegin, checkpointStep, checkpointEnd, restartBegin, restartStep, restartRun, restartEnd, newState, rowsOf, taskOf, budgetOf, resultOf}
+use Rattle.model.specs.SetClasses.{setClassesRows}
+use Rattle.model.specs.Call.{Call, format, begin, update, look, read, listLine, listLines, commit, abort, setClasses, checkpointBegin, checkpointStep, checkpointEnd, restartBegin, restartStep, restartRun, restartEnd, newState, rowsOf, taskOf, budgetOf, resultOf}
 use Rattle.model.proofs.Members.{Every, every-nil, every-cons}
 use Rattle.model.proofs.Run.{made-le}
 
@@ -122,15 +123,16 @@ fault-number NoFault = refl
 fault-number (BadRecord disk p) = refl
 
 pub rows-ascend : (k : Call) (c : Core) (w : World) → ascending (numbers (rowsOf k c w)) ≡ true
-unfolding ascending ascendingFrom formatRows beginRows updateRows readRows commitRows abortRows checkpointBeginRows checkpointStepRows checkpointEndRows imageRows listRows restartBeginRows restartStepRows restartEndRows
+unfolding ascending ascendingFrom formatRows beginRows updateRows readRows commitRows abortRows setClassesRows checkpointBeginRows checkpointStepRows checkpointEndRows imageRows listRows restartBeginRows restartStepRows restartEndRows
 rows-ascend (format s budget) c w = refl
-rows-ascend begin c w = refl
+rows-ascend (begin class) c w = refl
 rows-ascend (update number page slot value budget) c w = refl
 rows-ascend (look (read reader page slot)) c w = refl
 rows-ascend (look (listLine number bytes)) c w = rw (fault-number (faultFrom (sizesOn (w .anchor)) (startOn (w .anchor)) (w .logs) (sizesOn (w .anchor) .disks) 0))
 rows-ascend (look (listLines first bytes)) c w = rw (fault-number (faultFrom (sizesOn (w .anchor)) (startOn (w .anchor)) (w .logs) (sizesOn (w .anchor) .disks) 0))
 rows-ascend (commit number budget) c w = refl
 rows-ascend (abort number budget) c w = rw (fault-number (abortFault c w number))
+rows-ascend (setClasses lines) c w = refl
 rows-ascend checkpointBegin c w = refl
 rows-ascend (checkpointStep budget) c w = refl
 rows-ascend (checkpointEnd budget) c w = refl

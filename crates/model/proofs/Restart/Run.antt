@@ -1,13 +1,19 @@
 -- A run of restart steps is those steps, so what each of them keeps it keeps.
 use mathlib.Core.Path.{_≡_, refl, sym, ap, subst, _∙_}
+use mathlib.Core.Bool.{Bool, true, false, cond}
 use Prim.Native.Nat.{ℕ, zero, suc, _<_}
 use native.Mathlib.Omega.{arith}
 use native.Mathlib.Nat.{not-suc-le-zero}
+use lib.Dec.{ltb}
 use lib.ListN.{replicate}
+use Rattle.model.specs.declared.Replay.{Replay}
 use Rattle.model.specs.declared.Core.{Core}
+use Rattle.model.specs.declared.Decoded.{Decoded}
+use Rattle.model.specs.declared.Decoded.the-variants.{Change, Close, Malformed}
 use Rattle.model.specs.World.{World, perform}
+use Rattle.model.specs.State.{withReplay}
 use Rattle.model.specs.Refusal.{Verdict, accepted, rejected, verdict, Task, Result, firstOf}
-use Rattle.model.specs.Restart.{restartStepRows, restartStepTask, stepThen, restartRunTask}
+use Rattle.model.specs.Restart.{nextRecord, backupStep, movedTo, recordStep, restartStepRows, restartStepTask, stepThen, restartRunTask}
 use Rattle.model.specs.Reference.{taken, refused, outcomeOf}
 use Rattle.model.specs.Call.{Call, restartStep, restartRun, resultOf}
 use Rattle.model.specs.Machine.{Machine, call, result, outcome, after, afterSteps}
@@ -39,6 +45,26 @@ run-keeps (suc n) P source keeps c w p =
         → let t : Task = stepThen v step (λ c' w'. restartRunTask n c' w' source) c w in P (t .value) (t .core) (perform (t .actions) w)
     go (rejected number first second) e rest = p
     go accepted e rest = rw (perform-append (step .actions) (more .actions) w) (rest (keeps 0 c w e p))
+
+-- A step changes nothing of the state but how far the restart has come: what is read of a state, if it is the same however far that is,
+-- stays with a step and with a run.
+module _ {A : Type 0} (f : Core → A) (beside : (c : Core) (r : Replay) → f (withReplay c r) ≡ f c) where
+  record-beside : (c : Core) (w : World) (disk : ℕ) (d : Decoded) → f (recordStep c w disk d .core) ≡ f c
+  unfolding movedTo
+  record-beside c w disk (Change kind page slot number copy width next) = beside c _
+  record-beside c w disk (Close kind number next) = beside c _
+  record-beside c w disk Malformed = refl
+
+  pub step-beside : (c : Core) (w : World) (source : ℕ) → f (restartStepTask c w source .core) ≡ f c
+  unfolding restartStepTask backupStep
+  step-beside c w source = go (ltb source (c .sizes .disks))
+    where
+      go : (b : Bool) → f (cond b (recordStep c w source (nextRecord c w source)) (backupStep c w) .core) ≡ f c
+      go true = record-beside c w source (nextRecord c w source)
+      go false = beside c _
+
+  pub run-beside : (most : ℕ) (c : Core) (w : World) (source : ℕ) → f (restartRunTask most c w source .core) ≡ f c
+  run-beside most c w source = run-keeps most (λ k n v. f n ≡ f c) source (λ k n v ok now. step-beside n v source ∙ now) c w refl
 
 -- A machine and a task done on it.
 abbrev pub did : Machine → Task → Machine

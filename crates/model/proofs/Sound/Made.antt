@@ -19,7 +19,8 @@ use Rattle.model.specs.Abort.{abortRows}
 use Rattle.model.specs.Checkpoint.{checkpointBeginRows, checkpointStepRows, checkpointEndRows}
 use Rattle.model.specs.Restart.{restartBeginRows, restartStepRows, restartEndRows}
 use Rattle.model.specs.Listing.{listRows}
-use Rattle.model.specs.Call.{Call, format, begin, update, look, read, listLine, listLines, commit, abort, checkpointBegin, checkpointStep, checkpointEnd, restartBegin, restartStep, restartRun, restartEnd, newState, rowsOf, resultOf}
+use Rattle.model.specs.SetClasses.{setClassesRows}
+use Rattle.model.specs.Call.{Call, format, begin, update, look, read, listLine, listLines, commit, abort, setClasses, checkpointBegin, checkpointStep, checkpointEnd, restartBegin, restartStep, restartRun, restartEnd, newState, rowsOf, resultOf}
 use Rattle.model.specs.Reference.{taken}
 use Rattle.model.specs.Machine.{Machine, Event, call, lent, scramble, result, outcome, after, Run, follow, formatted}
 use Rattle.model.specs.Promise.{Always}
@@ -70,15 +71,16 @@ stage-first k c w rest rows ok = go (stagesOf k (c .stage)) refl
 
 pub stage-answers : (k : Call) (c : Core) (w : World) → sound c ≡ true
     → eqb (numberOf (resultOf k c w .answer)) 1 ≡ not (stagesOf k (c .stage))
-unfolding resultOf verdict finishes stores stageForbids formatRows beginRows updateRows readRows listRows commitRows abortRows checkpointBeginRows checkpointStepRows checkpointEndRows restartBeginRows restartStepRows restartEndRows
+unfolding resultOf verdict finishes stores stageForbids formatRows beginRows updateRows readRows listRows commitRows abortRows setClassesRows checkpointBeginRows checkpointStepRows checkpointEndRows restartBeginRows restartStepRows restartEndRows
 stage-answers (format s budget) c w ok = stage-first (format s budget) c w _ refl ok
-stage-answers begin c w ok = stage-first begin c w _ refl ok
+stage-answers (begin class) c w ok = stage-first (begin class) c w _ refl ok
 stage-answers (update number page slot value budget) c w ok = stage-first (update number page slot value budget) c w _ refl ok
 stage-answers (look (read reader page slot)) c w ok = stage-first (look (read reader page slot)) c w _ refl ok
 stage-answers (look (listLine number bytes)) c w ok = stage-first (look (listLine number bytes)) c w _ refl ok
 stage-answers (look (listLines first bytes)) c w ok = stage-first (look (listLines first bytes)) c w _ refl ok
 stage-answers (commit number budget) c w ok = stage-first (commit number budget) c w _ refl ok
 stage-answers (abort number budget) c w ok = stage-first (abort number budget) c w _ refl ok
+stage-answers (setClasses lines) c w ok = stage-first (setClasses lines) c w _ refl ok
 stage-answers checkpointBegin c w ok = stage-first checkpointBegin c w _ refl ok
 stage-answers (checkpointStep budget) c w ok = stage-first (checkpointStep budget) c w _ refl ok
 stage-answers (checkpointEnd budget) c w ok = stage-first (checkpointEnd budget) c w _ refl ok

@@ -26,29 +26,29 @@ use Rattle.model.proofs.Places.{open-place, place-holds}
 use Rattle.model.proofs.Reserved.{reservedBy, free-by, other-by}
 use Rattle.model.proofs.Sound.Serving.{entry-sound}
 use Rattle.model.proofs.Growth.{tail-end, Longer, longer-none, longer-then, flush-longer, append-longer}
-use Rattle.model.proofs.Store.Accepted.{room-found, room-none, small-buffers, disks-max, OpenPlace, open-entry, open-below, Committing, begin-accepted, update-accepted, commit-accepted, Room}
+use Rattle.model.proofs.Store.Accepted.{room-found, room-none, small-buffers, disks-max, OpenPlace, open-entry, open-below, Committing, eligible-room, begin-accepted, update-accepted, commit-accepted, Room}
 
 -- Begin: two words more are reserved on the chosen disk, which has room for them.
-pub begin-passes : (c : Core) (w : World) → Sized c → sound c ≡ true → verdict (beginRows c w) ≡ accepted → Passing (beginTask c w .core)
+pub begin-passes : (c : Core) (w : World) (class : ℕ) → Sized c → sound c ≡ true → verdict (beginRows c w class) ≡ accepted → Passing (beginTask c w class .core)
 unfolding beginTask begun
-begin-passes c w sized s ok =
-    let a = begin-accepted c w ok in
+begin-passes c w class sized s ok =
+    let a = begin-accepted c w class ok in
     let good = serving-sound c (a .serving) s in
     let disk = a .chosen (disks-max c good) in
     let place : ℕ = placeOf (c .table) 0 in
     let unused : (e : ℕ) → reservedBy (c .table) e place ≡ 0 = λ e. free-by (c .table) e place (place-holds (c .table) 0 (a .free)) in (
       record {
         logs = sized .logs;
-        table = sized-put (c .table) (sized .table) (placeOf (c .table) 0) (c .next) (idlest c 2) 0 2 (idlest c 2) (reservedOn (c .table) (idlest c 2) + 2) (a .free);
+        table = sized-put (c .table) (sized .table) (placeOf (c .table) 0) (c .next) (idlest c class 2) 0 2 (idlest c class 2) (reservedOn (c .table) (idlest c class 2) + 2) (a .free);
         ends = sized .ends;
         positions = sized .positions;
       },
-      entry-sound c (a .serving) s sized (idlest c 2) 0 (c .logs) (disk .below)
-          (longer-none (c .logs) (sized .logs) (small-buffers c good)) (placeOf (c .table) 0) (a .free) (c .next) (idlest c 2)
-          0 2 (reservedOn (c .table) (idlest c 2) + 2) (c .next + 1) 2 (room-found c 2 (idlest c 2) (disk .passes)) (omega arith)
+      entry-sound c (a .serving) s sized (idlest c class 2) 0 (c .logs) (disk .below)
+          (longer-none (c .logs) (sized .logs) (small-buffers c good)) (placeOf (c .table) 0) (a .free) (c .next) (idlest c class 2)
+          0 2 (reservedOn (c .table) (idlest c class 2) + 2) (c .next + 1) 2 (room-found c 2 (idlest c class 2) (eligible-room c class 2 (idlest c class 2) (disk .passes))) (omega arith)
           (λ e ne. unused e) (λ none. absurd (omega (arith, next-sound c good)))
           (λ some. record { home = refl; closing = omega arith; inside = λ more. absurd (omega arith) })
-          (omega (arith, unused (idlest c 2))) (omega arith),
+          (omega (arith, unused (idlest c class 2))) (omega arith),
     )
 
 -- Update: its record goes to the log, and as many words are reserved to take it back.

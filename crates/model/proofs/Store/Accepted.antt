@@ -13,7 +13,8 @@ use Rattle.model.specs.Record.{wordsOf, updateKind}
 use Rattle.model.specs.Scan.{updateWords}
 use Rattle.model.specs.World.{World}
 use Rattle.model.specs.State.{places, limit, keptOf, endOf, numberAt, diskAtPlace, placeOf, reservedAt, isOpen, reservedOn, servingSound, sound}
-use Rattle.model.specs.Room.{hasRoom, loadOf, idlest, Idlest}
+use Rattle.model.specs.Classes.{inSet, setFor}
+use Rattle.model.specs.Room.{hasRoom, loadOf, eligible, idlest, Idlest}
 use Rattle.model.specs.Refusal.{accepted, verdict}
 use Rattle.model.specs.Causes.{whenServing, tableFull, slotMissing, notOpen, valueWrong, locked}
 use Rattle.model.specs.Transaction.{diskOf, beginRows, updateRows, commitRows}
@@ -88,15 +89,20 @@ module _ (c : Core) (number : ℕ) (ok : servingSound c ≡ true) (o : isOpen (c
       let on = disk-sound c (diskOf c number) ok open-below in
       (omega (arith, on .room, on .ordered, open-entry .on), omega (arith, on .limit, open-entry .on))
 
--- Begin: a place is free, and the disk chosen has room for two words; a choice looks at eight disks.
-pub record Beginning (c : Core) : Type 0 where
+-- a disk that a begin may get has room
+pub eligible-room : (c : Core) (class need disk : ℕ) → eligible c class need disk ≡ true → hasRoom c need disk ≡ true
+unfolding eligible
+eligible-room c class need disk e = both (inSet (setFor (c .classes) class) disk) (hasRoom c need disk) e .1
+
+-- Begin: a place is free, and the disk chosen serves the class and has room for two words; a choice looks at eight disks.
+pub record Beginning (c : Core) (class : ℕ) : Type 0 where
   pub serving : whenServing (c .stage) ≡ true
   pub free : placeOf (c .table) 0 < places
-  pub chosen : c .sizes .disks ≤ 8 → Idlest (hasRoom c 2) (loadOf (c .logs)) (c .sizes .disks) (idlest c 2)
+  pub chosen : c .sizes .disks ≤ 8 → Idlest (eligible c class 2) (loadOf (c .logs)) (c .sizes .disks) (idlest c class 2)
 
-pub begin-accepted : (c : Core) (w : World) → verdict (beginRows c w) ≡ accepted → Beginning c
+pub begin-accepted : (c : Core) (w : World) (class : ℕ) → verdict (beginRows c w class) ≡ accepted → Beginning c class
 unfolding beginRows tableFull idlest
-begin-accepted c w ok =
+begin-accepted c w class ok =
     let r1 = row-passed _ _ ok in
     let r2 = row-passed _ _ (r1 .1) in
     let r5 = row-passed _ _ (r2 .1) in
@@ -106,7 +112,7 @@ begin-accepted c w ok =
     record {
       serving = stage-row whenServing _ c (r1 .0);
       free = leb-false _ _ (r12 .0);
-      chosen = λ eight. idlest-found (hasRoom c 2) (loadOf (c .logs)) (c .sizes .disks) eight (leb-false _ _ (r14 .0));
+      chosen = λ eight. idlest-found (eligible c class 2) (loadOf (c .logs)) (c .sizes .disks) eight (leb-false _ _ (r14 .0));
     }
 
 -- Update: its transaction is open, its slot is there and not another's, its value as wide, and its disk has room for the

@@ -34,17 +34,17 @@ use Rattle.model.proofs.Store.BeginTable.{T as table, new, open-after, 
 use Rattle.model.proofs.Store.WordsFor.{words-for-none}
 
 module _ {home : ℕ → ℕ} {puts : Told} {c : Core} {w : World} {r : Reference} {F B : List Entry}
-    (ok : verdict (beginRows c w) ≡ accepted) (v : Serving 0 home puts c w r F B) where
+    (class : ℕ) (ok : verdict (beginRows c w class) ≡ accepted) (v : Serving 0 home puts c w r F B) where
   abbrev T : Table
-  T = table ok v
+  T = table class ok v
 
   abbrev R : Reference
-  R = afterTaken begin (c .next) r
+  R = afterTaken (begin class) (c .next) r
 
   abbrev homes : ℕ → ℕ
-  homes t = cond (eqb t (c .next)) (idlest c 2) (home t)
+  homes t = cond (eqb t (c .next)) (idlest c class 2) (home t)
 
-  safe : Safe 0 homes (begun c) w R F B
+  safe : Safe 0 homes (begun c class) w R F B
   unfolding begun begunLedger view
   safe =
       record {
@@ -68,7 +68,7 @@ module _ {home : ℕ → ℕ} {puts : Told} {c : Core} {w : World} {r : Referenc
       none-or u true = refl
       none-or u false = refl
 
-      same : Same (total (c .sizes)) (begunLedger (view c w r F B)) (view (begun c) w R F B)
+      same : Same (total (c .sizes)) (begunLedger (view c w r F B)) (view (begun c class) w R F B)
       same =
           record {
             epoch = refl;
@@ -80,71 +80,71 @@ module _ {home : ℕ → ℕ} {puts : Told} {c : Core} {w : World} {r : Referenc
             owners = λ i h. refl;
             committed = λ i h. refl;
             writes = λ u o. rw (front-writes (c .next) (r .writeSets) u) (none-or u (eqb u (c .next)));
-            opened = λ u. sym (open-after ok v u);
+            opened = λ u. sym (open-after class ok v u);
             flushed = refl;
             buffered = refl;
           }
 
-  accounts : Accounts 0 homes (begun c) F B
+  accounts : Accounts 0 homes (begun c class) F B
   unfolding begun diskOf
   accounts =
       record {
-        tabled = new-tabled ok v;
+        tabled = new-tabled class ok v;
         homes =
             λ t o.
-            newly ok v t (homes t ≡ diskAtPlace T (placeOf T t)) o
-            (λ e. rw (eq-eqb t (c .next) e, e) (sym (new-disk ok v)))
-            (λ p. rw (ne-eqb t (c .next) (old ok v t p)) (v .accounts .homes t p ∙ sym (same-disk ok v t p)));
+            newly class ok v t (homes t ≡ diskAtPlace T (placeOf T t)) o
+            (λ e. rw (eq-eqb t (c .next) e, e) (sym (new-disk class ok v)))
+            (λ p. rw (ne-eqb t (c .next) (old class ok v t p)) (v .accounts .homes t p ∙ sym (same-disk class ok v t p)));
         own =
             λ t o.
-            newly ok v t (All (λ e. e .number ≡ t → Own 0 (begun c) t e) (F ++ B)) o
+            newly class ok v t (All (λ e. e .number ≡ t → Own 0 (begun c class) t e) (F ++ B)) o
             (λ q. all-map (λ e l n. absurd (omega arith)) (F ++ B) (v .accounts .numbered))
             (λ p. all-map (λ e h n. still t p e (h n)) (F ++ B) (v .accounts .own t p));
         firsts =
             λ t o u.
-            newly ok v t (boundary (firstAt T (placeOf T t)) (keptOf (c .logs) (diskAtPlace T (placeOf T t))) (on (diskAtPlace T (placeOf T t)) F ++ on (diskAtPlace T (placeOf T t)) B) ≡ true) o
-            (λ q. true-false u (rw q (no-update ok v)))
-            (λ p. rw (same-first ok v t p, same-disk ok v t p) (v .accounts .firsts t p (sym (same-update ok v t p) ∙ u)));
+            newly class ok v t (boundary (firstAt T (placeOf T t)) (keptOf (c .logs) (diskAtPlace T (placeOf T t))) (on (diskAtPlace T (placeOf T t)) F ++ on (diskAtPlace T (placeOf T t)) B) ≡ true) o
+            (λ q. true-false u (rw q (no-update class ok v)))
+            (λ p. rw (same-first class ok v t p, same-disk class ok v t p) (v .accounts .firsts t p (sym (same-update class ok v t p) ∙ u)));
         disks =
             λ t o.
-            newly ok v t (diskAtPlace T (placeOf T t) < c .sizes .disks) o
-            (λ q. rw (q, new-disk ok v) (begin-accepted c w ok .chosen (v .safe .devices .bounds .disks-max) .below))
-            (λ p. rw (same-disk ok v t p) (v .accounts .disks t p));
+            newly class ok v t (diskAtPlace T (placeOf T t) < c .sizes .disks) o
+            (λ q. rw (q, new-disk class ok v) (begin-accepted c w class ok .chosen (v .safe .devices .bounds .disks-max) .below))
+            (λ p. rw (same-disk class ok v t p) (v .accounts .disks t p));
         started =
             λ t o u.
-            newly ok v t (someEntry (λ e. eqb (e .number) t && eqb (e .position) (firstAt T (placeOf T t))) (F ++ B) ≡ true) o
-            (λ q. true-false u (rw q (no-update ok v)))
-            (λ p. rw (same-first ok v t p) (v .accounts .started t p (sym (same-update ok v t p) ∙ u)));
+            newly class ok v t (someEntry (λ e. eqb (e .number) t && eqb (e .position) (firstAt T (placeOf T t))) (F ++ B) ≡ true) o
+            (λ q. true-false u (rw q (no-update class ok v)))
+            (λ p. rw (same-first class ok v t p) (v .accounts .started t p (sym (same-update class ok v t p) ∙ u)));
         reserved =
             λ t o ne.
-            newly ok v t (reservedAt T (placeOf T t) ≡ 2 + wordsFor t (F ++ B)) o
-            (λ q. rw (q, new-reserved ok v, words-for-none (c .next) (F ++ B) (v .accounts .numbered)))
-            (λ p. same-reserved ok v t p ∙ v .accounts .reserved t p ne);
-        closed-or-open = all-map (λ e h s. h (or-none _ _ (sym (open-after ok v (e .number)) ∙ s) .0)) (F ++ B) (v .accounts .closed-or-open);
+            newly class ok v t (reservedAt T (placeOf T t) ≡ 2 + wordsFor t (F ++ B)) o
+            (λ q. rw (q, new-reserved class ok v, words-for-none (c .next) (F ++ B) (v .accounts .numbered)))
+            (λ p. same-reserved class ok v t p ∙ v .accounts .reserved t p ne);
+        closed-or-open = all-map (λ e h s. h (or-none _ _ (sym (open-after class ok v (e .number)) ∙ s) .0)) (F ++ B) (v .accounts .closed-or-open);
         numbered = all-map (λ e l. omega arith) (F ++ B) (v .accounts .numbered);
       }
     where
-      still : (t : ℕ) (p : isOpen (c .table) t ≡ true) (e : Entry) → Own 0 c t e → Own 0 (begun c) t e
+      still : (t : ℕ) (p : isOpen (c .table) t ≡ true) (e : Entry) → Own 0 c t e → Own 0 (begun c class) t e
       still t p e o =
-          record { has = same-update ok v t p ∙ o .has; first = rw (same-first ok v t p) (o .first); kind = o .kind }
+          record { has = same-update class ok v t p ∙ o .has; first = rw (same-first class ok v t p) (o .first); kind = o .kind }
 
-  copies : Copies (begun c) w F B
+  copies : Copies (begun c class) w F B
   unfolding begun before
   copies =
       let h = v .copies in
       record { copied = h .copied; pages = h .pages; capped = h .capped; early = h .early; ends = h .ends }
 
-  sets : Sets (begun c) R
+  sets : Sets (begun c class) R
   unfolding begun
   sets =
       record {
-        distinct = distinct-front (c .next) (r .writeSets) (sym (v .sets .has (c .next)) ∙ (new ok v)) (v .sets .distinct);
-        has = λ t. open-after ok v t ∙ rw (v .sets .has t) (sym (front-has (c .next) (r .writeSets) t));
+        distinct = distinct-front (c .next) (r .writeSets) (sym (v .sets .has (c .next)) ∙ (new class ok v)) (v .sets .distinct);
+        has = λ t. open-after class ok v t ∙ rw (v .sets .has t) (sym (front-has (c .next) (r .writeSets) t));
         fits = (tt, v .sets .fits);
       }
 
   -- a slot's owner is an older one, and its write set is as before
-  owners : Owners (begun c) w R
+  owners : Owners (begun c class) w R
   unfolding begun
   owners =
       record {
@@ -154,28 +154,28 @@ module _ {home : ℕ → ℕ} {puts : Told} {c : Core} {w : World} {r : Referenc
             let t : ℕ = ownerOf (c .sizes) (w .work) (slotBase (c .sizes) page slot) in
             let less = v .owners .below page slot p q in
             rw (front-writes (c .next) (r .writeSets) t, ne-eqb t (c .next) (λ e. omega arith))
-            (v .owners .written page slot p q (newly ok v t (isOpen (c .table) t ≡ true) o (λ e. absurd (omega arith)) (λ h. h)));
+            (v .owners .written page slot p q (newly class ok v t (isOpen (c .table) t ≡ true) o (λ e. absurd (omega arith)) (λ h. h)));
       }
 
-  told : (d : ℕ) → d < c .sizes .disks → SinceOn puts (begun c) d (on d F ++ on d B)
+  told : (d : ℕ) → d < c .sizes .disks → SinceOn puts (begun c class) d (on d F ++ on d B)
   unfolding begun
   told d h =
       since-still refl
-      (λ t y l. newly ok v t (isOpen (c .table) t ≡ true) (y (omega arith)) (λ q. absurd (omega (arith, q))) (λ p. p))
+      (λ t y l. newly class ok v t (isOpen (c .table) t ≡ true) (y (omega arith)) (λ q. absurd (omega (arith, q))) (λ p. p))
       (v .told d h)
 
-  begin-serving : Serving 0 homes puts (begun c) w R F B
+  begin-serving : Serving 0 homes puts (begun c class) w R F B
   unfolding begun
   begin-serving = record { stage = v .stage; safe = safe; accounts = accounts; copies = copies; sets = sets; owners = owners; told = told; marks = v .marks }
 
--- begin keeps what holds of an open store, with the reference's (new ok v), empty write set
-pub begin-serves : {puts : Told} {c : Core} {w : World} {r : Reference} → Served puts c w r → verdict (beginRows c w) ≡ accepted
-    → Served puts (beginTask c w .core) w (afterTaken begin (c .next) r)
+-- begin keeps what holds of an open store, with the reference's (new class ok v), empty write set
+pub begin-serves : {puts : Told} {c : Core} {w : World} {r : Reference} → Served puts c w r → (class : ℕ) → verdict (beginRows c w class) ≡ accepted
+    → Served puts (beginTask c w class .core) w (afterTaken (begin class) (c .next) r)
 unfolding beginTask
-begin-serves s ok =
+begin-serves s class ok =
     record {
-      home = homes ok (s .serving);
+      home = homes class ok (s .serving);
       flushed = s .flushed;
       buffered = s .buffered;
-      serving = begin-serving ok (s .serving);
+      serving = begin-serving class ok (s .serving);
     }

@@ -23,12 +23,12 @@ use Rattle.model.proofs.Booleans.{true-false}
 use Rattle.model.proofs.Store.Accepted.{begin-accepted}
 
 module _ {home : ℕ → ℕ} {puts : Told} {c : Core} {w : World} {r : Reference} {F B : List Entry}
-    (ok : verdict (beginRows c w) ≡ accepted) (v : Serving 0 home puts c w r F B) where
+    (class : ℕ) (ok : verdict (beginRows c w class) ≡ accepted) (v : Serving 0 home puts c w r F B) where
   abbrev pub place : ℕ
   place = placeOf (c .table) 0
 
   pub at : place < places
-  at = begin-accepted c w ok .free
+  at = begin-accepted c w class ok .free
 
   pub tabled : Tabled (c .table)
   tabled = v .accounts .tabled
@@ -46,16 +46,16 @@ module _ {home : ℕ → ℕ} {puts : Told} {c : Core} {w : World} {r : Referenc
   new = v .safe .good .unused (c .next) (omega arith) .1
 
   abbrev sum : ℕ
-  sum = reservedOn (c .table) (idlest c 2) + 2
+  sum = reservedOn (c .table) (idlest c class 2) + 2
 
   abbrev pub T : Table
-  T = withReserved (withPlace (c .table) place (c .next) (idlest c 2) 0 2) (idlest c 2) sum
+  T = withReserved (withPlace (c .table) place (c .next) (idlest c class 2) 0 2) (idlest c class 2) sum
 
   pub open-after : (t : ℕ) → isOpen T t ≡ (isOpen (c .table) t || eqb t (c .next))
-  open-after = begin-open (c .table) tabled place (c .next) (idlest c 2) 0 2 (idlest c 2) sum at free some new
+  open-after = begin-open (c .table) tabled place (c .next) (idlest c class 2) 0 2 (idlest c class 2) sum at free some new
 
   pub new-place : placeOf T (c .next) ≡ place
-  new-place = begin-place (c .table) tabled place (c .next) (idlest c 2) 0 2 (idlest c 2) sum at free some new
+  new-place = begin-place (c .table) tabled place (c .next) (idlest c class 2) 0 2 (idlest c class 2) sum at free some new
 
   -- an open one is the new one or was open
   pub newly : (t : ℕ) (X : Type 0) → isOpen T t ≡ true → (t ≡ c .next → X) → (isOpen (c .table) t ≡ true → X) → X
@@ -72,10 +72,10 @@ module _ {home : ℕ → ℕ} {puts : Told} {c : Core} {w : World} {r : Referenc
         (sym (place-holds (c .table) t (open-place (c .table) t o .1)) ∙ ap (numberAt (c .table)) e ∙ free)
 
     same-place : placeOf T t ≡ placeOf (c .table) t
-    same-place = begin-other (c .table) tabled place (c .next) (idlest c 2) 0 2 (idlest c 2) sum at free some new t old (open-place (c .table) t o .0)
+    same-place = begin-other (c .table) tabled place (c .next) (idlest c class 2) 0 2 (idlest c class 2) sum at free some new t old (open-place (c .table) t o .0)
 
     there : SameAt (c .table) T (placeOf (c .table) t)
-    there = other-same (c .table) place (c .next) (idlest c 2) 0 2 (idlest c 2) sum (placeOf (c .table) t) apart
+    there = other-same (c .table) place (c .next) (idlest c class 2) 0 2 (idlest c class 2) sum (placeOf (c .table) t) apart
 
     pub same-disk : diskAtPlace T (placeOf T t) ≡ diskAtPlace (c .table) (placeOf (c .table) t)
     same-disk = rw same-place (there .disk)
@@ -91,15 +91,15 @@ module _ {home : ℕ → ℕ} {puts : Told} {c : Core} {w : World} {r : Referenc
     same-update = rw same-reserved
 
   -- the new one has its disk, the words of its closing record, and no update
-  pub new-disk : diskAtPlace T (placeOf T (c .next)) ≡ idlest c 2
-  new-disk = rw new-place (put-disk (c .table) (tabled .sized) place (c .next) (idlest c 2) 0 2 (idlest c 2) sum at)
+  pub new-disk : diskAtPlace T (placeOf T (c .next)) ≡ idlest c class 2
+  new-disk = rw new-place (put-disk (c .table) (tabled .sized) place (c .next) (idlest c class 2) 0 2 (idlest c class 2) sum at)
 
   pub new-reserved : reservedAt T (placeOf T (c .next)) ≡ 2
-  new-reserved = rw new-place (put-reserved (c .table) (tabled .sized) place (c .next) (idlest c 2) 0 2 (idlest c 2) sum at)
+  new-reserved = rw new-place (put-reserved (c .table) (tabled .sized) place (c .next) (idlest c class 2) 0 2 (idlest c class 2) sum at)
 
   pub no-update : hasUpdate T (placeOf T (c .next)) ≡ false
   unfolding hasUpdate
   no-update = rw new-reserved
 
   pub new-tabled : Tabled T
-  new-tabled = begin-tabled (c .table) tabled place (c .next) (idlest c 2) 0 2 (idlest c 2) sum at free some new
+  new-tabled = begin-tabled (c .table) tabled place (c .next) (idlest c class 2) 0 2 (idlest c class 2) sum at free some new

@@ -27,7 +27,8 @@ use Rattle.model.specs.Abort.{abortFault, abortRows}
 use Rattle.model.specs.Checkpoint.{checkpointBeginRows, checkpointStepRows, checkpointEndRows}
 use Rattle.model.specs.Restart.{imageRows, restartBeginRows, positionOf, remaining, readDisk, fateFrom, nextRecord, fateFault, recordFault, stepFault, restartStepRows, restartEndRows}
 use Rattle.model.specs.Listing.{listRows}
-use Rattle.model.specs.Call.{Call, format, begin, update, look, read, listLine, listLines, commit, abort, checkpointBegin, checkpointStep, checkpointEnd, restartBegin, restartStep, restartRun, restartEnd, newState, rowsOf, resultOf}
+use Rattle.model.specs.SetClasses.{setClassesRows}
+use Rattle.model.specs.Call.{Call, format, begin, update, look, read, listLine, listLines, commit, abort, setClasses, checkpointBegin, checkpointStep, checkpointEnd, restartBegin, restartStep, restartRun, restartEnd, newState, rowsOf, resultOf}
 use Rattle.model.proofs.Storeless.{storeless-finishes}
 use Rattle.model.proofs.Scan.{scan-bad}
 use Rattle.model.proofs.Reading.{ending}
@@ -169,9 +170,9 @@ shut-records c w shut s =
 -- aborts find what was put there.
 pub never-seven : (k : Call) (c : Core) (w : World) → (c .stage ≡ Shut → Restartable w) → (c .stage ≡ Replaying → Progress c w)
     → (whenServing (c .stage) ≡ true → (number : ℕ) → abortFault c w number ≡ NoFault) → numberOf (resultOf k c w .answer) ≡ 7 → ⊥
-unfolding finds stageForbids formatRows beginRows updateRows readRows commitRows abortRows checkpointBeginRows checkpointStepRows checkpointEndRows imageRows listRows restartBeginRows restartStepRows restartEndRows
+unfolding finds stageForbids formatRows beginRows updateRows readRows commitRows abortRows setClassesRows checkpointBeginRows checkpointStepRows checkpointEndRows imageRows listRows restartBeginRows restartStepRows restartEndRows
 never-seven (format s budget) c w shut replaying serving e = true≢false (sym (seven-row (format s budget) c w e))
-never-seven begin c w shut replaying serving e = true≢false (sym (seven-row begin c w e))
+never-seven (begin class) c w shut replaying serving e = true≢false (sym (seven-row (begin class) c w e))
 never-seven (update number page slot value budget) c w shut replaying serving e =
     true≢false (sym (seven-row (update number page slot value budget) c w e))
 never-seven (look (read reader page slot)) c w shut replaying serving e = true≢false (sym (seven-row (look (read reader page slot)) c w e))
@@ -182,6 +183,7 @@ never-seven (look (listLines first bytes)) c w shut replaying serving e =
 never-seven (commit number budget) c w shut replaying serving e = true≢false (sym (seven-row (commit number budget) c w e))
 never-seven (abort number budget) c w shut replaying serving e =
     stage-first (abort number budget) c w whenServing _ _ refl (λ s. rw (serving s number)) e
+never-seven (setClasses lines) c w shut replaying serving e = true≢false (sym (seven-row (setClasses lines) c w e))
 never-seven checkpointBegin c w shut replaying serving e = true≢false (sym (seven-row checkpointBegin c w e))
 never-seven (checkpointStep budget) c w shut replaying serving e = true≢false (sym (seven-row (checkpointStep budget) c w e))
 never-seven (checkpointEnd budget) c w shut replaying serving e = true≢false (sym (seven-row (checkpointEnd budget) c w e))

@@ -14,7 +14,9 @@ use Rattle.model.specs.Transaction.{beginRows, beginTask, updateRows, co
 use Rattle.model.specs.Abort.{abortRows}
 use Rattle.model.specs.Checkpoint.{checkpointBeginRows, checkpointBeginTask, checkpointStepRows, checkpointEndRows}
 use Rattle.model.specs.Restart.{restartBeginRows, restartStepRows, restartEndRows}
-use Rattle.model.specs.Call.{Call, format, begin, update, Look, look, lookTask, commit, abort, checkpointBegin, checkpointStep, checkpointEnd, restartBegin, restartStep, restartRun, restartEnd, newState, rowsOf, taskOf, budgetOf, resultOf}
+use Rattle.model.specs.Classes.{classesOf}
+use Rattle.model.specs.SetClasses.{setClassesRows, setClassesTask}
+use Rattle.model.specs.Call.{Call, format, begin, update, Look, look, lookTask, commit, abort, setClasses, checkpointBegin, checkpointStep, checkpointEnd, restartBegin, restartStep, restartRun, restartEnd, newState, rowsOf, taskOf, budgetOf, resultOf}
 use Rattle.model.specs.Reference.{Reference, taken, outcomeOf}
 use Rattle.model.specs.Machine.{Machine, result, outcome, isRefused, allowedCall}
 use Rattle.model.specs.History.{Told, also}
@@ -38,6 +40,7 @@ use Rattle.model.proofs.Store.Abort.{abort-serves, abort-cut}
 use Rattle.model.proofs.Store.Holding.{Holding, CallKeeps, Restarting, shut, replaying, serving, going-on, kept-sets, holding-kept, served, stopped, replayed, takenMachine, call-keeps}
 use Rattle.model.proofs.Booleans.{true-false}
 use Rattle.model.proofs.Verdict.{row-passed}
+use Rattle.model.proofs.Store.SetClasses.{classes-serve}
 
 -- an accepted call found the stage that it is for
 pub row-one : (allowed : Stage → Bool) (fits : Bool) (c : Core) (rows : List Row) → verdict (row 1 (stageForbids allowed fits c) ∷ rows) ≡ accepted
@@ -73,12 +76,19 @@ step-holds m h source v =
     (going-on (p .1) (λ d l kept g. step-replayed (s .progress) (p .1) source found d g (rw (s .progress .sizes) l)) (s .going)) (s .none)
 
 module _ (puts : Told) (m : Machine) (r : Reference) (h : Holding puts m r) where
-  step-begin : CallKeeps begin puts m r
+  step-begin : (class : ℕ) → CallKeeps (begin class) puts m r
   unfolding beginTask beginRows perform
-  step-begin =
-      call-keeps begin puts m r h
-      (λ v f. puts-none (serving (begin-serves (served h (row-one whenServing _ (m .core) _ v)) v)))
-      (λ v f. never-cut begin m refl f)
+  step-begin class =
+      call-keeps (begin class) puts m r h
+      (λ v f. puts-none (serving (begin-serves (served h (row-one whenServing _ (m .core) _ v)) class v)))
+      (λ v f. never-cut (begin class) m refl f)
+
+  step-classes : (lines : List ℕ) → CallKeeps (setClasses lines) puts m r
+  unfolding setClassesTask setClassesRows perform
+  step-classes lines =
+      call-keeps (setClasses lines) puts m r h
+      (λ v f. puts-none (serving (classes-serve (served h (row-one whenServing _ (m .core) _ v)) (classesOf lines))))
+      (λ v f. never-cut (setClasses lines) m refl f)
 
   step-look : (q : Look) → CallKeeps (look q) puts m r
   unfolding lookTask perform
@@ -191,11 +201,12 @@ module _ (puts : Told) (m : Machine) (r : Reference) (h : Holding puts m r) wher
 pub step-call : (k : Call) (puts : Told) (m : Machine) (r : Reference) → Holding puts m r → sound (m .core) ≡ true → allowedCall m k ≡ true
     → CallKeeps k puts m r
 step-call (format z budget) puts m r h s e = step-format puts m r h z budget e
-step-call begin puts m r h s e = step-begin puts m r h
+step-call (begin class) puts m r h s e = step-begin puts m r h class
 step-call (update number page slot value budget) puts m r h s e = step-update puts m r h s number page slot value budget
 step-call (look q) puts m r h s e = step-look puts m r h q
 step-call (commit number budget) puts m r h s e = step-commit puts m r h s number budget
 step-call (abort number budget) puts m r h s e = step-abort puts m r h s number budget
+step-call (setClasses lines) puts m r h s e = step-classes puts m r h lines
 step-call checkpointBegin puts m r h s e = step-checkpoint-begin puts m r h
 step-call (checkpointStep budget) puts m r h s e = step-checkpoint-step puts m r h s budget
 step-call (checkpointEnd budget) puts m r h s e = step-checkpoint-end puts m r h budget

@@ -34,8 +34,8 @@ own-slices-in-code =
 pub begin-disk-in-code : BeginDiskInCode
 unfolding BeginDiskInCode BeginDisk
 begin-disk-in-code =
-    carries-over _ _ begin-disk (λ m r h o is on.
-    subst (λ (x : Result). BeginsOn (viewOf m .core) (x .answer) (x .core)) (sym (gave m o begin is on)) h)
+    carries-over _ _ begin-disk (λ m r h class o is on.
+    subst (λ (x : Result). BeginsOn class (viewOf m .core) (x .answer) (x .core)) (sym (gave m o (begin class) is on)) (h class))
 
 -- The states that the code hands back are made.
 pub made-in-code : MadeInCode

@@ -13,7 +13,7 @@ use Rattle.model.specs.declared.Carried.{Carried}
 use Rattle.model.specs.World.{World}
 use Rattle.model.specs.Causes.{whenShut}
 use Rattle.model.specs.Refusal.{Result}
-use Rattle.model.specs.Call.{Call, format, begin, update, look, commit, abort, checkpointBegin, checkpointStep, checkpointEnd, restartBegin, restartStep, restartRun, restartEnd, newState, Gives}
+use Rattle.model.specs.Call.{Call, format, begin, update, look, commit, abort, setClasses, checkpointBegin, checkpointStep, checkpointEnd, restartBegin, restartStep, restartRun, restartEnd, newState, Gives}
 use Rattle.model.specs.View.{headWords, coreOf, bodyOf}
 use Rattle.model.specs.Reference.{taken, refused, outcomeOf, Reference, blank, heardOf, hear}
 use Rattle.model.specs.Machine.{Machine, Event, call, scramble, result, outcome, isRefused, allowedCall, allowed, after, referred, Run, follow, allowedAll, formatted, scrambled}
@@ -49,7 +49,7 @@ lent-view o x h =
     rw (same, h .turned) refl
 
 -- The steps as events of the machine; a scramble is one of the body.
-unfoldable eventsOf : List EventInCode → List Event
+unfoldable pub eventsOf : List EventInCode → List Event
 eventsOf [] = []
 eventsOf (callInCode o ∷ steps) = call (o .call) ∷ eventsOf steps
 eventsOf (lentInCode o ∷ steps) = eventsOf steps
@@ -58,11 +58,12 @@ eventsOf (scrambleInCode pages work ∷ steps) = scramble pages (drop headWords 
 -- a format that is refused is allowed, and so is every other call
 allowed-call : (m : Machine) (k : Call) → ((s : Sizes) (budget : ℕ) → k ≡ format s budget → outcome m k ≡ refused) → allowedCall m k ≡ true
 allowed-call m (format s budget) f = ap isRefused (f s budget refl)
-allowed-call m begin f = refl
+allowed-call m (begin class) f = refl
 allowed-call m (update number page slot value budget) f = refl
 allowed-call m (look q) f = refl
 allowed-call m (commit number budget) f = refl
 allowed-call m (abort number budget) f = refl
+allowed-call m (setClasses lines) f = refl
 allowed-call m checkpointBegin f = refl
 allowed-call m (checkpointStep budget) f = refl
 allowed-call m (checkpointEnd budget) f = refl
@@ -72,7 +73,7 @@ allowed-call m (restartRun source most) f = refl
 allowed-call m (restartEnd budget) f = refl
 allowed-call m newState f = refl
 
-call-allowed : (m : MachineInCode) (o : Observed) → On m o → FormatRefused o → allowed (viewOf m) (call (o .call)) ≡ true
+pub call-allowed : (m : MachineInCode) (o : Observed) → On m o → FormatRefused o → allowed (viewOf m) (call (o .call)) ≡ true
 unfolding FormatRefused outcome
 call-allowed m o on f =
     allowed-call (viewOf m) (o .call) (λ s budget e. sym (ap (λ (r : Result). outcomeOf (r .answer)) (as-machine m o on)) ∙ f s budget e)
@@ -116,7 +117,7 @@ both-true e es m a b = and-eq-true-iff (allowed m e) (allowedAll es (after m e))
 abbrev Allows : List EventInCode → Run → Type 0
 Allows steps x = allowedAll (eventsOf steps) (x .machine) ≡ true
 
-steps-allowed : (steps : List EventInCode) (x : RunInCode) → AllowedAllInCode steps x → Allows steps (viewRun x)
+pub steps-allowed : (steps : List EventInCode) (x : RunInCode) → AllowedAllInCode steps x → Allows steps (viewRun x)
 unfolding eventsOf allowedAll AllowedAllInCode viewRun
 steps-allowed [] x l = refl
 steps-allowed (callInCode o ∷ steps) x l =
@@ -128,7 +129,7 @@ steps-allowed (scrambleInCode pages work ∷ steps) x l =
     both-true (scramble pages (drop headWords work)) (eventsOf steps) (viewOf (x .machine)) (scramble-allowed (x .machine) pages work (l .0))
     (subst (Allows steps) (scramble-next pages work x (l .0)) (steps-allowed steps (afterInCode (scrambleInCode pages work) x) (l .1)))
 
-steps-follow : (steps : List EventInCode) (x : RunInCode) → AllowedAllInCode steps x
+pub steps-follow : (steps : List EventInCode) (x : RunInCode) → AllowedAllInCode steps x
     → viewRun (followInCode steps x) ≡ follow (eventsOf steps) (viewRun x)
 unfolding eventsOf follow followInCode AllowedAllInCode
 steps-follow [] x l = refl

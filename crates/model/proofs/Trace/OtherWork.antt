@@ -6,13 +6,16 @@ use mathlib.Core.List.{List, _∷_}
 use mathlib.Core.Bool.{Bool, true, false, not}
 use Prim.Native.Nat.{ℕ}
 use lib.Dec.{eqb}
+use lib.ListN.{length}
+use borrow.Author.Tests.{eqb-true}
 use Rattle.model.specs.declared.Core.{Core}
 use Rattle.model.specs.declared.Carried.{Carried}
 use Rattle.model.specs.Sizes.{countsInBounds}
 use Rattle.model.specs.World.{World, stores, finishes}
+use Rattle.model.specs.Memory.{workWords}
 use Rattle.model.specs.State.{sound}
 use Rattle.model.specs.Refusal.{Row, row, rejected, verdict, Result, numberOf}
-use Rattle.model.specs.Causes.{whenShut, stageForbids, anchorWrong, lengthsWrong}
+use Rattle.model.specs.Causes.{whenShut, whenServing, stageForbids, anchorWrong, lengthsWrong}
 use Rattle.model.specs.Reads.{countsFit, fitsOn}
 use Rattle.model.specs.Format.{formatRows}
 use Rattle.model.specs.Transaction.{beginRows, updateRows, readRows, commitRows}
@@ -20,7 +23,8 @@ use Rattle.model.specs.Abort.{abortRows}
 use Rattle.model.specs.Checkpoint.{checkpointBeginRows, checkpointStepRows, checkpointEndRows}
 use Rattle.model.specs.Restart.{restartBeginRows, restartStepRows, restartEndRows}
 use Rattle.model.specs.Listing.{listRows}
-use Rattle.model.specs.Call.{Call, format, begin, update, look, read, listLine, listLines, commit, abort, checkpointBegin, checkpointStep, checkpointEnd, restartBegin, restartStep, restartRun, restartEnd, newState, rowsOf, resultOf}
+use Rattle.model.specs.SetClasses.{workWrong, setClassesRows}
+use Rattle.model.specs.Call.{Call, format, begin, update, look, read, listLine, listLines, commit, abort, setClasses, checkpointBegin, checkpointStep, checkpointEnd, restartBegin, restartStep, restartRun, restartEnd, newState, rowsOf, resultOf}
 use Rattle.model.specs.View.{ownWork, coreOf, carriedOf, bodyOf}
 use Rattle.model.specs.Reference.{refused, outcomeOf}
 use Rattle.model.specs.Machine.{result}
@@ -32,7 +36,7 @@ use Rattle.model.proofs.Verdict.{refused-leaves}
 use Rattle.model.proofs.Store.Checks.{shut-stage}
 use Rattle.model.proofs.Tested.{counts-pass}
 use Rattle.model.proofs.Sound.Made.{made-passes, stage-answers}
-use Rattle.model.proofs.View.Own.{own-lent}
+use Rattle.model.proofs.View.Own.{own-body, own-lent}
 use Rattle.model.proofs.Trace.Events.{as-defined}
 
 -- Refused, and with 1 exactly where the stage is none of the call's.
@@ -73,21 +77,39 @@ module _ (h : Carried) (w : World) (serving : whenShut (h .stage) ≡ false) (ot
       go true true e a = record { number = 2; rejects = rw (rows, passes, e, a); stage = rw e }
       go true false e a = record { number = 5; rejects = rw (rows, passes, e, a, wrong); stage = rw e }
 
+  other-work : eqb (length (v .work)) (workWords (c .sizes) (c .bases .total)) ≡ false
+  other-work = go (eqb (length (v .work)) (workWords (c .sizes) (c .bases .total))) refl
+    where
+      go : (b : Bool) → eqb (length (v .work)) (workWords (c .sizes) (c .bases .total)) ≡ b
+          → eqb (length (v .work)) (workWords (c .sizes) (c .bases .total)) ≡ false
+      go true e = true-false (own-body h w serving (eqb-true _ _ e)) other
+      go false e = e
+
+  -- a table of classes has rows 1 and 5 first
+  work-first : (lines : List ℕ) → Turned (setClasses lines) c v
+  unfolding verdict stageForbids setClassesRows workWrong
+  work-first lines = go (whenServing (c .stage)) refl
+    where
+      go : (allows : Bool) → whenServing (c .stage) ≡ allows → Turned (setClasses lines) c v
+      go false e = record { number = 1; rejects = rw e; stage = rw e }
+      go true e = record { number = 5; rejects = rw (counts, e, other-work) refl; stage = rw e }
+
   -- a call for a shut store
   first : (k : Call) (rest : List Row) → stagesOf k (c .stage) ≡ false → rowsOf k c v ≡ row 1 (stageForbids (stagesOf k) true c) ∷ rest → Turned k c v
   unfolding verdict stageForbids
   first k rest e rows = record { number = 1; rejects = rw (rows, e); stage = rw e }
 
   turned : (k : Call) → Turned k c v ⊎ (k ≡ newState)
-  unfolding stageForbids formatRows beginRows updateRows readRows listRows commitRows abortRows checkpointBeginRows checkpointStepRows checkpointEndRows restartBeginRows restartStepRows restartEndRows coreOf
+  unfolding stageForbids formatRows beginRows updateRows readRows listRows commitRows abortRows setClassesRows checkpointBeginRows checkpointStepRows checkpointEndRows restartBeginRows restartStepRows restartEndRows coreOf
   turned (format s budget) = inl (first (format s budget) _ serving refl)
-  turned begin = inl (fifth begin _ _ counts refl)
+  turned (begin class) = inl (fifth (begin class) _ _ counts refl)
   turned (update number page slot value budget) = inl (fifth (update number page slot value budget) _ _ (fits _) refl)
   turned (look (read reader page slot)) = inl (fifth (look (read reader page slot)) _ _ (fits _) refl)
   turned (look (listLine number bytes)) = inl (first (look (listLine number bytes)) _ serving refl)
   turned (look (listLines from bytes)) = inl (first (look (listLines from bytes)) _ serving refl)
   turned (commit number budget) = inl (fifth (commit number budget) _ _ (fits _) refl)
   turned (abort number budget) = inl (fifth (abort number budget) _ _ (fits _) refl)
+  turned (setClasses lines) = inl (work-first lines)
   turned checkpointBegin = inl (fifth checkpointBegin _ _ (fits _) refl)
   turned (checkpointStep budget) = inl (fifth (checkpointStep budget) _ _ (fits _) refl)
   turned (checkpointEnd budget) = inl (fifth (checkpointEnd budget) _ _ (fits _) refl)

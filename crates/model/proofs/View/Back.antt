@@ -31,6 +31,7 @@ coreFrom h ls =
       next = h .next;
       checkpoint = record { ends = h .ends; copied = h .copied };
       replay = record { positions = getD ls 5 []; page = getD (getD ls 6 []) 0 0 };
+      classes = h .classes;
     }
 
 from-own : (c : Core) → coreFrom (carriedOf c) (headLists c) ≡ c

@@ -6,7 +6,7 @@ use mathlib.Core.Bool.{Bool, true, false}
 use Prim.Native.Nat.{ℕ, _+_}
 use lib.Dec.{leb}
 use lib.ListN.{length, set, length-set}
-use borrow.Author.Tests.{not-false}
+use borrow.Author.Tests.{not-false, eqb-true}
 use Rattle.model.specs.declared.Stage.{Stage}
 use Rattle.model.specs.declared.Stage.the-variants.{Shut}
 use Rattle.model.specs.declared.Sizes.{Sizes}
@@ -22,12 +22,14 @@ use Rattle.model.specs.Append.{append, appendIf}
 use Rattle.model.specs.Transaction.{begun, beginRows, beginTask, updated, updateRows, updateTask, readRows, commitRows, commitTask}
 use Rattle.model.specs.Abort.{compensate, undoAll, abortRows, abortTask}
 use Rattle.model.specs.Checkpoint.{checkpointBeginRows, checkpointBeginTask, checkpointStepRows, checkpointStepTask, checkpointEndRows, checkpointEndTask}
+use Rattle.model.specs.SetClasses.{workWrong, setClassesRows, setClassesTask}
 use Rattle.model.specs.Call.{read, lookTask}
 use Rattle.model.proofs.Verdict.{row-passed}
 use Rattle.model.proofs.Lengths.{lengths-right}
 use Rattle.model.proofs.Store.Rows.{stage-row, not-shut}
 use Rattle.model.proofs.View.Head.{HeadSized}
 use Rattle.model.proofs.View.Seen.{Fits}
+use Rattle.model.proofs.Booleans.{or-none}
 
 -- A call that is for stages other than shut, of which rows 1, 2 and 5 come first.
 pub passed : (allowed : Stage → Bool) (fits : Bool) → allowed Shut ≡ false → (c : Core) (w : World) (rest : List Row) → HeadSized c
@@ -60,9 +62,9 @@ unfolding undoAll compensate
 undo-fills s l w number disk [] = refl
 undo-fills s l w number disk (u ∷ us) = undo-fills s _ _ number disk us ∙ append-fills s l (w .work) disk _
 
-pub begin-fits : (c : Core) (w : World) → HeadSized c → verdict (beginRows c w) ≡ accepted → Fits (beginTask c w .core) (w .work)
+pub begin-fits : (c : Core) (w : World) (class : ℕ) → HeadSized c → verdict (beginRows c w class) ≡ accepted → Fits (beginTask c w class .core) (w .work)
 unfolding beginRows beginTask begun withReserved withPlace HeadSized
-begin-fits c w sized ok =
+begin-fits c w class sized ok =
     let p = passed whenServing _ refl c w _ sized ok in
     record { sized = simp length-set sized; serving = p .serving; long = p .long }
 
@@ -91,6 +93,19 @@ pub read-fits : (c : Core) (w : World) (reader page slot : ℕ) → HeadSized c 
     → Fits (lookTask (read reader page slot) c w .core) (w .work)
 unfolding readRows lookTask
 read-fits c w reader page slot sized ok = passed whenServing _ refl c w _ sized ok
+
+-- A table of classes: no list of the head changes.
+pub classes-fits : (c : Core) (w : World) (lines : List ℕ) → HeadSized c → verdict (setClassesRows c w lines) ≡ accepted
+    → Fits (setClassesTask c lines .core) (w .work)
+unfolding setClassesRows setClassesTask workWrong HeadSized
+classes-fits c w lines sized ok =
+    let stage = row-passed _ _ ok in
+    let lengths = row-passed _ _ (stage .1) in
+    record {
+      sized = sized;
+      serving = not-shut whenServing refl (c .stage) (stage-row whenServing _ c (stage .0));
+      long = eqb-true _ _ (not-false _ (or-none _ _ (lengths .0) .0));
+    }
 
 -- Checkpoints: no list of the head changes but the fills.
 pub checkpoint-begin-fits : (c : Core) (w : World) → HeadSized c → verdict (checkpointBeginRows c w) ≡ accepted

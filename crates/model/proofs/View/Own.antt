@@ -23,12 +23,17 @@ body-long work n some =
     (λ e. eq-eqb (length work) (headWords + n) (omega (arith, eqb-true (length (drop headWords work)) n e, length-drop headWords work, some)))
     (λ e. eq-eqb (length (drop headWords work)) n (omega (arith, eqb-true (length work) (headWords + n) e, length-drop headWords work)))
 
--- a state that is not shut, lent slices that pass row 5
+-- a state that is not shut, lent a work memory of its length
+pub own-body : (h : Carried) (w : World) → whenShut (h .stage) ≡ false
+    → length (bodyOf w .work) ≡ workWords (coreOf h (w .work) .sizes) (coreOf h (w .work) .bases .total) → ownWork h (w .work) ≡ true
+unfolding ownWork coreOf bodyOf workWords ownerAt copyAt bufferAt
+own-body h w serving long =
+    let n : ℕ = 64 * h .disks + 64 + h .total in
+    rw (serving, sym (body-long (w .work) n (omega arith)) ∙ eq-eqb (length (drop headWords (w .work))) n long) refl
+
+-- or lent slices that pass row 5
 pub own-lent : (h : Carried) (w : World) → whenShut (h .stage) ≡ false
     → lengthsWrong (coreOf h (w .work) .sizes) (coreOf h (w .work) .bases .total) (bodyOf w) ≡ false → ownWork h (w .work) ≡ true
-unfolding lengthsWrong ownWork coreOf bodyOf workWords ownerAt copyAt bufferAt
+unfolding lengthsWrong
 own-lent h w serving e =
-    let c : Core = coreOf h (w .work) in
-    let n : ℕ = 64 * h .disks + 64 + h .total in
-    let long : length (drop headWords (w .work)) ≡ n = lengths-right (c .sizes) (c .bases .total) (bodyOf w) (not-false _ e) .work in
-    rw (serving, sym (body-long (w .work) n (omega arith)) ∙ eq-eqb (length (drop headWords (w .work))) n long) refl
+    own-body h w serving (lengths-right (coreOf h (w .work) .sizes) (coreOf h (w .work) .bases .total) (bodyOf w) (not-false _ e) .work)

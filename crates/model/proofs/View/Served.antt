@@ -15,7 +15,7 @@ use Rattle.model.specs.State.{newCore}
 use Rattle.model.specs.Refusal.{accepted, verdict, Result}
 use Rattle.model.specs.Causes.{whenShut}
 use Rattle.model.specs.Listing.{listRows}
-use Rattle.model.specs.Call.{Call, format, begin, update, Look, look, read, listLine, listLines, commit, abort, checkpointBegin, checkpointStep, checkpointEnd, restartBegin, restartStep, restartRun, restartEnd, newState, rowsOf, lookTask, taskOf, budgetOf, resultOf, Gives}
+use Rattle.model.specs.Call.{Call, format, begin, update, Look, look, read, listLine, listLines, commit, abort, setClasses, checkpointBegin, checkpointStep, checkpointEnd, restartBegin, restartStep, restartRun, restartEnd, newState, rowsOf, lookTask, taskOf, budgetOf, resultOf, Gives}
 use Rattle.model.specs.View.{headWords, coreOf, bodyOf, Given, givenBy, given, Serves}
 use Rattle.model.specs.Reference.{refused, outcomeOf}
 use Rattle.model.proofs.Booleans.{both}
@@ -24,7 +24,7 @@ use Rattle.model.proofs.Store.Cases.{finishedBy, call-cases}
 use Rattle.model.proofs.View.Head.{HeadSized, carried-back, view-sized}
 use Rattle.model.proofs.View.Back.{view-new}
 use Rattle.model.proofs.View.Seen.{Seen, whole-again, refused-seen, cut-seen, Fits, finished-seen}
-use Rattle.model.proofs.View.Calls.{begin-fits, update-fits, commit-fits, abort-fits, read-fits, checkpoint-begin-fits, checkpoint-step-fits, checkpoint-end-fits}
+use Rattle.model.proofs.View.Calls.{begin-fits, update-fits, commit-fits, abort-fits, read-fits, checkpoint-begin-fits, classes-fits, checkpoint-step-fits, checkpoint-end-fits}
 use Rattle.model.proofs.View.Restarts.{format-fits, restart-begin-fits, replaying, step-fits, run-fits, restart-end-fits}
 
 -- A call that hands back a state which is shut: a new one, or the one that it got.
@@ -47,13 +47,14 @@ listing-shut k c w q wrong number is ok =
 pub call-fits : (k : Call) (c : Core) (w : World) → HeadSized c → verdict (rowsOf k c w) ≡ accepted
     → Fits (taskOf k c w .core) (w .work) ⊎ Shuts k c
 call-fits (format s budget) c w sized ok = inl (format-fits c w s ok)
-call-fits begin c w sized ok = inl (begin-fits c w sized ok)
+call-fits (begin class) c w sized ok = inl (begin-fits c w class sized ok)
 call-fits (update number page slot value budget) c w sized ok = inl (update-fits c w number page slot value sized ok)
 call-fits (look (read reader page slot)) c w sized ok = inl (read-fits c w reader page slot sized ok)
 call-fits (look (listLine number bytes)) c w sized ok = inr (listing-shut _ c w (listLine number bytes) _ number refl ok)
 call-fits (look (listLines first bytes)) c w sized ok = inr (listing-shut _ c w (listLines first bytes) _ first refl ok)
 call-fits (commit number budget) c w sized ok = inl (commit-fits c w number sized ok)
 call-fits (abort number budget) c w sized ok = inl (abort-fits c w number sized ok)
+call-fits (setClasses lines) c w sized ok = inl (classes-fits c w lines sized ok)
 call-fits checkpointBegin c w sized ok = inl (checkpoint-begin-fits c w sized ok)
 call-fits (checkpointStep budget) c w sized ok = inl (checkpoint-step-fits c w sized ok)
 call-fits (checkpointEnd budget) c w sized ok = inl (checkpoint-end-fits c w sized ok)
