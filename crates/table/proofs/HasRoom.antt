@@ -13,8 +13,9 @@ use Rattle.model.specs.declared.Core.{Core}
 use Rattle.model.specs.declared.Logs.{Logs}
 use Rattle.model.specs.Sizes.{ringOf}
 use Rattle.model.specs.State.{limit, startOf, keptOf, tailOf, fillOf, endOf, reservedOn}
-use Rattle.model.specs.Room.{hasRoom, startedBlocks, loadOf, noDisk, better, idlestBelow, idlest}
-use Rattle.table.specs.Parts.{cap, sumsOf, coreOf, roomFor}
+use Rattle.model.specs.Classes.{inSet, setFor}
+use Rattle.model.specs.Room.{hasRoom, startedBlocks, loadOf, noDisk, better, idlestBelow, eligible, idlest}
+use Rattle.table.specs.Parts.{cap, sumsOf, coreOf, roomFor, idlestIn}
 
 -- what ends above the limit has no room
 pub no-room : (start end reserved ring need : ℕ) → limit < end + reserved + need → false ≡ roomFor start end reserved ring need
@@ -62,18 +63,22 @@ unfolding hasRoom roomFor keptOf
 room-here c need d = refl
 
 -- what `idlest` computes of one disk
-pub room-computed : (disks ring : ℕ) (logs : Logs) (sums : List ℕ) (need d : ℕ) {r : Bool}
-    → r ≡ roomFor (getD (logs .starts) d 0) (getD (logs .tails) d 0 + getD (logs .fills) d 0) (getD sums d 0) ring need
-    → r ≡ hasRoom (coreOf disks ring logs (sumsOf sums)) need d
+pub choice-computed : (set disks ring : ℕ) (logs : Logs) (sums : List ℕ) (d : ℕ) {r : Bool}
+    → r ≡ (inSet set d && roomFor (getD (logs .starts) d 0) (getD (logs .tails) d 0 + getD (logs .fills) d 0) (getD sums d 0) ring 2)
+    → r ≡ (inSet set d && hasRoom (coreOf disks ring logs (sumsOf sums)) 2 d)
 unfolding hasRoom roomFor ringOf keptOf startOf tailOf fillOf endOf reservedOn
-room-computed disks ring logs sums need d h = h
+choice-computed set disks ring logs sums d h = h
 
--- the choice reads no more of a state than its disks, ring, logs and the words reserved on each disk
-pub idlest-parts : (c : Core) (need : ℕ) → idlest (coreOf (c .sizes .disks) (c .sizes .ring) (c .logs) (sumsOf (c .table .sums))) need ≡ idlest c need
-unfolding idlest hasRoom ringOf reservedOn
-idlest-parts c need = refl
+-- the choice reads no more of a state than its disks, ring, logs, the words reserved on each disk, and the set of the class
+pub idlest-parts : (c : Core) (class : ℕ)
+    → idlestIn (setFor (c .classes) class) (coreOf (c .sizes .disks) (c .sizes .ring) (c .logs) (sumsOf (c .table .sums))) ≡ idlest c class 2
+unfolding idlestIn idlest eligible hasRoom ringOf reservedOn
+idlest-parts c class = refl
 
--- The better of two disks, where the load is asked before the room.
+-- The better of two disks, where the load is asked before the room. One that may not be chosen is not.
+pub barred-left : (room : Bool) (load : ℕ → ℕ) (disk best : ℕ) → room ≡ false → best ≡ better room load disk best
+barred-left room load disk best none = rw none refl
+
 module _ (room : Bool) (load : ℕ → ℕ) (disk best : ℕ) {idler : Bool} (asked : idler ≡ (eqb best noDisk || ltb (load disk) (load best))) where
   pub busier-left : idler ≡ false → best ≡ better room load disk best
   busier-left left = rw (← asked, left, and-false room) refl

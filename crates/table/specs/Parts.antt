@@ -8,6 +8,8 @@ use Rattle.model.specs.declared.Logs.{Logs}
 use Rattle.model.specs.declared.Table.{Table}
 use Rattle.model.specs.declared.Core.{Core}
 use Rattle.model.specs.Below.{within}
+use Rattle.model.specs.Classes.{inSet}
+use Rattle.model.specs.Room.{hasRoom, loadOf, idlestBelow}
 use Rattle.model.specs.State.{limit, replayingCore, servingWith, startOf, tailOf, fillOf, endOf}
 
 abbrev pub logsOf : List ℕ → List ℕ → List ℕ → Logs
@@ -36,6 +38,10 @@ cap = 2 ^ 63
 -- the room rule of the numbers of one disk
 unfoldable pub roomFor : ℕ → ℕ → ℕ → ℕ → ℕ → Bool
 roomFor start end reserved ring need = leb (end - start + reserved + need) ring && leb (end + reserved + need) limit
+
+-- the disk of a begin whose class these disks serve
+unfoldable pub idlestIn : (set : ℕ) → Core → ℕ
+idlestIn set c = idlestBelow (λ d. inSet set d && hasRoom c 2 d) (loadOf (c .logs)) (c .sizes .disks)
 
 -- the bounds of one disk's log, where these words are kept as reserved on each disk, and the places reserve those
 unfoldable pub logSound : ℕ → Logs → (kept sums : List ℕ) → ℕ → Bool

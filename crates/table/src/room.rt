@@ -1,13 +1,16 @@
 // The room rule: whether a need fits on a disk, and the idlest disk with room.
+use crate::place::CLOSE_WORDS;
+use classes::kept::in_set;
 use words::saturating_sub;
 ghost use mathlib.Core.Path.{_≡_};
-ghost use mathlib.Core.Bool.{_||_};
+ghost use mathlib.Core.Bool.{_&&_, _||_};
 ghost use Prim.Native.Nat.{_+_, _≤_, _<_};
 ghost use lib.Dec.{ltb, eqb};
 ghost use lib.ListN.{length, getD};
 ghost use Rattle.model.specs.State.{limit};
-ghost use Rattle.model.specs.Room.{startedBlocks, noDisk, better, idlest};
-ghost use Rattle.table.specs.Parts.{logsOf, sumsOf, coreOf, roomFor};
+ghost use Rattle.model.specs.Classes.{inSet};
+ghost use Rattle.model.specs.Room.{startedBlocks, noDisk, better};
+ghost use Rattle.table.specs.Parts.{logsOf, sumsOf, coreOf, roomFor, idlestIn};
 
 // The bound of positions: 2^62.
 pub const LIMIT: u64 = 4611686018427387904;
@@ -72,26 +75,30 @@ fn better_disk(
     fills: &[u64],
     disk: usize,
     best: usize,
+    set: u64,
     start: u64,
     tail: u64,
     sum: u64,
     ring: u64,
-    need: u64,
 ) -> usize
-    requires { ⌜ (disk < 8) × (best ≤ 8) × (length (now fills) ≡ 8) × (need ≤ limit) ⌝ }
-    ensures { λ r. ⌜ (r ≤ 8) × (r ≡ better (roomFor start (tail + getD (now (fills .entry)) disk 0) sum ring need) (λ d. startedBlocks (getD (now (fills .entry)) d 0)) disk best) ⌝ }
+    requires { ⌜ (disk < 8) × (best ≤ 8) × (length (now fills) ≡ 8) ⌝ }
+    ensures { λ r. ⌜ (r ≤ 8) × (r ≡ better (inSet set disk && roomFor start (tail + getD (now (fills .entry)) disk 0) sum ring 2) (λ d. startedBlocks (getD (now (fills .entry)) d 0)) disk best) ⌝ }
 {
     if !is_idler(fills, disk, best) {
         return best;
     }
-    if has_room(start, tail, fills[disk], sum, ring, need) {
+    if !in_set(set, disk) {
+        return best;
+    }
+    if has_room(start, tail, fills[disk], sum, ring, CLOSE_WORDS) {
         disk
     } else {
         best
     }
 }
 
-// The disk of a new transaction, 8 where none has room. `fills` are the words buffered, `sums` those reserved on each disk.
+// The disk of a new transaction, one of the set that has room for what a begin reserves; 8 where there is none. `fills` are the words
+// buffered, `sums` those reserved on each disk.
 pub fn idlest<'a>(
     disks: u64,
     ring: u64,
@@ -99,16 +106,16 @@ pub fn idlest<'a>(
     tails: &'a [u64; 8],
     fills: &'a [u64],
     sums: &'a [u64],
-    need: u64,
+    set: u64,
 ) -> usize
-    requires { ⌜ (disks ≤ 8) × (need ≤ limit) × (length (now fills) ≡ 8) × (length (now sums) ≡ 8) ⌝ }
-    ensures { λ r. ⌜ (r ≤ 8) × (r ≡ idlest (coreOf disks ring (logsOf (now (starts .entry)) (now (tails .entry)) (now (fills .entry))) (sumsOf (now (sums .entry)))) need) ⌝ }
+    requires { ⌜ (disks ≤ 8) × (length (now fills) ≡ 8) × (length (now sums) ≡ 8) ⌝ }
+    ensures { λ r. ⌜ (r ≤ 8) × (r ≡ idlestIn set (coreOf disks ring (logsOf (now (starts .entry)) (now (tails .entry)) (now (fills .entry))) (sumsOf (now (sums .entry))))) ⌝ }
 {
     let count = disks as usize;
     let mut best: usize = 8;
     let mut d: usize = 0;
     while d < count {
-        best = better_disk(fills, d, best, starts[d], tails[d], sums[d], ring, need);
+        best = better_disk(fills, d, best, set, starts[d], tails[d], sums[d], ring);
         d += 1;
     }
     best

@@ -1,0 +1,2 @@
+-- Laws of a table as it is lent and as it is kept.
+pub mod Tables
