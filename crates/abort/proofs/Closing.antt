@@ -50,6 +50,7 @@ tailed h disk tail =
       starts = h .starts;
       tails = set (h .tails) disk tail;
       ends = h .ends;
+      classes = h .classes;
     }
 
 module _ (h : Carried) (w : World) (number budget : ℕ) {t : Target} (st : Standing h w number t) where

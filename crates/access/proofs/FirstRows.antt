@@ -12,6 +12,7 @@ use Rattle.model.specs.declared.Carried.{Carried}
 use Rattle.model.specs.Sizes.{widthIn}
 use Rattle.model.specs.World.{World}
 use Rattle.model.specs.Memory.{bufferAt}
+use Rattle.model.specs.Classes.{noClasses}
 use Rattle.model.specs.State.{slotPlace}
 use Rattle.model.specs.Refusal.{Row, row, verdict}
 use Rattle.model.specs.Causes.{whenServing, anchorWrong, slotMissing}
@@ -51,7 +52,7 @@ module _ (h : Carried) (w : World) {stage : Stage} {pages disks ring t : ℕ} (t
 -- Of the numbers alone: they are those of some state.
 abbrev pub someState : Stage → (pages disks ring t : ℕ) → (tails : List ℕ) → Carried
 someState stage pages disks ring t tails =
-    record { stage = stage; pages = pages; disks = disks; ring = ring; total = t; epoch = 0; next = 0; copied = 0; starts = []; tails = tails; ends = [] }
+    record { stage = stage; pages = pages; disks = disks; ring = ring; total = t; epoch = 0; next = 0; copied = 0; starts = []; tails = tails; ends = []; classes = noClasses }
 
 module _ (w : World) (stage : Stage) (pages disks ring t : ℕ) (tails : List ℕ) {r : ℕ}
     (answer : r ≡ lentRefusal (whenServing stage) pages disks ring t (length (w .anchor)) (length (w .pages)) (length (w .backups)) (length (w .logs)) (length (w .work)))

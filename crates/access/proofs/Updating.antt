@@ -152,6 +152,7 @@ module _ (h : Carried) (w : World) (own : ownWork h (w .work) ≡ true) {number 
             starts = h .starts;
             tails = set (h .tails) (p .disk) (r .logged .tail);
             ends = h .ends;
+            classes = h .classes;
           }
       unfolding withLog coreOf
       carried-after = refl
@@ -163,7 +164,7 @@ module _ (h : Carried) (w : World) (own : ownWork h (w .work) ≡ true) {number 
       pub update-finished : {work : List ℕ}
           → work ≡ putWords (filling (p .disk) (r .logged .fill)) (putWords (entering (p .place) number (p .disk) (p .first) (p .reserved) (p .sum)) (take headWords (w .work) ++ body))
           → {reply : Handed}
-          → reply ≡ finishedTo (record { stage = h .stage; pages = h .pages; disks = h .disks; ring = h .ring; total = h .total; epoch = h .epoch; next = h .next; copied = h .copied; starts = h .starts; tails = set (h .tails) (p .disk) (r .logged .tail); ends = h .ends }) (budget - rest) (r .ones)
+          → reply ≡ finishedTo (record { stage = h .stage; pages = h .pages; disks = h .disks; ring = h .ring; total = h .total; epoch = h .epoch; next = h .next; copied = h .copied; starts = h .starts; tails = set (h .tails) (p .disk) (r .logged .tail); ends = h .ends; classes = h .classes }) (budget - rest) (r .ones)
           → Serves (update number page slot value budget) h w reply rest (worldOf (w .anchor) pages (w .backups) logs work)
       unfolding bodyOf
       update-finished head-left reply =

@@ -1,4 +1,5 @@
 // How a call ends that takes its state in two parts: refused, finished or cut.
+use crate::states::no_classes;
 use model::Answer;
 use model::Carried;
 use model::Handed;
@@ -68,6 +69,7 @@ pub fn new_carried() -> Carried
         starts: [0u64; 8],
         tails: [0u64; 8],
         ends: [0u64; 8],
+        classes: no_classes(),
     }
 }
 

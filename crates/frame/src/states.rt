@@ -1,6 +1,7 @@
-// States written out field by field: here alone, so that a field more is an edit of one file.
+// New, opened and replaying states, written out field by field.
 use model::Bases;
 use model::Checkpoint;
+use model::Classes;
 use model::Core;
 use model::Logs;
 use model::Replay;
@@ -8,6 +9,7 @@ use model::Sizes;
 use model::Stage;
 use model::Table;
 ghost use mathlib.Core.Path.{_≡_};
+ghost use Rattle.model.specs.Classes.{noClasses};
 ghost use Rattle.model.specs.State.{basesOf, noTable, noCheckpoint, noReplay, emptyLogs, newCore, openCore, replayingCore};
 
 fn no_table() -> Table
@@ -37,6 +39,16 @@ fn no_replay() -> Replay
     Replay {
         positions: [0u64; 8],
         page: 0,
+    }
+}
+
+pub fn no_classes() -> Classes
+    ensures { λ r. ⌜ r ≡ noClasses ⌝ }
+{
+    Classes {
+        lows: [0u8; 16],
+        highs: [0u8; 16],
+        sets: [0u8; 16],
     }
 }
 
@@ -76,6 +88,7 @@ pub fn new_core() -> Core
         next: 0,
         checkpoint: no_checkpoint(),
         replay: no_replay(),
+        classes: no_classes(),
     }
 }
 
@@ -94,6 +107,7 @@ pub fn open_core(sizes: Sizes, bases: Bases, epoch: u64, tails: [u64; 8]) -> Cor
         next: 1,
         checkpoint: no_checkpoint(),
         replay: no_replay(),
+        classes: no_classes(),
     }
 }
 
@@ -125,5 +139,6 @@ pub fn replaying_core(
             positions: starts,
             page: 0,
         },
+        classes: no_classes(),
     }
 }

@@ -23,7 +23,7 @@ use Rattle.model.specs.Format.{formatRows}
 use Rattle.model.specs.Checkpoint.{checkpointBeginRows, checkpointStepRows, checkpointEndRows}
 use Rattle.model.specs.Restart.{restartBeginRows, restartStepRows, restartEndRows}
 use Rattle.model.specs.Answers.{stagesOf}
-use Rattle.model.specs.Call.{Call, format, begin, update, look, commit, abort, checkpointBegin, checkpointStep, checkpointEnd, restartBegin, restartStep, restartRun, restartEnd, newState, rowsOf, taskOf, budgetOf, resultOf, Gives}
+use Rattle.model.specs.Call.{Call, format, begin, update, look, commit, abort, setClasses, checkpointBegin, checkpointStep, checkpointEnd, restartBegin, restartStep, restartRun, restartEnd, newState, rowsOf, taskOf, budgetOf, resultOf, Gives}
 use Rattle.model.specs.View.{headWords, coreOf, carriedOf, bodyOf, behind, headAfter, givenBy, given, Serves}
 use Rattle.model.proofs.Booleans.{true-false}
 use Rattle.model.proofs.Verdict.{refused-leaves}
@@ -37,11 +37,12 @@ use Rattle.head.proofs.Alike.{Alike, same, unsound, view-alike, narrowe
 
 abbrev pub takesState : Call → Bool
 takesState (format s budget) = true
-takesState begin = false
+takesState (begin class) = false
 takesState (update number page slot value budget) = false
 takesState (look q) = false
 takesState (commit number budget) = false
 takesState (abort number budget) = false
+takesState (setClasses lines) = false
 takesState checkpointBegin = true
 takesState (checkpointStep budget) = true
 takesState (checkpointEnd budget) = true
@@ -81,11 +82,12 @@ unsound-refused : (k : Call) → takesState k ≡ true → (c : Core) (w : World
     → verdict (rowsOf k c w) ≡ rejected (frontNumber (stagesOf k) c w) 0 0
 unfolding formatRows checkpointBeginRows checkpointStepRows checkpointEndRows restartBeginRows restartStepRows restartEndRows
 unsound-refused (format s budget) t c w stage e = shut-front c w _ stage
-unsound-refused begin t c w stage e = true-false refl (sym t)
+unsound-refused (begin class) t c w stage e = true-false refl (sym t)
 unsound-refused (update number page slot value budget) t c w stage e = true-false refl (sym t)
 unsound-refused (look q) t c w stage e = true-false refl (sym t)
 unsound-refused (commit number budget) t c w stage e = true-false refl (sym t)
 unsound-refused (abort number budget) t c w stage e = true-false refl (sym t)
+unsound-refused (setClasses lines) t c w stage e = true-false refl (sym t)
 unsound-refused checkpointBegin t c w stage e = unsound-front whenOpen c w _ e
 unsound-refused (checkpointStep budget) t c w stage e = unsound-front whenCopying c w _ e
 unsound-refused (checkpointEnd budget) t c w stage e = unsound-front whenCopying c w _ e

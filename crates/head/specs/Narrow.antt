@@ -32,4 +32,5 @@ narrowed c =
       next = c .next;
       checkpoint = c .checkpoint;
       replay = c .replay;
+      classes = c .classes;
     }

@@ -59,6 +59,7 @@ fn core_in(carried: Carried, work: &[u64]) -> Core
     let starts = carried.starts;
     let tails = carried.tails;
     let ends = carried.ends;
+    let classes = carried.classes;
     Core {
         stage,
         sizes: Sizes {
@@ -88,6 +89,7 @@ fn core_in(carried: Carried, work: &[u64]) -> Core
             positions,
             page: work[PAGE_AT],
         },
+        classes,
     }
 }
 

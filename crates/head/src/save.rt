@@ -89,6 +89,7 @@ pub fn carried_of(core: Core) -> Carried
     let starts = logs.starts;
     let tails = logs.tails;
     let ends = checkpoint.ends;
+    let classes = core.classes;
     Carried {
         stage,
         pages: core.sizes.pages,
@@ -101,5 +102,6 @@ pub fn carried_of(core: Core) -> Carried
         starts,
         tails,
         ends,
+        classes,
     }
 }

@@ -1,12 +1,12 @@
 -- A call's answer and state, handed back by the store.
 use mathlib.Core.Path.{_≡_, ap, _∙_}
 use mathlib.Core.Bool.{true}
-use mathlib.Core.List.{List}
+use mathlib.Core.List.{List, []}
 use Prim.Native.Nat.{ℕ}
 use Rattle.model.specs.declared.Answer.{Answer}
 use Rattle.model.specs.declared.Carried.{Carried}
 use Rattle.model.specs.declared.Handed.{Handed}
-use Rattle.model.specs.World.{World}
+use Rattle.model.specs.World.{World, worldOf}
 use Rattle.model.specs.State.{sound}
 use Rattle.model.specs.Refusal.{Result}
 use Rattle.model.specs.Call.{Call, Gives}
@@ -45,3 +45,16 @@ pub handed-on : (k : Call) (h : Carried) (w exit : World) (left : ℕ) (handed :
 handed-on k h w exit left handed in-state serves back =
     let mine = rw (in-state .0) at serves in
     (rw (back .0, back .1) mine, rw (back .1) (sound-served k h w handed left exit (in-state .1) mine))
+
+-- The same of a call that is lent no slice but the work memory, and changes no word of it: whatever the others hold.
+pub handed-over : (k : Call) (h : Carried) (work : List ℕ) (handed : Handed) {carried next : Carried} {answer : Answer}
+    → (carried ≡ h) × Arrays h
+    → ((anchor pages backups logs : List ℕ) → Serves k carried (worldOf anchor pages backups logs work) handed 0 (worldOf anchor pages backups logs work))
+    → (answer ≡ handed .answer) × (next ≡ handed .carried)
+    → ((anchor pages backups logs : List ℕ)
+    → Serves k h (worldOf anchor pages backups logs work) (record { answer = answer; carried = next }) 0 (worldOf anchor pages backups logs work))
+    × (sound (coreOf h work) ≡ true → sound (coreOf next work) ≡ true)
+handed-over k h work handed in-state serves back = (
+  λ anchor pages backups logs. handed-on k h _ _ 0 handed in-state (serves anchor pages backups logs) back .0,
+  handed-on k h _ _ 0 handed in-state (serves [] [] [] []) back .1,
+)

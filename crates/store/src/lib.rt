@@ -20,7 +20,7 @@ ghost use Rattle.model.specs.Call.{newState};
 ghost use Rattle.model.specs.View.{coreOf, Serves};
 ghost use Rattle.store.specs.Handed.{Arrays};
 
-// What is handed from one call to the next, 256 bytes; the lent work memory goes with it, and has the rest of the state in its head.
+// What is handed from one call to the next, 304 bytes; the lent work memory goes with it, and has the rest of the state in its head.
 pub struct State {
     carried: Carried,
 }

@@ -6,29 +6,43 @@ use crate::hand_back;
 use model::Answer;
 ghost use mathlib.Core.Path.{_≡_};
 ghost use mathlib.Core.Bool.{true};
+ghost use mathlib.Core.List.{List};
+ghost use Prim.Native.Nat.{ℕ};
 ghost use Rattle.model.specs.World.{worldOf};
 ghost use Rattle.model.specs.Moments.{old, new, oldWorld};
 ghost use Rattle.model.specs.State.{sound};
 ghost use Rattle.model.specs.Transaction.{readWords};
-ghost use Rattle.model.specs.Call.{begin, update, read, commit, abort, look};
+ghost use Rattle.model.specs.Call.{begin, update, read, commit, abort, setClasses, look};
 ghost use Rattle.model.specs.View.{coreOf, bodyOf, Serves};
 ghost use Rattle.store.specs.Handed.{handedOf};
 
-// Answers the transaction's number.
+// Answers the transaction's number. Its disk is the idlest with room of those that serve its class.
 pub fn begin(
     state: State,
+    class: u8,
     anchor: &[u64],
     pages: &[u64],
     backups: &[u64],
     logs: &[u64],
     work: &mut [u64],
 ) -> Called
-    ensures { λ r. ⌜ Serves begin (state .carried) (oldWorld anchor pages backups logs work)
+    ensures { λ r. ⌜ Serves (begin class) (state .carried) (oldWorld anchor pages backups logs work)
         (handedOf r) 0 (worldOf (old anchor) (old pages) (old backups) (old logs) (new work)) ⌝ }
     ensures { λ r. ⌜ (sound (coreOf (state .carried) (old work)) ≡ true → sound (coreOf (r .state .carried) (new work)) ≡ true) ⌝ }
 {
     let carried = carried_of(state);
-    let handed = txn::begin::begin(carried, anchor, pages, backups, logs, work);
+    let handed = txn::begin::begin(carried, class, anchor, pages, backups, logs, work);
+    hand_back(handed)
+}
+
+// Sets which disks serve which class, from 1 to 16 lines of three words: lowest class, highest class, set of disks. No device is lent.
+pub fn set_classes(state: State, lines: &[u64], work: &[u64]) -> Called
+    ensures { λ r. ⌜ ((anchor pages backups logs : List ℕ) → Serves (setClasses (old lines)) (state .carried) (worldOf anchor pages backups logs (old work))
+        (handedOf r) 0 (worldOf anchor pages backups logs (old work))) ⌝ }
+    ensures { λ r. ⌜ (sound (coreOf (state .carried) (old work)) ≡ true → sound (coreOf (r .state .carried) (old work)) ≡ true) ⌝ }
+{
+    let carried = carried_of(state);
+    let handed = txn::setting::set_classes(carried, lines, work);
     hand_back(handed)
 }
 

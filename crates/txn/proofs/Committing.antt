@@ -104,6 +104,7 @@ tailed h disk tail =
       starts = h .starts;
       tails = set (h .tails) disk tail;
       ends = h .ends;
+      classes = h .classes;
     }
 
 -- What is known of the transaction where no row applies.

@@ -2,3 +2,4 @@
 pub mod Beginning
 pub mod Committed
 pub mod Committing
+pub mod ClassesSet

@@ -117,29 +117,29 @@ array-write-moved c =
 
 -- the slices that were lent on keep their lengths
 same-length-10 : tie.Need-same-length-10
-same-length-10 c = search (needs, c .before .before .before .before .before .before .before .before .before .before .before .before .before .before .before .before .before .pages, c .before .before .before .before .before .before .before .before .before .before .before .before .before .before .before .before .before .before .before .before .log-and-set, c .before .before .before .before .before .before .before .before .before .before .before .before .before .before .before .before .slice-known5)
+same-length-10 c = search (needs, c .before .before .before .before .before .before .before .before .before .before .before .before .before .before .before .before .before .before .pages, c .before .before .before .before .before .before .before .before .before .before .before .before .before .before .before .before .before .before .before .before .before .log-and-set, c .before .before .before .before .before .before .before .before .before .before .before .before .before .before .before .before .before .slice-known5)
 
 same-length-11 : tie.Need-same-length-11
-same-length-11 c = search (needs, c .before .before .before .before .before .before .before .before .before .before .before .before .before .before .before .logs, c .before .before .before .before .before .before .before .before .before .before .before .before .before .before .before .before .before .before .before .before .log-and-set, c .before .before .before .before .before .before .before .before .before .before .before .before .before .before .slice-known6)
+same-length-11 c = search (needs, c .before .before .before .before .before .before .before .before .before .before .before .before .before .before .before .before .logs, c .before .before .before .before .before .before .before .before .before .before .before .before .before .before .before .before .before .before .before .before .before .log-and-set, c .before .before .before .before .before .before .before .before .before .before .before .before .before .before .before .slice-known6)
 
 same-length-12 : tie.Need-same-length-12
-same-length-12 c = search (needs, c .before .before .before .before .before .before .before .before .work2, c .before .before .before .before .before .before .before .before .before .count-update, c .before .before .before .before .before .before .before .before .before .before .before .before .before .before .before .before .before .before .before .work, c .before .before .before .before .before .before .before .before .before .before .before .before .before .before .before .before .before .before .before .before .log-and-set, c .before .before .before .before .before .before .before .before .before .before .before .before .before .before .before .before .before .before .slice-known4, c .before .before .before .before .before .before .before .slice-known7, c .before .before .before .before .before .before .before .before .before .before .before .before .before .before .before .before .before .before .before .before .before .before .before .before .body)
+same-length-12 c = search (needs, c .before .before .before .before .before .before .before .before .before .work2, c .before .before .before .before .before .before .before .before .before .before .count-update, c .before .before .before .before .before .before .before .before .before .before .before .before .before .before .before .before .before .before .before .before .work, c .before .before .before .before .before .before .before .before .before .before .before .before .before .before .before .before .before .before .before .before .before .log-and-set, c .before .before .before .before .before .before .before .before .before .before .before .before .before .before .before .before .before .before .before .slice-known4, c .before .before .before .before .before .before .before .before .slice-known7, c .before .before .before .before .before .before .before .before .before .before .before .before .before .before .before .before .before .before .before .before .before .before .before .before .before .body)
 
 returns-4 : tie.Need-returns-4
 unfolding bodyOf
 returns-4 c =
-    let x = c .before .before .before .before .before .before .before .before .before .before .before .before .before .before .before .before .before .before .before .before .before .before .before .before .before .before .before .before .before .before .before .before .before .before .before .before .before .before .before .before .before .args in
+    let x = c .before .before .before .before .before .before .before .before .before .before .before .before .before .before .before .before .before .before .before .before .before .before .before .before .before .before .before .before .before .before .before .before .before .before .before .before .before .before .before .before .before .before .args in
     let w = worldOf (x .anchor .now) (x .pages .now) (x .backups .now) (x .logs .now) (x .work .now) in
-    let planned = c .before .before .before .before .before .before .before .before .before .before .before .before .before .before .before .before .before .before .before .before .before .before .before .before .before .before .before .before .before .plan-update .ensures (x .carried) (record { same-stage = refl; same-pages = refl; same-disks = refl; same-ring = refl; same-total = refl }) refl refl in
-    let none = c .before .before .before .before .before .before .before .before .before .before .before .before .before .before .before .before .before .before .before .before .before .before .before .before .before .before .before .if1 .left in
+    let planned = c .before .before .before .before .before .before .before .before .before .before .before .before .before .before .before .before .before .before .before .before .before .before .before .before .before .before .before .before .before .before .plan-update .ensures (x .carried) (record { same-stage = refl; same-pages = refl; same-disks = refl; same-ring = refl; same-total = refl }) refl refl in
+    let none = c .before .before .before .before .before .before .before .before .before .before .before .before .before .before .before .before .before .before .before .before .before .before .before .before .before .before .before .before .if1 .left in
     let plans = planned .ready none in
     let own = planned .own none in
-    let home = home-is (x .carried) w own (x .value .now) plans (c .before .before .before .before .before .before .before .before .before .before .before .before .before .before .before .before .before .before .before .before .before .before .before .before .before .home-at .ensures) in
+    let home = home-is (x .carried) w own (x .value .now) plans (c .before .before .before .before .before .before .before .before .before .before .before .before .before .before .before .before .before .before .before .before .before .before .before .before .before .before .home-at .ensures) in
     let did = rw (home-disk (x .carried) w own (x .value .now) plans home) at
-    (c .before .before .before .before .before .before .before .before .before .before .before .before .before .before .before .before .before .before .before .before .log-and-set .ensures (coreOf (x .carried) (x .work .now) .sizes) (coreOf (x .carried) (x .work .now) .logs) (bodyOf w)
+    (c .before .before .before .before .before .before .before .before .before .before .before .before .before .before .before .before .before .before .before .before .before .log-and-set .ensures (coreOf (x .carried) (x .work .now) .sizes) (coreOf (x .carried) (x .work .now) .logs) (bodyOf w)
     (rw (body-lent (x .work .now)) (change-lent (x .carried) w own (x .value .now) plans home)) refl (plans .owner)) in
-    update-finished (x .carried) w own (x .value .now) plans (update-taken (x .carried) w (x .value .now) planned none) did (not-false _ (c .before .before .before .before .before .before .before .before .before .before .before .if2 .left))
-    (c .before .before .before .before .before .before .before .before .before .count-update .ensures ∙ rw (body-kept (x .work .now) _) refl) (c .finished2 .ensures ∙ rw (c .before .before .before .before .before .before .before .before .before .before .before .before .before .saturating-sub .ensures) refl)
+    update-finished (x .carried) w own (x .value .now) plans (update-taken (x .carried) w (x .value .now) planned none) did (not-false _ (c .before .before .before .before .before .before .before .before .before .before .before .before .if2 .left))
+    (c .before .before .before .before .before .before .before .before .before .before .count-update .ensures ∙ rw (body-kept (x .work .now) _) refl) (c .finished2 .ensures ∙ rw (c .before .before .before .before .before .before .before .before .before .before .before .before .before .before .saturating-sub .ensures) refl)
 
 pub update-spec : {M : Type 1} → statement M
 update-spec =

@@ -10,11 +10,11 @@ use Rattle.checkpoint.proofs.step.copy_next.Tie as tie
 returns : tie.Need-returns
 unfolding checkpointStepTask
 returns c =
-    let start = c .before .before .before .before .before .before .before .before .before .before .before .before .before .before .before .before .before .before .before .before .before in
+    let start = c .before .before .before .before .before .before .before .before .before .before .before .before .before .before .before .before .before .before .before .before .before .before in
     let x = start .args in
     λ anchor logs.
     step-settled (x .core) (worldOf anchor (x .pages .now) (x .backups .now) logs (x .work .now)) (omega (arith, start .pre .next .page-below))
-    (c .before .before .before .before .before .before .before .before .before .before .before .copy-page .ensures anchor logs) (c .settle .ensures)
+    (c .before .before .before .before .before .before .before .before .before .before .before .before .copy-page .ensures anchor logs) (c .settle .ensures)
 
 pub copy-next-spec : {M : Type 1} → statement M
 copy-next-spec =

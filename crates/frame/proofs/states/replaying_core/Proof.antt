@@ -4,7 +4,7 @@ use Rattle.frame.proofs.states.replaying_core.Statement.{statement}
 use Rattle.frame.proofs.states.replaying_core.Tie as tie
 
 returns : tie.Need-returns
-returns c = rw (← c .before .before .pre, c .before .no-table .ensures, c .no-checkpoint .ensures)
+returns c = rw (← c .before .before .before .pre, c .before .before .no-table .ensures, c .before .no-checkpoint .ensures, c .no-classes .ensures)
 
 pub replaying-core-spec : {M : Type 1} → statement M
-replaying-core-spec = tie.close (tie.spec (λ c κs. search needs) (λ c κs. search needs) returns)
+replaying-core-spec = tie.close (tie.spec (λ c κs. search needs) (λ c κs. search needs) (λ c κs. search needs) returns)

@@ -7,7 +7,7 @@ use Rattle.head.proofs.load.core_in.Tie as tie
 returns : tie.Need-returns
 unfolding narrowed
 returns c =
-    let read = c .before .before .before .before in
+    let read = c .before .before .before .before .before in
     let first = read .before .before .before .before .before in
     rw (
       first .bytes-at .ensures,

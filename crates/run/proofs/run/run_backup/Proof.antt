@@ -87,20 +87,20 @@ add-t13 c =
     omega (arith, all, some, inv .0, sizes-bounded core (start .pre .0) .pages-max)
 
 same-length : tie.Need-same-length Inv-loop μ-loop
-same-length c = c .before .before .before .before .before .before .before .loop .inv .1
+same-length c = c .before .before .before .before .before .before .before .before .loop .inv .1
 
 returns-2 : tie.Need-returns-2 Inv-loop μ-loop
 unfolding withReplay
 returns-2 c =
-    let start = c .before .before .before .before .before .before .before .before .before .before .before .before .before .before .before .before .before in
+    let start = c .before .before .before .before .before .before .before .before .before .before .before .before .before .before .before .before .before .before in
     let core = start .args .core in
-    let inv = c .before .before .before .before .before .before .before .loop .inv in
-    let all = c .before .before .before .before .before .before .before .before .lesser .ensures in
-    let some = c .before .before .before .before .before .before .before .before .before .before .if1 .left in
+    let inv = c .before .before .before .before .before .before .before .before .loop .inv in
+    let all = c .before .before .before .before .before .before .before .before .before .lesser .ensures in
+    let some = c .before .before .before .before .before .before .before .before .before .before .before .if1 .left in
     λ anchor logs work pass.
     rw (c .finish .ensures)
     (run-given _ _ _ _ (step-accepted (core .sizes .disks) core _ (no-fault core _) (omega arith) (omega (arith, remaining-backup core, some)))
-    (pages-done core _ pass (omega (arith, all, some, inv .0)) (inv .1) (inv .2 anchor logs work pass) (omega (arith, all, inv .0, c .before .before .before .before .before .before .loop-test .left))))
+    (pages-done core _ pass (omega (arith, all, some, inv .0)) (inv .1) (inv .2 anchor logs work pass) (omega (arith, all, inv .0, c .before .before .before .before .before .before .before .loop-test .left))))
 
 pub run-backup-spec : {M : Type 1} → statement M
 run-backup-spec =

@@ -9,7 +9,7 @@ use Rattle.store.proofs.transactions.begin.Tie as tie
 returns : tie.Need-returns
 returns c =
     let x = c .before .before .before .before .before .before .before .before .before .before .before .args in
-    handed-on begin (x .state .carried) (worldOf (x .anchor .now) (x .pages .now) (x .backups .now) (x .logs .now) (x .work .now)) _ _ _
+    handed-on (begin (x .class)) (x .state .carried) (worldOf (x .anchor .now) (x .pages .now) (x .backups .now) (x .logs .now) (x .work .now)) _ _ _
     (c .before .before .before .before .before .carried-of .ensures) (c .before .before .before .begin .ensures) (c .hand-back .ensures)
 
 pub begin-spec : {M : Type 1} → statement M

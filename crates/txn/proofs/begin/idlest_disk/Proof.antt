@@ -10,7 +10,7 @@ use Rattle.txn.proofs.begin.idlest_disk.Tie as tie
 returns : tie.Need-returns
 unfolding part idlest
 returns c =
-    (λ h own disks ring starts tails. c .idlest .ensures .1 ∙ idlest-words h _ own disks ring starts tails, c .idlest .ensures .0)
+    (λ h class own disks ring starts tails set. c .idlest .ensures .1 ∙ idlest-words h _ own class disks ring starts tails set, c .idlest .ensures .0)
 
 pub idlest-disk-spec : {M : Type 1} → statement M
 idlest-disk-spec =
