@@ -39,7 +39,7 @@ fn opened(
     let mut tries: u64 = 0;
     while tries < 2 {
         tries += 1;
-        let called = begin(state, anchor, pages, backups, logs, work);
+        let called = begin(state, 0, anchor, pages, backups, logs, work);
         state = called.state;
         let answer = called.answer;
         if is_refused(answer) {

@@ -11,9 +11,11 @@ use store::restarts::restart_step;
 use store::transactions::abort;
 use store::transactions::begin;
 use store::transactions::commit;
+use store::transactions::set_classes;
 use trial_table::calls::Call;
 use trial_table::calls::Kind;
 use trial_table::calls::lay_value;
+use trial_table::drawing::lay_lines;
 use trial_table::shape::Shape;
 use trial_table::shape::list_pages;
 use trial_table::words::front;
@@ -34,6 +36,7 @@ pub fn make(
 ) -> Called {
     let kind = call.kind;
     match kind {
+        Kind::SetClasses => make_table(state, shape.disks, call.seed, work),
         Kind::Begin
         | Kind::Read
         | Kind::CheckpointBegin
@@ -68,13 +71,19 @@ fn make_free(
     let kind = call.kind;
     let number = call.number;
     match kind {
-        Kind::Begin => begin(state, anchor, pages, backups, logs, work),
+        Kind::Begin => begin(state, call.class, anchor, pages, backups, logs, work),
         Kind::Read => make_read(state, call, anchor, pages, backups, logs, work, book),
         Kind::CheckpointBegin => checkpoint_begin(state, anchor, pages, backups, logs, work),
         Kind::RestartBegin => restart_begin(state, anchor, pages, backups, logs, work),
         Kind::RestartStep => restart_step(state, number, anchor, pages, backups, logs, work),
         _ => restart_run(state, number, call.most, anchor, pages, backups, logs, work),
     }
+}
+
+fn make_table(state: State, disks: u64, seed: u64, work: &[u64]) -> Called {
+    let mut lines = [0u64; 64];
+    let words = lay_lines(seed, disks, &mut lines);
+    set_classes(state, front(&lines, words), work)
 }
 
 fn make_storing(

@@ -33,7 +33,7 @@ showingOwn r = showing (valueIn (r .answer)) r
 -- before, as the transaction reads it, XOR after; get reads for reader 0. "A line of any other form" makes no call; 17 is its answer
 -- here, printed as `?`.
 unfoldable pub lineOf : Command → Core → World → Line
-lineOf Begin c w = showingOwn (resultOf begin c w)
+lineOf Begin c w = showingOwn (resultOf (begin 0) c w)
 lineOf (Set number page slot value) c w =
     showing (bitXor (slotWord c w number page slot) value) (resultOf (update number page slot (value ∷ []) 18446744073709551615) c w)
 lineOf (Commit number allowance) c w = showing 0 (resultOf (commit number allowance) c w)

@@ -13,6 +13,7 @@ pub struct Outcome {
     pub value: u64,
 }
 
+// A line of another form. No command sets a table of classes, so no call answers 17 here.
 pub const OTHER: u64 = 17;
 
 // An outcome, and the state for the next line.

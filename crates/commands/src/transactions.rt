@@ -23,7 +23,7 @@ pub fn run_begin(
     ensures { λ r. ⌜ Runs Begin (state .carried) (oldWorld anchor pages backups logs work)
         r (worldOf (old anchor) (old pages) (old backups) (old logs) (new work)) ⌝ }
 {
-    let called = store::transactions::begin(state, anchor, pages, backups, logs, work);
+    let called = store::transactions::begin(state, 0, anchor, pages, backups, logs, work);
     let answer = called.answer;
     let value = value_of(answer);
     done_of(called, value)

@@ -57,7 +57,7 @@ pub fn entered(
     work: &mut Work,
     budget: &mut u64,
 ) -> Called {
-    let begun = begin(state, anchor, pages, backups, logs, work);
+    let begun = begin(state, 0, anchor, pages, backups, logs, work);
     let answer = begun.answer;
     let Answer::Finished { value: number, .. } = answer else {
         return begun;

@@ -86,7 +86,7 @@ fn made(
     budget: &mut u64,
 ) -> Called {
     if turn.lap == 0 {
-        return begin(state, anchor, pages, backups, logs, work);
+        return begin(state, 0, anchor, pages, backups, logs, work);
     }
     if turn.lap <= plan.length {
         return updated(turn, state, anchor, pages, backups, logs, work, budget);
@@ -156,7 +156,7 @@ fn flushed(
     work: &mut Work,
 ) {
     let mut budget = u64::MAX;
-    let begun = begin(state, anchor, pages, backups, logs, work);
+    let begun = begin(state, 0, anchor, pages, backups, logs, work);
     commit(
         begun.state,
         number,

@@ -46,7 +46,7 @@ fn main() {
     let mut backups = [0u64; 4096];
     let mut logs = [0u64; 524296];
     let mut work = [0u64; 2905];
-    let mut book = [0u64; 17560];
+    let mut book = [0u64; 17816];
     let lists = read_number(1);
     let first = Trial {
         state: store::new_state(),

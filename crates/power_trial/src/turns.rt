@@ -104,7 +104,7 @@ fn next_size(t: Trial, anchor: &mut [u64], book: &mut [u64]) -> Trial {
     let progress = t.progress;
     tell(progress.shape, progress.counts);
     put(anchor, 3, 0);
-    wipe(book, 8344);
+    wipe(book, 8600);
     let size = more(t.size);
     Trial {
         state: store::new_state(),

@@ -101,7 +101,7 @@ pub fn acted(
     let state = before.state;
     let mut budget = u64::MAX;
     match act {
-        Act::Begin => begin(state, anchor, pages, backups, logs, work),
+        Act::Begin => begin(state, 0, anchor, pages, backups, logs, work),
         Act::Score(number, slot, value) => {
             let words = [value];
             set(

@@ -87,13 +87,29 @@ fn read_call(shape: Shape, plain: Plain, seed: u64, book: &[u64]) -> Call {
     }
 }
 
-// A transaction's call.
+// A begin of any class.
+fn begin_call(seed: u64) -> Call {
+    Call {
+        class: ((seed >> 28) % 256) as u8,
+        ..call_of(Kind::Begin, 0)
+    }
+}
+
+fn table_call(seed: u64) -> Call {
+    Call {
+        seed: next(seed),
+        ..call_of(Kind::SetClasses, 0)
+    }
+}
+
+// A transaction's call, or a table of classes.
 fn transaction_call(shape: Shape, plain: Plain, die: u64, seed: u64, book: &[u64]) -> Call {
     match die {
-        0..=5 => call_of(Kind::Begin, 0),
+        0..=5 => begin_call(seed),
         6..=17 => update_call(shape, plain, seed, book),
         18..=21 => read_call(shape, plain, seed, book),
         22..=25 => call_of(Kind::Commit, some_number(seed, plain.next, book)),
+        26 => table_call(seed),
         _ => call_of(Kind::Abort, some_number(seed, plain.next, book)),
     }
 }
@@ -165,9 +181,12 @@ fn replay_call(source: u64, seed: u64) -> Call {
 }
 
 // The next call of a restart, with so many calls left and this source not yet replayed; there is none above the number of disks.
-// Now and then a step or a run of a source that has nothing left, or of none.
+// Now and then a step or a run of a source that has nothing left, or of none, or a table of classes.
 pub fn restart_call(shape: Shape, stage: u64, left: u64, source: u64, seed: u64) -> Call {
     let disks = shape.disks;
+    if below(seed >> 34, 64) == 0 {
+        return table_call(seed);
+    }
     if stage == 0 {
         return call_of(Kind::RestartBegin, 0);
     }

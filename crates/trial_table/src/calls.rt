@@ -8,6 +8,7 @@ pub enum Kind {
     Read,
     Commit,
     Abort,
+    SetClasses,
     CheckpointBegin,
     CheckpointStep,
     CheckpointEnd,
@@ -17,10 +18,12 @@ pub enum Kind {
     RestartEnd,
 }
 
-// `number` is the transaction, the reader or the source. A value has `length` words: the first `filled` follow from the seed, the others
-// are 0. A restart's run makes up to `most` steps. `short` tells which slice is lent a word short: 1 the anchor, 2 pages, 3 backups, 4 logs, 5 work; 0 for none.
+// `class` is that of a begin, `number` the transaction, the reader or the source. A value has `length` words: the first `filled` follow
+// from the seed, the others are 0; a table of classes follows from the seed. A restart's run makes up to `most` steps. `short` tells which
+// slice is lent a word short: 1 the anchor, 2 pages, 3 backups, 4 logs, 5 work; 0 for none.
 pub struct Call {
     pub kind: Kind,
+    pub class: u8,
     pub number: u64,
     pub page: u64,
     pub slot: u64,
@@ -35,6 +38,7 @@ pub struct Call {
 pub fn call_of(kind: Kind, number: u64) -> Call {
     Call {
         kind,
+        class: 0,
         number,
         page: 0,
         slot: 0,

@@ -4,6 +4,7 @@ use crate::budget::budget_of;
 use crate::budget::spend;
 use crate::calls::Call;
 use crate::calls::Kind;
+use crate::classes;
 use crate::logs;
 use crate::ones;
 use crate::plain::Plain;
@@ -33,7 +34,8 @@ pub fn expected(
 ) -> Wanted {
     let number = refusal(shape, plain, call, remains, book);
     if number > 0 {
-        return refused(number, budget);
+        let value = classes::refused_value(shape.disks, call.seed, number);
+        return refused(number, value, budget);
     }
     let value = value_of(shape, plain, call, book);
     let budget = charge(shape, plain, call, budget_of(budget), book);
@@ -88,7 +90,7 @@ fn charge_transaction(
     let kind = call.kind;
     let seat = seat_of(call.number, book);
     match kind {
-        Kind::Begin => charge_begin(shape, seat.place, budget, book),
+        Kind::Begin => charge_begin(shape, call.class, seat.place, budget, book),
         Kind::Update => charge_update(width_of(shape, call.page), seat, budget, book),
         Kind::Commit => charge_commit(seat, budget, book),
         _ => charge_abort(entries, call.number, seat, budget, book),
@@ -119,8 +121,8 @@ fn stores_of(shape: Shape, copied: u64, kind: Kind) -> u64 {
     }
 }
 
-fn charge_begin(shape: Shape, place: u64, budget: Budget, book: &mut [u64]) -> Budget {
-    let disk = rooms::idlest(book, shape.disks, shape.ring);
+fn charge_begin(shape: Shape, class: u8, place: u64, budget: Budget, book: &mut [u64]) -> Budget {
+    let disk = rooms::idlest(book, class as u64, shape.disks, shape.ring);
     rooms::begin(book, place, disk);
     budget
 }

@@ -3,7 +3,9 @@
 pub mod answers;
 mod budget;
 pub mod calls;
+mod classes;
 pub mod costs;
+pub mod drawing;
 mod logs;
 mod ones;
 pub mod plain;

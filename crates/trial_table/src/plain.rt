@@ -2,6 +2,7 @@
 use crate::calls::Call;
 use crate::calls::Kind;
 use crate::calls::lay_value;
+use crate::classes;
 use crate::logs;
 use crate::shape::Shape;
 use crate::shape::address_of;
@@ -31,10 +32,11 @@ pub fn new_plain() -> Plain {
     }
 }
 
-// After lost power: all write sets and buffers go.
+// After lost power: all write sets and buffers go, and the table of classes.
 pub fn lost(plain: Plain, book: &mut [u64]) -> Plain {
     write_sets::clear(book);
     logs::lose(book);
+    classes::forget(book);
     Plain {
         stage: 0,
         entries: 0,
@@ -45,6 +47,7 @@ pub fn lost(plain: Plain, book: &mut [u64]) -> Plain {
 // After a call that answered this number: 0 where it was taken, 16 where it was cut.
 pub fn after_call(plain: Plain, shape: Shape, call: Call, number: u64, book: &mut [u64]) -> Plain {
     if number == 16 {
+        classes::forget(book);
         return Plain { stage: 0, ..plain };
     }
     if number > 0 {
@@ -107,9 +110,16 @@ fn note(plain: Plain, shape: Shape, call: Call, book: &mut [u64]) {
         Kind::Update => note_update(plain.entries, shape, call, book),
         Kind::Commit => write_sets::close(book, plain.entries, call.number, true),
         Kind::Abort => write_sets::close(book, plain.entries, call.number, false),
-        Kind::RestartEnd => logs::empty(book),
+        Kind::SetClasses => classes::keep(shape.disks, call.seed, book),
+        Kind::Format | Kind::RestartBegin => classes::forget(book),
+        Kind::RestartEnd => note_restart(book),
         _ => {}
     }
+}
+
+fn note_restart(book: &mut [u64]) {
+    logs::empty(book);
+    classes::forget(book);
 }
 
 fn note_begin(number: u64, book: &mut [u64]) {

@@ -1,6 +1,7 @@
 // 01's table "Turned away", for a list of calls on devices that nobody else writes: the lowest number that applies, 0 where none does.
 use crate::calls::Call;
 use crate::calls::Kind;
+use crate::classes::table_refusal;
 use crate::plain::Plain;
 use crate::rooms;
 use crate::shape::Shape;
@@ -21,7 +22,8 @@ pub fn refusal(shape: Shape, plain: Plain, call: Call, remains: u64, book: &[u64
     }
     let kind = call.kind;
     match kind {
-        Kind::Begin => begin_refusal(shape, book),
+        Kind::Begin => begin_refusal(shape, call.class, book),
+        Kind::SetClasses => table_refusal(shape.disks, call.seed),
         Kind::Update => update_refusal(shape, plain.entries, call, book),
         Kind::Read => read_refusal(shape, plain.entries, call, book),
         Kind::Commit | Kind::Abort => cause(!write_sets::is_open(book, call.number), 9),
@@ -31,8 +33,8 @@ pub fn refusal(shape: Shape, plain: Plain, call: Call, remains: u64, book: &[u64
 
 // 1 stage, 2 anchor, 3 no store, 5 another slice.
 fn first_refusal(plain: Plain, call: Call) -> u64 {
-    let short = call.short;
     let kind = call.kind;
+    let short = missed(kind, call.short);
     if !allowed(plain.stage, kind) {
         return 1;
     }
@@ -43,6 +45,15 @@ fn first_refusal(plain: Plain, call: Call) -> u64 {
         return 3;
     }
     cause(short > 0, 5)
+}
+
+// The slice that a call finds short: a table of classes is set with the work memory alone.
+fn missed(kind: Kind, short: u64) -> u64 {
+    if let Kind::SetClasses = kind {
+        cause(short == 5, 5)
+    } else {
+        short
+    }
 }
 
 // Whether a stage allows a call.
@@ -64,11 +75,11 @@ fn needs_store(kind: Kind) -> bool {
     }
 }
 
-// 12 sixteen open, 14 no room on any disk.
-fn begin_refusal(shape: Shape, book: &[u64]) -> u64 {
+// 12 sixteen open, 14 no room on any disk that serves the class.
+fn begin_refusal(shape: Shape, class: u8, book: &[u64]) -> u64 {
     let disks = shape.disks;
     let place = write_sets::place_of(book, 0);
-    let disk = rooms::idlest(book, disks, shape.ring);
+    let disk = rooms::idlest(book, class as u64, disks, shape.ring);
     first_of(cause(place >= 16, 12), cause(disk >= disks, 14))
 }
 

@@ -1,8 +1,9 @@
-// 01's counting, and the disk of a begin by 02's S-2, for a list of calls that nobody else disturbs: each disk's start, tail and buffered
-// words, what is owed, and so whether a need fits. No record is kept, only lengths. A length of a log is one number: its words, and 2^32
-// for each record. A position is the length from the last restart's end to it.
+// 01's counting, and the disk of a begin by 02's S-2 and S-5, for a list of calls that nobody else disturbs: each disk's start, tail and
+// buffered words, what is owed, and so whether a need fits. No record is kept, only lengths. A length of a log is one number: its words,
+// and 2^32 for each record. A position is the length from the last restart's end to it.
 // A room memory, the first 96 words of a book, has the starts, tails, buffered lengths and remembered ends, 8 words each; then for each
 // of 16 places its disk, the position of its first update record and the words owed; then for each source the steps made of it.
+use crate::classes::serves;
 use crate::words::add_to;
 use crate::words::get;
 use crate::words::less;
@@ -86,13 +87,16 @@ pub fn fits(rooms: &[u64], disk: u64, ring: u64, need: u64) -> bool {
     sum(sum(words_in(used), owed_on(rooms, disk)), need) <= ring
 }
 
-// The disk with the fewest started blocks among those with room for a begin; the number of disks where there is none.
-pub fn idlest(rooms: &[u64], disks: u64, ring: u64) -> u64 {
+// The disk with the fewest started blocks among those that serve a class and have room for a begin; the number of disks where there is
+// none.
+pub fn idlest(book: &[u64], class: u64, disks: u64, ring: u64) -> u64 {
     let mut left = disks;
     let mut best = disks;
     while left > 0 {
         left -= 1;
-        best = idler(rooms, disks, ring, best, left);
+        if serves(book, class, left) {
+            best = idler(book, disks, ring, best, left);
+        }
     }
     best
 }

@@ -14,10 +14,10 @@ pub struct Wanted {
     left: u64,
 }
 
-pub fn refused(number: u64, budget: u64) -> Wanted {
+pub fn refused(number: u64, value: u64, budget: u64) -> Wanted {
     Wanted {
         number,
-        value: 0,
+        value,
         left: budget,
     }
 }
@@ -26,7 +26,7 @@ pub fn refused(number: u64, budget: u64) -> Wanted {
 pub fn charged(budget: Budget, value: u64) -> Wanted {
     let left = budget.left;
     if budget.cut {
-        return refused(16, 0);
+        return refused(16, 0, 0);
     }
     Wanted {
         number: 0,

@@ -1,7 +1,7 @@
 // The plain table: the write sets of the open transactions, and the results, word for word.
 // Its memory, the book, is one slice: 96 words of log room (`rooms`); the open transactions' numbers, 16 words (0: none); what was last
-// read, a length and 39 words; the results, 8,192 words; then entries of 36 words in the order made: transaction (0: gone),
-// the slot's address, its width, its value.
+// read, a length and 39 words; the results, 8,192 words; the sets of disks of the 256 classes (`classes`); then entries of 36 words in
+// the order made: transaction (0: gone), the slot's address, its width, its value.
 use crate::words::differing;
 use crate::words::find;
 use crate::words::get;
@@ -28,7 +28,7 @@ pub fn result_at(address: u64) -> u64 {
 }
 
 pub fn entry_at(entry: u64) -> u64 {
-    sum(8344, times(entry, 36))
+    sum(8600, times(entry, 36))
 }
 
 pub fn value_at(entry: u64) -> u64 {
