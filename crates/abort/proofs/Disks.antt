@@ -10,24 +10,24 @@ use Rattle.model.specs.Sizes.{total}
 use Rattle.model.specs.Word.{part}
 use Rattle.model.specs.Decode.{read_log}
 use Rattle.model.specs.World.{World}
-use Rattle.model.specs.Memory.{bufferAt, bufferOf, copy_at, ownerAt, workWords}
-use Rattle.model.specs.State.{limit, tailOf, fillOf, end_of}
+use Rattle.model.specs.Memory.{buffer_at, buffer_of, copy_at, owner_at, work_words}
+use Rattle.model.specs.State.{limit, tail_of, fill_of, end_of}
 use Rattle.model.specs.Append.{append}
 use Rattle.model.proofs.Bounds.{Bounded, bounded}
-use Rattle.model.proofs.Lengths.{length-buffer}
-use Rattle.log.specs.declared.write.Home.{Home}
-use Rattle.log.specs.declared.write.Logged.{Logged}
-use Rattle.log.specs.declared.read.Extent.{Extent}
-use Rattle.log.specs.Reading.{LiesAt, extentOf, OfDisk, Readable}
-use Rattle.log.specs.Write.{Within, Encodable, Appends}
-use Rattle.log.proofs.Ready.{lies-there, disk-there, tail-there, end-there, readable}
+use Rattle.model.proofs.Lengths.{length_buffer}
+use Rattle.disk_log.specs.declared.write.Home.{Home}
+use Rattle.disk_log.specs.declared.write.Logged.{Logged}
+use Rattle.disk_log.specs.declared.read.Extent.{Extent}
+use Rattle.disk_log.specs.Reading.{LiesAt, extent_of, OfDisk, Readable}
+use Rattle.disk_log.specs.Write.{Within, Encodable, Appends}
+use Rattle.disk_log.proofs.Ready.{lies_there, disk_there, tail_there, end_there, readable}
 use Rattle.frame.specs.Home.{home_of}
-use Rattle.frame.proofs.Homes.{home_fits}
+use Rattle.frame.proofs.Homes.{home_fits_lem}
 use Rattle.abort.specs.declared.window.Tip.{Tip}
 use Rattle.abort.specs.declared.window.Window.{Window}
 use Rattle.abort.specs.declared.record.Progress.{Progress}
-use Rattle.abort.specs.Undo.{onlyLog, windowOf, Serving, InSlot, reader, Did}
-use Rattle.abort.proofs.Tips.{tip-moved}
+use Rattle.abort.specs.Undo.{only_log, window_of, Serving, InSlot, reader, Did}
+use Rattle.abort.proofs.Tips.{tip_moved}
 
 -- the bounds that the code's sums and indexes rely on
 pub record Small (s : Sizes) (disk : ℕ) (work : List ℕ) : Type 0 where
@@ -35,7 +35,7 @@ pub record Small (s : Sizes) (disk : ℕ) (work : List ℕ) : Type 0 where
   pub disks : s.disks ≤ 8
   pub below : disk < 8
   pub buffer : 64 * disk + 64 ≤ length work
-  pub copies : bufferAt s.disks + 64 ≤ length work
+  pub copies : buffer_at s.disks + 64 ≤ length work
 
 -- the buffered words of a log lie within the work memory
 pub record Lies (r : Window) (work : List ℕ) : Type 0 where
@@ -47,117 +47,117 @@ module _ {s : Sizes} {l : Logs} {disk : ℕ} {logs work : List ℕ} (at : Servin
   pub bounds : Bounded s
   bounds = bounded s at.sizes
 
-  pub fill-small : fillOf l disk ≤ 64
-  fill-small = at.fills-small disk at.disk-below
+  pub fill_small : fill_of l disk ≤ 64
+  fill_small = at.fills_small disk at.disk_below
 
   pub small : Small s disk work
-  unfolding workWords ownerAt copy_at bufferAt
+  unfolding work_words owner_at copy_at buffer_at
   small =
       record {
-        pages = bounds.pages-max;
-        disks = bounds.disks-max;
-        below = omega (arith, at.disk-below, bounds.disks-max);
-        buffer = omega (arith, at.work-words, at.disk-below);
-        copies = omega (arith, at.work-words);
+        pages = bounds.pages_max;
+        disks = bounds.disks_max;
+        below = omega (arith, at.disk_below, bounds.disks_max);
+        buffer = omega (arith, at.work_words_lem, at.disk_below);
+        copies = omega (arith, at.work_words_lem);
       }
 
   -- where its log ends and its buffered words lie
-  pub asked : (disk < 8) × (fillOf l disk ≤ 64) × (end_of l disk ≤ limit)
-  asked = (small.below, fill-small, at.end-small)
+  pub asked : (disk < 8) × (fill_of l disk ≤ 64) × (end_of l disk ≤ limit)
+  asked = (small.below, fill_small, at.end_small)
 
   pub extended : (disk ≤ 8) × (s.ring ≤ 65536)
-  extended = (omega (arith, small.below), bounds.ring-max)
+  extended = (omega (arith, small.below), bounds.ring_max)
 
-  module _ {r : Window} (e : r ≡ windowOf l disk) where
+  module _ {r : Window} (e : r ≡ window_of l disk) where
     pub lies : Lies r work
-    unfolding windowOf bufferAt
+    unfolding window_of buffer_at
     lies =
         rw e
         (record {
           ordered = omega arith;
-          inside = omega (arith, small.buffer, fill-small);
-          low = omega (arith, small.below, fill-small);
+          inside = omega (arith, small.buffer, fill_small);
+          low = omega (arith, small.below, fill_small);
         })
 
     -- the log that is read through them
-    buffered : take (r.stop - r.start) (drop r.start work) ≡ bufferOf work disk (fillOf l disk)
-    unfolding windowOf bufferOf part
+    buffered : take (r.stop - r.start) (drop r.start work) ≡ buffer_of work disk (fill_of l disk)
+    unfolding window_of buffer_of part
     buffered =
-        let f : bufferAt disk + fillOf l disk - bufferAt disk ≡ fillOf l disk = omega arith in
+        let f : buffer_at disk + fill_of l disk - buffer_at disk ≡ fill_of l disk = omega arith in
         rw (e, f) refl
 
-    pub lent-end : r.end ≡ end_of l disk
-    unfolding windowOf
-    lent-end = rw e refl
+    pub lent_end : r.end ≡ end_of l disk
+    unfolding window_of
+    lent_end = rw e refl
 
-    pub lent-here : read_log s logs disk r.tail (take (r.stop - r.start) (drop r.start work)) ≡ reader s l disk logs work
-    unfolding windowOf
-    lent-here = rw (buffered, e) refl
+    pub lent_here : read_log s logs disk r.tail (take (r.stop - r.start) (drop r.start work)) ≡ reader s l disk logs work
+    unfolding window_of
+    lent_here = rw (buffered, e) refl
 
-    pub lent-ordered : r.tail ≤ r.end
-    unfolding windowOf end_of
-    lent-ordered = rw e (omega arith)
+    pub lent_ordered : r.tail ≤ r.end
+    unfolding window_of end_of
+    lent_ordered = rw e (omega arith)
 
     -- the extent that the readers take, up to an end
-    module _ (to : ℕ) {x : Extent} (is : x ≡ extentOf s disk r.tail to) where
-      pub lent-lies : LiesAt s disk x.place x.ring
-      lent-lies = lies-there s disk r.tail to is
+    module _ (to : ℕ) {x : Extent} (is : x ≡ extent_of s disk r.tail to) where
+      pub lent_lies : LiesAt s disk x.place x.ring
+      lent_lies = lies_there s disk r.tail to is
 
-      pub lent-disk : OfDisk s x
-      lent-disk = disk-there s disk r.tail to is
+      pub lent_disk : OfDisk s x
+      lent_disk = disk_there s disk r.tail to is
 
-      pub lent-tail : x.tail ≡ r.tail
-      lent-tail = tail-there s disk r.tail to is
+      pub lent_tail : x.tail ≡ r.tail
+      lent_tail = tail_there s disk r.tail to is
 
-      pub lent-to : x.end ≡ to
-      lent-to = end-there s disk r.tail to is
+      pub lent_to : x.end ≡ to
+      lent_to = end_there s disk r.tail to is
 
-      pub lent-readable : to ≤ r.end → Readable x logs (take (r.stop - r.start) (drop r.start work))
-      unfolding windowOf end_of bufferAt
-      lent-readable h =
-          let low : to ≤ tailOf l disk + fillOf l disk = rw e at h in
+      pub lent_readable : to ≤ r.end → Readable x logs (take (r.stop - r.start) (drop r.start work))
+      unfolding window_of end_of buffer_at
+      lent_readable h =
+          let low : to ≤ tail_of l disk + fill_of l disk = rw e at h in
           rw (is, buffered, e)
-          (readable s bounds logs disk (tailOf l disk) (bufferOf work disk (fillOf l disk)) to at.log-words at.disk-below
-          (omega (arith, length-buffer work disk (fillOf l disk) (omega (arith, small.buffer, fill-small)))) (omega (arith, at.end-small)))
+          (readable s bounds logs disk (tail_of l disk) (buffer_of work disk (fill_of l disk)) to at.log_words_lem at.disk_below
+          (omega (arith, length_buffer work disk (fill_of l disk) (omega (arith, small.buffer, fill_small)))) (omega (arith, at.end_small)))
 
-      pub lent-reader : read_log s logs disk x.tail (take (r.stop - r.start) (drop r.start work)) ≡ reader s l disk logs work
-      lent-reader = rw lent-tail lent-here
+      pub lent_reader : read_log s logs disk x.tail (take (r.stop - r.start) (drop r.start work)) ≡ reader s l disk logs work
+      lent_reader = rw lent_tail lent_here
 
   -- the disk as an append takes it
-  pub home-asked : (disk < 8) × (s.ring ≤ 65536)
-  home-asked = (small.below, bounds.ring-max)
+  pub home_asked : (disk < 8) × (s.ring ≤ 65536)
+  home_asked = (small.below, bounds.ring_max)
 
-  pub home-lies : {h : Home} → h ≡ home_of s l disk → Within h logs work
-  home-lies e = rw e (home_fits s (total s) l logs work disk (omega (arith, bounds.ring-min)) at.log-words at.work-words at.disk-below fill-small at.end-small)
+  pub home_lies : {h : Home} → h ≡ home_of s l disk → Within h logs work
+  home_lies e = rw e (home_fits_lem s (total s) l logs work disk (omega (arith, bounds.ring_min)) at.log_words_lem at.work_words_lem at.disk_below fill_small at.end_small)
 
   -- a slot has at most 32 words
   pub slim : {page slot width : ℕ} → InSlot s page slot width → width ≤ 32
-  slim {page} there = omega (arith, there.width_is, (bounds.used page there.page-in).width-max)
+  slim {page} there = omega (arith, there.width_is, (bounds.used page there.page_in).width_max)
 
   -- its page and its number are low
-  pub low-slot : {page slot width : ℕ} → InSlot s page slot width → (page < 64) × (slot < 65536)
-  low-slot {page} there =
-      (omega (arith, there.page-in, bounds.pages-max), omega (arith, there.slot-in, (bounds.used page there.page-in).slots-max))
+  pub low_slot : {page slot width : ℕ} → InSlot s page slot width → (page < 64) × (slot < 65536)
+  low_slot {page} there =
+      (omega (arith, there.page_in, bounds.pages_max), omega (arith, there.slot_in, (bounds.used page there.page_in).slots_max))
 
   -- a compensation's fields fit its first word
   pub encodable : {page slot width : ℕ} → InSlot s page slot width → (number copy : ℕ)
       → Encodable (record { kind = 1; page = page; slot = slot; number = number; copy = copy }) width
   encodable {page} there number copy =
-      let used = bounds.used page there.page-in in
+      let used = bounds.used page there.page_in in
       record {
-        kind-small = omega arith;
-        page-small = (low-slot there).0;
-        slot_small = omega (arith, there.slot-in, used.slots-max);
-        width_small = omega (arith, there.width_is, used.width-max);
+        kind_small = omega arith;
+        page_small = (low_slot there).0;
+        slot_small = omega (arith, there.slot_in, used.slots_max);
+        width_small = omega (arith, there.width_is, used.width_max);
       }
 
 -- what the answer of an append says of the log after it
 pub appended : {budget rest : ℕ} {s : Sizes} {disk : ℕ} (tip : Tip) {words : List ℕ} {w v : World} {added : Logged}
-    → Appends budget rest s (onlyLog disk tip) disk words w v added → (p : Progress)
+    → Appends budget rest s (only_log disk tip) disk words w v added → (p : Progress)
     → (p.finished ≡ added.finished) × (p.tip.tail ≡ added.tail) × (p.tip.fill ≡ added.fill)
-    → Did disk budget rest (append s (onlyLog disk tip) w.work disk words) w v p
+    → Did disk budget rest (append s (only_log disk tip) w.work disk words) w v p
 appended {disk = disk} tip did p e =
     record {
       ran = rw e.0 did.ran;
-      state = λ f. sym (did.state (sym e.0 ∙ f) ∙ rw (← e.1, ← e.2) (tip-moved disk tip p.tip));
+      state = λ f. sym (did.state (sym e.0 ∙ f) ∙ rw (← e.1, ← e.2) (tip_moved disk tip p.tip));
     }

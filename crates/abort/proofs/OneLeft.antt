@@ -9,15 +9,15 @@ use lib.ListN.{length, get_or, take}
 use lib.Seq.{take-suc}
 use Rattle.model.specs.declared.Sizes.{Sizes}
 use Rattle.model.specs.declared.Logs.{Logs}
-use Rattle.model.specs.World.{World, worldOf}
+use Rattle.model.specs.World.{World, world_of}
 use Rattle.model.specs.State.{end_of}
-use Rattle.model.specs.Abort.{compensate, undoAll, onesUndone}
+use Rattle.model.specs.Abort.{compensate, undo_all, ones_undone}
 use Rattle.abort.specs.declared.difference.Site.{Site}
 use Rattle.abort.specs.declared.record.Progress.{Progress}
-use Rattle.abort.specs.Undo.{onlyLog, Serving, Did, reader, siteAt, updateRead, updateAt, Compensable}
-use Rattle.abort.specs.Groups.{lastFirst, Takeable}
-use Rattle.abort.proofs.Undone.{undone-one}
-use Rattle.abort.proofs.Pending.{Pending, Counted, pending-counted, pending-takeable, pending-cut, pending-step}
+use Rattle.abort.specs.Undo.{only_log, Serving, Did, reader, site_at, update_read, update_at, Compensable}
+use Rattle.abort.specs.Groups.{last_first, Takeable}
+use Rattle.abort.proofs.Undone.{undone_one}
+use Rattle.abort.proofs.Pending.{Pending, Counted, pending_counted, pending_takeable, pending_cut, pending_step}
 
 take_last : (l : List ℕ) (n : ℕ) → 0 < n → n ≤ length l → take n l ≡ take (n - 1) l ++ get_or l (n - 1) 0 ∷ []
 take_last l n h k =
@@ -37,46 +37,46 @@ module _ (s : Sizes) (disk number : ℕ) (l₀ : Logs) (pages₀ logs₀ work₀
   left = subst (Pending s disk number l₀ pages₀ logs₀ work₀ budget₀ all l pages logs work budget) (take_last at n some long) p
 
   takeable : Takeable s l disk (q ∷ []) pages logs work
-  takeable = pending-takeable s disk number l₀ pages₀ logs₀ work₀ budget₀ all ok (take (n - 1) at) (q ∷ []) left
+  takeable = pending_takeable s disk number l₀ pages₀ logs₀ work₀ budget₀ all ok (take (n - 1) at) (q ∷ []) left
 
-  pub one-there : Serving s l disk logs work × (q < end_of l disk)
-  one-there = (takeable.serving, omega (arith, (takeable.stands q (Memᴰ.head refl)).inside))
+  pub one_there : Serving s l disk logs work × (q < end_of l disk)
+  one_there = (takeable.serving, omega (arith, (takeable.stands q (Memᴰ.head refl)).inside))
 
-  module _ {site : Site} (is : site ≡ siteAt read q) where
-    pub one-compensable : Compensable s l disk site pages logs work
-    unfolding siteAt
-    one-compensable =
+  module _ {site : Site} (is : site ≡ site_at read q) where
+    pub one_compensable : Compensable s l disk site pages logs work
+    unfolding site_at
+    one_compensable =
         let there = takeable.stands q (Memᴰ.head refl) in
         rw is
-        (record { serving = takeable.serving; page-words = takeable.page-words; slotted = there.slotted; inside = there.inside })
+        (record { serving = takeable.serving; page_words_lem = takeable.page_words_lem; slotted = there.slotted; inside = there.inside })
 
     -- what takes it back takes back a list of one
-    alone : (w : World) {rest : ℕ} {v : World} {one : Progress} → Did disk budget rest (compensate s l w number disk (updateAt s l disk logs work site)) w v one
-        → Did disk budget rest (undoAll s l w number disk (lastFirst (updateRead read) (q ∷ []))) w v one
-    unfolding siteAt updateAt updateRead lastFirst
-    alone w did = undone-one s number disk l w (updateRead read q) (rw is at did)
+    alone : (w : World) {rest : ℕ} {v : World} {one : Progress} → Did disk budget rest (compensate s l w number disk (update_at s l disk logs work site)) w v one
+        → Did disk budget rest (undo_all s l w number disk (last_first (update_read read) (q ∷ []))) w v one
+    unfolding site_at update_at update_read last_first
+    alone w did = undone_one s number disk l w (update_read read q) (rw is at did)
 
-    pub one-counted : (ones : ℕ) {more : ℕ} → Counted (reader s l₀ disk logs₀ work₀) all ones (take n at)
-        → more ≡ onesUndone (updateAt s l disk logs work site ∷ []) → Counted (reader s l₀ disk logs₀ work₀) all (ones + more) (take (n - 1) at)
-    unfolding siteAt updateAt updateRead lastFirst
-    one-counted ones counted more =
-        pending-counted s disk number l₀ pages₀ logs₀ work₀ budget₀ all ok (take (n - 1) at) (q ∷ []) left ones
+    pub one_counted : (ones : ℕ) {more : ℕ} → Counted (reader s l₀ disk logs₀ work₀) all ones (take n at)
+        → more ≡ ones_undone (update_at s l disk logs work site ∷ []) → Counted (reader s l₀ disk logs₀ work₀) all (ones + more) (take (n - 1) at)
+    unfolding site_at update_at update_read last_first
+    one_counted ones counted more =
+        pending_counted s disk number l₀ pages₀ logs₀ work₀ budget₀ all ok (take (n - 1) at) (q ∷ []) left ones
         (rw (take_last at n some long) at counted) (rw is at more)
 
-    pub one-cut : (anchor backups : List ℕ) {rest : ℕ} {v : World} {one : Progress}
-        → Did disk budget rest (compensate s l (worldOf anchor pages backups logs work) number disk (updateAt s l disk logs work site))
-        (worldOf anchor pages backups logs work) v one → one.finished ≡ false
-        → Did disk budget₀ rest (undoAll s l₀ (worldOf anchor pages₀ backups logs₀ work₀) number disk (lastFirst (updateRead (reader s l₀ disk logs₀ work₀)) all))
-        (worldOf anchor pages₀ backups logs₀ work₀) v one
-    one-cut anchor backups did e =
-        pending-cut s disk number l₀ pages₀ logs₀ work₀ budget₀ all ok (take (n - 1) at) (q ∷ []) left anchor backups
-        (alone (worldOf anchor pages backups logs work) did) e
+    pub one_cut : (anchor backups : List ℕ) {rest : ℕ} {v : World} {one : Progress}
+        → Did disk budget rest (compensate s l (world_of anchor pages backups logs work) number disk (update_at s l disk logs work site))
+        (world_of anchor pages backups logs work) v one → one.finished ≡ false
+        → Did disk budget₀ rest (undo_all s l₀ (world_of anchor pages₀ backups logs₀ work₀) number disk (last_first (update_read (reader s l₀ disk logs₀ work₀)) all))
+        (world_of anchor pages₀ backups logs₀ work₀) v one
+    one_cut anchor backups did e =
+        pending_cut s disk number l₀ pages₀ logs₀ work₀ budget₀ all ok (take (n - 1) at) (q ∷ []) left anchor backups
+        (alone (world_of anchor pages backups logs work) did) e
 
-    pub one-step : {pages' logs' work' : List ℕ} {rest : ℕ} {one : Progress} → one.finished ≡ true
+    pub one_step : {pages' logs' work' : List ℕ} {rest : ℕ} {one : Progress} → one.finished ≡ true
         → ((anchor backups : List ℕ)
-        → Did disk budget rest (compensate s l (worldOf anchor pages backups logs work) number disk (updateAt s l disk logs work site))
-        (worldOf anchor pages backups logs work) (worldOf anchor pages' backups logs' work') one)
-        → Pending s disk number l₀ pages₀ logs₀ work₀ budget₀ all (onlyLog disk one.tip) pages' logs' work' rest (take (n - 1) at)
-    one-step finished did =
-        pending-step s disk number l₀ pages₀ logs₀ work₀ budget₀ all ok (take (n - 1) at) (q ∷ []) left finished
-        (λ anchor backups. alone (worldOf anchor pages backups logs work) (did anchor backups))
+        → Did disk budget rest (compensate s l (world_of anchor pages backups logs work) number disk (update_at s l disk logs work site))
+        (world_of anchor pages backups logs work) (world_of anchor pages' backups logs' work') one)
+        → Pending s disk number l₀ pages₀ logs₀ work₀ budget₀ all (only_log disk one.tip) pages' logs' work' rest (take (n - 1) at)
+    one_step finished did =
+        pending_step s disk number l₀ pages₀ logs₀ work₀ budget₀ all ok (take (n - 1) at) (q ∷ []) left finished
+        (λ anchor backups. alone (world_of anchor pages backups logs work) (did anchor backups))

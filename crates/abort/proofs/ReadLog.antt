@@ -13,53 +13,53 @@ use Rattle.model.specs.declared.Core.{Core}
 use Rattle.model.specs.declared.Carried.{Carried}
 use Rattle.model.specs.declared.Fault.{Fault}
 use Rattle.model.specs.declared.Fault.TheVariants.{NoFault, BadRecord}
-use Rattle.model.specs.Sizes.{total, ringOf, logWords, diskAt, sizesInBounds}
-use Rattle.model.specs.Scan.{Scan, end, ringThenBuffer, faultIn, updatesIn, updateWords}
+use Rattle.model.specs.Sizes.{total, ring_of, log_words, disk_at, sizes_in_bounds}
+use Rattle.model.specs.Scan.{Scan, end, ring_then_buffer, fault_in, updates_in, update_words}
 use Rattle.model.specs.World.{World}
-use Rattle.model.specs.Memory.{bufferAt, copy_at, ownerAt, workWords}
-use Rattle.model.specs.State.{tailOf, fillOf, end_of, place_of, isOpen, first_at, reservedAt, hasUpdate}
-use Rattle.model.specs.Reads.{scopeFits, sizesFit}
-use Rattle.model.specs.Transaction.{diskOf}
-use Rattle.model.specs.Abort.{abortScan, updatesLeft, abortFault}
-use Rattle.model.specs.View.{headWords, core_of, body_of}
+use Rattle.model.specs.Memory.{buffer_at, copy_at, owner_at, work_words}
+use Rattle.model.specs.State.{tail_of, fill_of, end_of, place_of, is_open, first_at, reserved_at, has_update}
+use Rattle.model.specs.Reads.{scope_fits, sizes_fit}
+use Rattle.model.specs.Transaction.{disk_of}
+use Rattle.model.specs.Abort.{abort_scan, updates_left, abort_fault}
+use Rattle.model.specs.View.{head_words, core_of, body_of}
 use Rattle.model.proofs.Booleans.{both}
 use Rattle.model.proofs.Reading.{ending}
-use Rattle.model.proofs.Faults.{fault-rest}
-use Rattle.model.proofs.RingThenBuffer.{parts-end}
-use Rattle.model.proofs.Growth.{tail-end}
-use Rattle.model.proofs.Updates.{abort-words}
-use Rattle.model.proofs.View.Head.{carried-back}
+use Rattle.model.proofs.Faults.{fault_rest}
+use Rattle.model.proofs.RingThenBuffer.{parts_end}
+use Rattle.model.proofs.Growth.{tail_end}
+use Rattle.model.proofs.Updates.{abort_words}
+use Rattle.model.proofs.View.Head.{carried_back}
 use Rattle.abort.specs.declared.window.Tip.{Tip}
 use Rattle.abort.specs.declared.scope.Scope.{Scope}
 use Rattle.abort.specs.declared.scope.Target.{Target}
-use Rattle.abort.specs.Undo.{onlyLog, Serving, reader, logFrom, partsFrom, Undoable}
+use Rattle.abort.specs.Undo.{only_log, Serving, reader, log_from, parts_from, Undoable}
 use Rattle.abort.specs.Scope.{scope_of}
-use Rattle.abort.proofs.Tips.{tip-tail, tip-fill, tip-end, tip_small}
-use Rattle.abort.proofs.Malformed.{sound-end}
-use Rattle.abort.proofs.Examining.{as_one}
-use Rattle.abort.proofs.Aborts.{Standing, scope-disk}
+use Rattle.abort.proofs.Tips.{tip_tail, tip_fill, tip_end, tip_small}
+use Rattle.abort.proofs.Malformed.{sound_end}
+use Rattle.abort.proofs.Examining.{as_one_lem}
+use Rattle.abort.proofs.Aborts.{Standing, scope_disk}
 
 -- up to the tail and then in the buffer it is what an abort reads
-scan-is : (c : Core) (w : World) (number : ℕ) → isOpen c.table number ≡ true
-    → abortScan c w number ≡ partsFrom c.sizes c.logs (diskOf c number) w.logs w.work (scope_of c number).from
-unfolding abortScan partsFrom scope_of
-scan-is c w number opened = rw opened (go (hasUpdate c.table (place_of c.table number)))
+scan_is : (c : Core) (w : World) (number : ℕ) → is_open c.table number ≡ true
+    → abort_scan c w number ≡ parts_from c.sizes c.logs (disk_of c number) w.logs w.work (scope_of c number).from
+unfolding abort_scan parts_from scope_of
+scan_is c w number opened = rw opened (go (has_update c.table (place_of c.table number)))
   where
     tail : ℕ
-    tail = tailOf c.logs (diskOf c number)
+    tail = tail_of c.logs (disk_of c number)
 
     stop : ℕ
-    stop = end_of c.logs (diskOf c number)
+    stop = end_of c.logs (disk_of c number)
 
     read : ℕ → ℕ
-    read = reader c.sizes c.logs (diskOf c number) w.logs w.work
+    read = reader c.sizes c.logs (disk_of c number) w.logs w.work
 
     first : ℕ
     first = first_at c.table (place_of c.table number)
 
-    go : (b : Bool) → cond b (ringThenBuffer c.sizes read tail stop first) end ≡ ringThenBuffer c.sizes read tail stop (cond b first stop)
+    go : (b : Bool) → cond b (ring_then_buffer c.sizes read tail stop first) end ≡ ring_then_buffer c.sizes read tail stop (cond b first stop)
     go true = refl
-    go false = sym (parts-end c.sizes read tail stop (tail-end c.logs (diskOf c number)) stop (omega arith))
+    go false = sym (parts_end c.sizes read tail stop (tail_end c.logs (disk_of c number)) stop (omega arith))
 
 module _ (h : Carried) (w : World) (number : ℕ) {t : Target} (st : Standing h w number t) where
   abbrev c : Core
@@ -75,114 +75,114 @@ module _ (h : Carried) (w : World) (number : ℕ) {t : Target} (st : Standing h 
   tip = record { tail = t.entry.tail; fill = t.entry.fill }
 
   abbrev only : Logs
-  only = onlyLog d tip
+  only = only_log d tip
 
   abbrev body : List ℕ
-  body = drop headWords w.work
+  body = drop head_words w.work
 
-  pub disk-here : d ≡ diskOf c number
+  pub disk_here : d ≡ disk_of c number
   unfolding scope_of
-  disk-here = ap (λ (x : Scope). x.disk) st.read.scope
+  disk_here = ap (λ (x : Scope). x.disk) st.read.scope
 
-  pub tail-here : tailOf c.logs d ≡ tip.tail
-  tail-here = rw (scope-disk st.read) (sym st.read.entry.tail)
+  pub tail_here : tail_of c.logs d ≡ tip.tail
+  tail_here = rw (scope_disk st.read) (sym st.read.entry.tail)
 
-  pub fill_here : fillOf c.logs d ≡ tip.fill
-  fill_here = rw (scope-disk st.read) (sym st.read.entry.fill)
+  pub fill_here : fill_of c.logs d ≡ tip.fill
+  fill_here = rw (scope_disk st.read) (sym st.read.entry.fill)
 
-  only-tail : tailOf only d ≡ tailOf c.logs d
-  only-tail = tip-tail d tip st.low ∙ sym tail-here
+  only_tail : tail_of only d ≡ tail_of c.logs d
+  only_tail = tip_tail d tip st.low ∙ sym tail_here
 
-  only-fill : fillOf only d ≡ fillOf c.logs d
-  only-fill = tip-fill d tip st.low ∙ sym fill_here
+  only_fill : fill_of only d ≡ fill_of c.logs d
+  only_fill = tip_fill d tip st.low ∙ sym fill_here
 
   only_end : end_of only d ≡ end_of c.logs d
   unfolding end_of
-  only_end = rw (only-tail, only-fill) refl
+  only_end = rw (only_tail, only_fill) refl
 
   -- the sizes of the state are those that it carries
-  disks-here : c.sizes.disks ≡ h.disks
-  disks-here = ap (λ (x : Carried). x.disks) (carried-back h w.work)
+  disks_here : c.sizes.disks ≡ h.disks
+  disks_here = ap (λ (x : Carried). x.disks) (carried_back h w.work)
 
-  ring-here : c.sizes.ring ≡ h.ring
-  ring-here = ap (λ (x : Carried). x.ring) (carried-back h w.work)
+  ring_here : c.sizes.ring ≡ h.ring
+  ring_here = ap (λ (x : Carried). x.ring) (carried_back h w.work)
 
-  known : (sizesInBounds c.sizes ≡ true) × (total c.sizes ≡ h.total)
-  unfolding sizesFit
+  known : (sizes_in_bounds c.sizes ≡ true) × (total c.sizes ≡ h.total)
+  unfolding sizes_fit
   known =
-      let fits = both (sizesInBounds c.sizes) (eqb c.bases.total (total c.sizes)) st.read.fits in
-      (fits.0, sym (eqb-true _ _ fits.1) ∙ ap (λ (x : Carried). x.total) (carried-back h w.work))
+      let fits = both (sizes_in_bounds c.sizes) (eqb c.bases.total (total c.sizes)) st.read.fits in
+      (fits.0, sym (eqb-true _ _ fits.1) ∙ ap (λ (x : Carried). x.total) (carried_back h w.work))
 
-  pub lent-serves : Serving t.sizes only d w.logs body
-  unfolding logWords diskAt workWords ownerAt copy_at bufferAt
-  lent-serves =
+  pub lent_serves : Serving t.sizes only d w.logs body
+  unfolding log_words disk_at work_words owner_at copy_at buffer_at
+  lent_serves =
       let long = st.ready.work in
       rw st.read.sizes
       (record {
         sizes = known.0;
-        disk-below = omega (arith, scope-disk st.read, st.placed.below, disks-here);
-        log-words = rw (disks-here, ring-here) st.ready.logs;
-        work-words = rw (disks-here, known.1) (length-drop headWords w.work ∙ omega (arith, long));
-        fills-small = λ e k. tip_small d tip st.low st.placed.fill-small e (omega (arith, k, disks-here, st.ready.counts.disks-max));
-        end-small = omega (arith, tip-end d tip st.low, st.placed.end-small);
+        disk_below = omega (arith, scope_disk st.read, st.placed.below, disks_here);
+        log_words_lem = rw (disks_here, ring_here) st.ready.logs;
+        work_words_lem = rw (disks_here, known.1) (length-drop head_words w.work ∙ omega (arith, long));
+        fills_small = λ e k. tip_small d tip st.low st.placed.fill_small e (omega (arith, k, disks_here, st.ready.counts.disks_max));
+        end_small = omega (arith, tip_end d tip st.low, st.placed.end_small);
       })
 
   -- from where it is read, the log and the words reserved are no longer than the ring
-  room : (words : ℕ) → words ≤ reservedAt c.table place - 2 → end_of only d + words ≤ t.scope.from + c.sizes.ring
-  unfolding scope_of scopeFits diskOf ringOf hasUpdate
-  room words few = rw (only_end, disk-here, st.read.scope) (go (hasUpdate c.table place) refl st.read.near)
+  room : (words : ℕ) → words ≤ reserved_at c.table place - 2 → end_of only d + words ≤ t.scope.from + c.sizes.ring
+  unfolding scope_of scope_fits disk_of ring_of has_update
+  room words few = rw (only_end, disk_here, st.read.scope) (go (has_update c.table place) refl st.read.near)
     where
       stop : ℕ
-      stop = end_of c.logs (diskOf c number)
+      stop = end_of c.logs (disk_of c number)
 
       first : ℕ
       first = first_at c.table place
 
-      go : (b : Bool) → hasUpdate c.table place ≡ b
-          → (not b || leb (stop - first + reservedAt c.table place) c.sizes.ring) ≡ true
+      go : (b : Bool) → has_update c.table place ≡ b
+          → (not b || leb (stop - first + reserved_at c.table place) c.sizes.ring) ≡ true
           → stop + words ≤ cond b first stop + c.sizes.ring
-      go true e near = omega (arith, leb-true (stop - first + reservedAt c.table place) c.sizes.ring near, few)
-      go false e near = omega (arith, ltb-false 2 (reservedAt c.table place) e, few)
+      go true e near = omega (arith, leb-true (stop - first + reserved_at c.table place) c.sizes.ring near, few)
+      go false e near = omega (arith, ltb-false 2 (reserved_at c.table place) e, few)
 
-  pub lent-near : end_of only d ≤ t.scope.from + 65536
-  lent-near = omega (arith, room 0 (omega arith), ring-here, st.ready.counts.ring-max)
+  pub lent_near : end_of only d ≤ t.scope.from + 65536
+  lent_near = omega (arith, room 0 (omega arith), ring_here, st.ready.counts.ring_max)
 
   -- the fault that an abort answers
   abbrev parts : Scan
-  parts = partsFrom t.sizes only d w.logs body t.scope.from
+  parts = parts_from t.sizes only d w.logs body t.scope.from
 
   abbrev long : Fault
-  long = cond (ltb t.scope.words (updateWords (updatesIn number parts))) (BadRecord d t.scope.first) NoFault
+  long = cond (ltb t.scope.words (update_words (updates_in number parts))) (BadRecord d t.scope.first) NoFault
 
-  reads : abortScan c (body_of w) number ≡ parts
-  unfolding partsFrom body_of
+  reads : abort_scan c (body_of w) number ≡ parts
+  unfolding parts_from body_of
   reads =
-      scan-is c (body_of w) number st.opened
-      ∙ rw (← disk-here, ← ap (λ (x : Scope). x.from) st.read.scope, st.read.sizes, only-tail, only-fill, only_end) refl
+      scan_is c (body_of w) number st.opened
+      ∙ rw (← disk_here, ← ap (λ (x : Scope). x.from) st.read.scope, st.read.sizes, only_tail, only_fill, only_end) refl
 
-  pub fault-here : abortFault c (body_of w) number ≡ faultIn d parts long
-  unfolding abortFault updatesLeft scope_of
-  fault-here = rw reads (rw st.read.scope refl)
+  pub fault_here : abort_fault c (body_of w) number ≡ fault_in d parts long
+  unfolding abort_fault updates_left scope_of
+  fault_here = rw reads (rw st.read.scope refl)
 
   -- where there is none, its updates are those of the log as one, and can be taken back
-  module _ (none : abortFault c (body_of w) number ≡ NoFault) where
+  module _ (none : abort_fault c (body_of w) number ≡ NoFault) where
     whole : ending parts ≡ end
-    whole = sound-end d parts (rw (fault-rest d parts long (sym fault-here ∙ none)) at (sym fault-here ∙ none))
+    whole = sound_end d parts (rw (fault_rest d parts long (sym fault_here ∙ none)) at (sym fault_here ∙ none))
 
-    pub updates-here : updatesLeft c (body_of w) number ≡ updatesIn number (logFrom t.sizes only d w.logs body t.scope.from)
-    unfolding updatesLeft
-    updates-here = ap (updatesIn number) (reads ∙ as_one t.sizes only t.scope number w.logs body whole)
+    pub updates_here : updates_left c (body_of w) number ≡ updates_in number (log_from t.sizes only d w.logs body t.scope.from)
+    unfolding updates_left
+    updates_here = ap (updates_in number) (reads ∙ as_one_lem t.sizes only t.scope number w.logs body whole)
 
-    pub lent-undoable : Undoable t.sizes only d number t.scope.from w.pages w.logs body
-    unfolding ringOf
-    lent-undoable =
-        let few = abort-words c (body_of w) number (rw none refl) in
-        let fits = room (updateWords (updatesLeft c (body_of w) number)) few in
+    pub lent_undoable : Undoable t.sizes only d number t.scope.from w.pages w.logs body
+    unfolding ring_of
+    lent_undoable =
+        let few = abort_words c (body_of w) number (rw none refl) in
+        let fits = room (update_words (updates_left c (body_of w) number)) few in
         let ring = ap (λ (s : Sizes). s.ring) st.read.sizes in
-        let own = st.read.entry.reserved ∙ ap (reservedAt c.table) st.read.entry.place in
+        let own = st.read.entry.reserved ∙ ap (reserved_at c.table) st.read.entry.place in
         record {
-          serving = lent-serves;
-          page-words = st.ready.pages ∙ sym known.1 ∙ ap total (sym st.read.sizes);
-          ring = rw (← updates-here) (omega (arith, fits, ring));
-          in-limit = rw (← updates-here) (omega (arith, few, own, tip-end d tip st.low, st.placed.end-small, st.placed.own-part));
+          serving = lent_serves;
+          page_words_lem = st.ready.pages ∙ sym known.1 ∙ ap total (sym st.read.sizes);
+          ring = rw (← updates_here) (omega (arith, fits, ring));
+          in_limit = rw (← updates_here) (omega (arith, few, own, tip_end d tip st.low, st.placed.end_small, st.placed.own_part));
         }

@@ -8,59 +8,59 @@ use Rattle.model.specs.declared.Logs.{Logs}
 use Rattle.model.specs.Scan.{Update}
 use Rattle.model.specs.World.{World, perform}
 use Rattle.model.specs.Append.{Appended}
-use Rattle.model.specs.Abort.{compensate, undoAll}
-use Rattle.model.proofs.Booleans.{true-false}
-use Rattle.model.proofs.Run.{SameLengths, perform-append, run-lengths}
-use Rattle.device.proofs.Memory.{ran-none}
-use Rattle.device.proofs.Ran.{ran-whole, ran_then, ran-cut}
+use Rattle.model.specs.Abort.{compensate, undo_all}
+use Rattle.model.proofs.Booleans.{true_false}
+use Rattle.model.proofs.Run.{SameLengths, perform_append, run_lengths}
+use Rattle.device.proofs.Memory.{ran_none}
+use Rattle.device.proofs.Ran.{ran_whole, ran_then, ran_cut}
 use Rattle.abort.specs.declared.window.Tip.{Tip}
 use Rattle.abort.specs.declared.record.Progress.{Progress}
-use Rattle.abort.specs.Undo.{onlyLog, Did}
+use Rattle.abort.specs.Undo.{only_log, Did}
 
 -- every list keeps its length
-pub did-lengths : {disk budget rest : ℕ} {added : Appended} {w v : World} {r : Progress} → Did disk budget rest added w v r → SameLengths v w
-did-lengths {budget} {added = added} {w = w} did = rw did.ran.world (run-lengths budget added.actions w)
+pub did_lengths : {disk budget rest : ℕ} {added : Appended} {w v : World} {r : Progress} → Did disk budget rest added w v r → SameLengths v w
+did_lengths {budget} {added = added} {w = w} did = rw did.ran.world (run_lengths budget added.actions w)
 
 module _ (s : Sizes) (number disk : ℕ) where
   -- the others, with what the first left
   abbrev after : Appended → World → List Update → Appended
-  after one w us = undoAll s one.logs (perform one.actions w) number disk us
+  after one w us = undo_all s one.logs (perform one.actions w) number disk us
 
-  pub undo-append : (l : Logs) (w : World) (us vs : List Update)
-      → undoAll s l w number disk (us ++ vs)
+  pub undo_append : (l : Logs) (w : World) (us vs : List Update)
+      → undo_all s l w number disk (us ++ vs)
       ≡ record {
-        actions = (undoAll s l w number disk us).actions ++ (after (undoAll s l w number disk us) w vs).actions;
-        logs = (after (undoAll s l w number disk us) w vs).logs;
+        actions = (undo_all s l w number disk us).actions ++ (after (undo_all s l w number disk us) w vs).actions;
+        logs = (after (undo_all s l w number disk us) w vs).logs;
       }
-  unfolding undoAll perform
-  undo-append l w [] vs = refl
-  undo-append l w (u ∷ us) vs =
+  unfolding undo_all perform
+  undo_append l w [] vs = refl
+  undo_append l w (u ∷ us) vs =
       let one : Appended = compensate s l w number disk u in
       let some : Appended = after one w us in
-      let e = undo-append one.logs (perform one.actions w) us vs in
-      rw (e, perform-append one.actions some.actions w, append_assoc one.actions some.actions (after some (perform one.actions w) vs).actions) refl
+      let e = undo_append one.logs (perform one.actions w) us vs in
+      rw (e, perform_append one.actions some.actions w, append_assoc one.actions some.actions (after some (perform one.actions w) vs).actions) refl
 
   -- none is left
-  pub undone-none : (tip : Tip) (w : World) (budget : ℕ)
-      → Did disk budget budget (undoAll s (onlyLog disk tip) w number disk []) w w (record { finished = true; tip = tip })
-  unfolding undoAll
-  undone-none tip w budget = record { ran = ran-none budget w; state = λ _. refl }
+  pub undone_none : (tip : Tip) (w : World) (budget : ℕ)
+      → Did disk budget budget (undo_all s (only_log disk tip) w number disk []) w w (record { finished = true; tip = tip })
+  unfolding undo_all
+  undone_none tip w budget = record { ran = ran_none budget w; state = λ _. refl }
 
   module _ (l : Logs) (w : World) where
     -- one
-    pub undone-one : (u : Update) {budget rest : ℕ} {v : World} {r : Progress} → Did disk budget rest (compensate s l w number disk u) w v r
-        → Did disk budget rest (undoAll s l w number disk (u ∷ [])) w v r
-    unfolding undoAll
-    undone-one u did = rw append-nil (record { ran = did.ran; state = did.state })
+    pub undone_one : (u : Update) {budget rest : ℕ} {v : World} {r : Progress} → Did disk budget rest (compensate s l w number disk u) w v r
+        → Did disk budget rest (undo_all s l w number disk (u ∷ [])) w v r
+    unfolding undo_all
+    undone_one u did = rw append-nil (record { ran = did.ran; state = did.state })
 
-    module _ (us vs : List Update) {budget rest : ℕ} {v : World} {some : Progress} (did : Did disk budget rest (undoAll s l w number disk us) w v some) where
+    module _ (us vs : List Update) {budget rest : ℕ} {v : World} {some : Progress} (did : Did disk budget rest (undo_all s l w number disk us) w v some) where
       -- some are taken back, and the others follow
-      pub undone-then : some.finished ≡ true → {last : ℕ} {x : World} {r : Progress} → Did disk rest last (undoAll s (onlyLog disk some.tip) v number disk vs) v x r
-          → Did disk budget last (undoAll s l w number disk (us ++ vs)) w x r
-      undone-then e next =
-          rw (undo-append l w us vs, ran-whole did.ran e, ← did.state e)
+      pub undone_then : some.finished ≡ true → {last : ℕ} {x : World} {r : Progress} → Did disk rest last (undo_all s (only_log disk some.tip) v number disk vs) v x r
+          → Did disk budget last (undo_all s l w number disk (us ++ vs)) w x r
+      undone_then e next =
+          rw (undo_append l w us vs, ran_whole did.ran e, ← did.state e)
           (record { ran = ran_then did.ran _ e next.ran; state = next.state })
 
       -- they are cut
-      pub undone-cut : some.finished ≡ false → Did disk budget rest (undoAll s l w number disk (us ++ vs)) w v some
-      undone-cut e = rw (undo-append l w us vs) (record { ran = rw e (ran-cut did.ran _ e); state = λ f. true-false f e })
+      pub undone_cut : some.finished ≡ false → Did disk budget rest (undo_all s l w number disk (us ++ vs)) w v some
+      undone_cut e = rw (undo_append l w us vs) (record { ran = rw e (ran_cut did.ran _ e); state = λ f. true_false f e })

@@ -1,15 +1,15 @@
 // Abort: its checks, then its work. Of a transaction that is not open nothing is read, so No. 9 can be asked before No. 7.
 ghost use Rattle.std.specs.Prelude.{◌≡◌, List, ℕ, ◌≤◌, ◌<◌, length};
-ghost use Rattle.model.specs.Scan.{scan, updatesIn};
-ghost use Rattle.model.specs.World.{worldOf};
-ghost use Rattle.model.specs.Moments.{old, new, oldWorld};
+ghost use Rattle.model.specs.Scan.{scan, updates_in};
+ghost use Rattle.model.specs.World.{world_of};
+ghost use Rattle.model.specs.Moments.{old, new, old_world};
 ghost use Rattle.model.specs.State.{places, end_of};
 ghost use Rattle.model.specs.Call.{abort};
-ghost use Rattle.model.specs.View.{headWords, Serves};
-ghost use Rattle.model.specs.Fields.{putWords};
-ghost use Rattle.abort.specs.Undo.{onlyLog, Did, Counts, reader, logFrom, Undoable};
+ghost use Rattle.model.specs.View.{head_words, Serves};
+ghost use Rattle.model.specs.Fields.{put_words};
+ghost use Rattle.abort.specs.Undo.{only_log, Did, Counts, reader, log_from, Undoable};
 ghost use Rattle.abort.specs.Groups.{Noted};
-ghost use Rattle.abort.specs.Scope.{rollingBack, closed, abortRefusal};
+ghost use Rattle.abort.specs.Scope.{rolling_back, closed, abort_refusal};
 
 use crate::fault::examine;
 use crate::notes::Notes;
@@ -27,7 +27,7 @@ use words::saturating_sub;
 
 // Rows 1, 2 and 9, where the lengths other than the anchor's are right.
 fn abort_refusal(found: u64, anchor: usize) -> u64
-    ensures { result ≡ abortRefusal found anchor }
+    ensures { result ≡ abort_refusal found anchor }
 {
     if found == 1 {
         return 1;
@@ -47,14 +47,14 @@ fn roll_back(
     work: &mut [u64],
     budget: &mut u64,
 ) -> Undone
-    requires undoable { Undoable sizes (onlyLog disk tip) disk number notes.from pages.old logs.old work.old }
-    requires noted { Noted number (scan sizes (reader sizes (onlyLog disk tip) disk logs.old work.old) (end_of (onlyLog disk tip) disk)) notes.from notes }
+    requires undoable { Undoable sizes (only_log disk tip) disk number notes.from pages.old logs.old work.old }
+    requires noted { Noted number (scan sizes (reader sizes (only_log disk tip) disk logs.old work.old) (end_of (only_log disk tip) disk)) notes.from notes }
     ensures by_index { (anchor backups : List ℕ) → Did disk budget.old budget.new
-        (rollingBack sizes (onlyLog disk tip) (worldOf anchor pages.old backups logs.old work.old) number disk
-        (updatesIn number (logFrom sizes (onlyLog disk tip) disk logs.old work.old notes.from)))
-        (worldOf anchor pages.old backups logs.old work.old)
-        (worldOf anchor pages.new backups logs.new work.new) result.progress }
-    ensures counts { Counts (updatesIn number (logFrom sizes (onlyLog disk tip) disk logs.old work.old notes.from)) result }
+        (rolling_back sizes (only_log disk tip) (world_of anchor pages.old backups logs.old work.old) number disk
+        (updates_in number (log_from sizes (only_log disk tip) disk logs.old work.old notes.from)))
+        (world_of anchor pages.old backups logs.old work.old)
+        (world_of anchor pages.new backups logs.new work.new) result.progress }
+    ensures counts { Counts (updates_in number (log_from sizes (only_log disk tip) disk logs.old work.old notes.from)) result }
 {
     let undone = undo_all(sizes, tip, disk, number, notes, pages, logs, work, budget);
     if !undone.progress.finished {
@@ -70,8 +70,8 @@ fn roll_back(
 
 // The place is free; `fill` words are buffered on its disk, and `sum` words stay reserved.
 fn close_place(work: &mut [u64], place: usize, disk: usize, fill: u64, sum: u64)
-    requires { (place < places) × (disk < 8) × (headWords ≤ length work.old) }
-    ensures { new work ≡ putWords (closed place disk fill sum) (old work) }
+    requires { (place < places) × (disk < 8) × (head_words ≤ length work.old) }
+    ensures { new work ≡ put_words (closed place disk fill sum) (old work) }
 {
     set_fill(work, disk, fill);
     leave(work, place, disk, sum);
@@ -87,8 +87,8 @@ pub fn abort(
     work: &mut [u64],
     budget: &mut u64,
 ) -> Handed
-    ensures { Serves (abort number (old budget)) carried (oldWorld anchor pages backups logs work)
-        result (new budget) (worldOf (old anchor) (new pages) (old backups) (new logs) (new work)) }
+    ensures { Serves (abort number (old budget)) carried (old_world anchor pages backups logs work)
+        result (new budget) (world_of (old anchor) (new pages) (old backups) (new logs) (new work)) }
 {
     let stage = carried.stage;
     let refusal = lent_refusal(

@@ -1,14 +1,14 @@
 // An update, taken out of the log: the slot that it changed, its difference, and how many bits of that are 1.
 ghost use Rattle.std.specs.Prelude.{◌≡◌, ℕ, ◌+◌, ◌*◌, ◌≤◌, ◌<◌, length, take};
 ghost use Rattle.std.proofs.lemmas.List.Edits.{sets};
-ghost use Rattle.model.specs.Word.{onesOver};
+ghost use Rattle.model.specs.Word.{ones_over};
 ghost use Rattle.model.specs.Decode.{read_log, span};
 ghost use Rattle.model.specs.State.{end_of};
-ghost use Rattle.log.specs.Reading.{LiesAt, Readable};
-ghost use Rattle.abort.specs.Undo.{onlyLog, Serving, reader, siteAt};
+ghost use Rattle.disk_log.specs.Reading.{LiesAt, Readable};
+ghost use Rattle.abort.specs.Undo.{only_log, Serving, reader, site_at};
 
 use crate::window::{Tip, window_of};
-use log::read::{Extent, extent_of, read_word};
+use disk_log::read::{Extent, extent_of, read_word};
 use model::Sizes;
 
 // Where an update's record stands, the slot that it changed, and the slot's width.
@@ -29,8 +29,8 @@ pub struct Difference {
 
 // The site of the update at a position, by its first word.
 pub fn site_at(sizes: Sizes, tip: Tip, disk: u64, position: u64, logs: &[u64], work: &[u64]) -> Site
-    requires { Serving sizes (onlyLog disk tip) disk logs.now work.now × (position < end_of (onlyLog disk tip) disk) }
-    ensures { result ≡ siteAt (reader sizes (onlyLog disk tip) disk logs.now work.now) position }
+    requires { Serving sizes (only_log disk tip) disk logs.now work.now × (position < end_of (only_log disk tip) disk) }
+    ensures { result ≡ site_at (reader sizes (only_log disk tip) disk logs.now work.now) position }
 {
     let log = window_of(tip, disk);
     let start = log.start as usize;
@@ -65,7 +65,7 @@ fn copy_words_of_log(
     requires n_bound { (position + n ≤ extent.end) × (n ≤ length out.old) × (n ≤ 32) }
     ensures { ((s : Sizes) (disk : ℕ) → LiesAt s disk extent.place extent.ring
         → (out.new ≡ sets out.old 0 (span (read_log s logs.now disk extent.tail buffer.now) position n))
-        × (result ≡ onesOver (span (read_log s logs.now disk extent.tail buffer.now) position n)))
+        × (result ≡ ones_over (span (read_log s logs.now disk extent.tail buffer.now) position n)))
         × (result ≤ 64 * n) }
 {
     let place = extent.place;
@@ -92,10 +92,10 @@ pub fn difference_at(
     logs: &[u64],
     work: &[u64],
 ) -> Difference
-    requires serving { Serving sizes (onlyLog disk tip) disk logs.now work.now }
-    requires width_bound { (position + 3 + width ≤ end_of (onlyLog disk tip) disk) × (width ≤ 32) }
-    ensures { (take width result.words ≡ span (reader sizes (onlyLog disk tip) disk logs.now work.now) (position + 3) width)
-        × (result.ones ≡ onesOver (span (reader sizes (onlyLog disk tip) disk logs.now work.now) (position + 3) width))
+    requires serving { Serving sizes (only_log disk tip) disk logs.now work.now }
+    requires width_bound { (position + 3 + width ≤ end_of (only_log disk tip) disk) × (width ≤ 32) }
+    ensures { (take width result.words ≡ span (reader sizes (only_log disk tip) disk logs.now work.now) (position + 3) width)
+        × (result.ones ≡ ones_over (span (reader sizes (only_log disk tip) disk logs.now work.now) (position + 3) width))
         × (result.ones ≤ 2048) }
 {
     let log = window_of(tip, disk);

@@ -1,7 +1,7 @@
 // No. 7: what an abort finds wrong in the log that it reads.
 ghost use Rattle.std.specs.Prelude.{◌+◌, ◌≤◌};
 ghost use Rattle.model.specs.State.{end_of};
-ghost use Rattle.abort.specs.Undo.{onlyLog, Serving};
+ghost use Rattle.abort.specs.Undo.{only_log, Serving};
 ghost use Rattle.abort.specs.Scope.{Examines};
 
 use crate::notes::Notes;
@@ -26,9 +26,9 @@ pub fn examine(
     logs: &[u64],
     work: &[u64],
 ) -> Examined
-    requires serving { Serving sizes (onlyLog scope.disk tip) scope.disk logs.now work.now }
-    requires disk_bound { end_of (onlyLog scope.disk tip) scope.disk ≤ scope.from + 65536 }
-    ensures { Examines sizes (onlyLog scope.disk tip) scope number logs.now work.now result }
+    requires serving { Serving sizes (only_log scope.disk tip) scope.disk logs.now work.now }
+    requires disk_bound { end_of (only_log scope.disk tip) scope.disk ≤ scope.from + 65536 }
+    ensures { Examines sizes (only_log scope.disk tip) scope number logs.now work.now result }
 {
     let found = survey_from(sizes, tip, scope.disk, number, scope.from, logs, work);
     let notes = found.notes;

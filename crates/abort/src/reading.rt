@@ -2,15 +2,15 @@
 ghost use Rattle.std.specs.Prelude.{◌+◌, ◌≤◌, length};
 ghost use Rattle.model.specs.Scan.{scan};
 ghost use Rattle.model.specs.State.{end_of};
-ghost use Rattle.log.specs.Reading.{positionsIn};
-ghost use Rattle.log.specs.Front.{Gathered};
-ghost use Rattle.abort.specs.Undo.{onlyLog, Serving, reader};
+ghost use Rattle.disk_log.specs.Reading.{positions_in};
+ghost use Rattle.disk_log.specs.Front.{Gathered};
+ghost use Rattle.abort.specs.Undo.{only_log, Serving, reader};
 ghost use Rattle.abort.specs.Groups.{FoundFrom};
 
 use crate::notes::Notes;
 use crate::window::{Tip, window_of};
-use log::read::extent_of;
-use log::updates::{Group, next_updates, survey_log};
+use disk_log::read::extent_of;
+use disk_log::updates::{Group, next_updates, survey_log};
 use model::{Fault, Sizes};
 
 // The first malformed record, the words of a transaction's updates, and where these are read from.
@@ -31,8 +31,8 @@ pub fn survey_from(
     logs: &[u64],
     work: &[u64],
 ) -> Found
-    requires { Serving sizes (onlyLog disk tip) disk logs.now work.now × (end_of (onlyLog disk tip) disk ≤ from + 65536) }
-    ensures { FoundFrom sizes (onlyLog disk tip) disk number from logs.now work.now result }
+    requires { Serving sizes (only_log disk tip) disk logs.now work.now × (end_of (only_log disk tip) disk ≤ from + 65536) }
+    ensures { FoundFrom sizes (only_log disk tip) disk number from logs.now work.now result }
 {
     let log = window_of(tip, disk);
     let start = log.start as usize;
@@ -67,9 +67,9 @@ pub fn group_from(
     logs: &[u64],
     work: &[u64],
 ) -> Group
-    requires serving { Serving sizes (onlyLog disk tip) disk logs.now work.now × (end ≤ end_of (onlyLog disk tip) disk) × (n ≤ 128) }
-    requires n_in_bounds { n ≤ length (positionsIn number (scan sizes (reader sizes (onlyLog disk tip) disk logs.now work.now) end from)) }
-    ensures { Gathered number n (scan sizes (reader sizes (onlyLog disk tip) disk logs.now work.now) end from) result }
+    requires serving { Serving sizes (only_log disk tip) disk logs.now work.now × (end ≤ end_of (only_log disk tip) disk) × (n ≤ 128) }
+    requires n_in_bounds { n ≤ length (positions_in number (scan sizes (reader sizes (only_log disk tip) disk logs.now work.now) end from)) }
+    ensures { Gathered number n (scan sizes (reader sizes (only_log disk tip) disk logs.now work.now) end from) result }
 {
     let log = window_of(tip, disk);
     let start = log.start as usize;

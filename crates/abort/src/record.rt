@@ -1,16 +1,16 @@
 // A record appended to a disk's log, and where the log ends after it.
 ghost use Rattle.std.specs.Prelude.{◌≡◌, List, ℕ, length};
-ghost use Rattle.model.specs.Record.{change, close, encode, compensationKind, abortKind};
-ghost use Rattle.model.specs.World.{worldOf};
+ghost use Rattle.model.specs.Record.{change, close, encode, compensation_kind, abort_kind};
+ghost use Rattle.model.specs.World.{world_of};
 ghost use Rattle.model.specs.Memory.{copy_of};
 ghost use Rattle.model.specs.Append.{append};
-ghost use Rattle.abort.specs.Undo.{onlyLog, Serving, InSlot, Did};
+ghost use Rattle.abort.specs.Undo.{only_log, Serving, InSlot, Did};
 
 use crate::window::Tip;
 use frame::home::home_at;
 use layout::memory::page_copy;
-use log::kinds::{ABORT, COMPENSATION};
-use log::write::{Head, Logged, append_change, append_close};
+use disk_log::kinds::{ABORT, COMPENSATION};
+use disk_log::write::{Head, Logged, append_change, append_close};
 use model::Sizes;
 
 // How far an abort came: whether all its stores were made, and where its disk's log ends.
@@ -46,11 +46,11 @@ pub fn log_compensation(
     work: &mut [u64],
     budget: &mut u64,
 ) -> Progress
-    requires serving { Serving sizes (onlyLog disk tip) disk logs.old work.old }
+    requires serving { Serving sizes (only_log disk tip) disk logs.old work.old }
     requires in_slot { InSlot sizes page slot (length difference.now) }
     ensures { (anchor pages backups : List ℕ) → Did disk budget.old budget.new
-        (append sizes (onlyLog disk tip) work.old disk (encode (change compensationKind page slot number (copy_of sizes work.old page) difference.now)))
-        (worldOf anchor pages backups logs.old work.old) (worldOf anchor pages backups logs.new work.new) result }
+        (append sizes (only_log disk tip) work.old disk (encode (change compensation_kind page slot number (copy_of sizes work.old page) difference.now)))
+        (world_of anchor pages backups logs.old work.old) (world_of anchor pages backups logs.new work.new) result }
 {
     let home = home_at(sizes.ring, disk, tip.tail, tip.fill);
     let head = Head {
@@ -74,10 +74,10 @@ pub fn log_close(
     work: &mut [u64],
     budget: &mut u64,
 ) -> Progress
-    requires { Serving sizes (onlyLog disk tip) disk logs.old work.old }
+    requires { Serving sizes (only_log disk tip) disk logs.old work.old }
     ensures { (anchor pages backups : List ℕ) → Did disk budget.old budget.new
-        (append sizes (onlyLog disk tip) work.old disk (encode (close abortKind number)))
-        (worldOf anchor pages backups logs.old work.old) (worldOf anchor pages backups logs.new work.new) result }
+        (append sizes (only_log disk tip) work.old disk (encode (close abort_kind number)))
+        (world_of anchor pages backups logs.old work.old) (world_of anchor pages backups logs.new work.new) result }
 {
     let home = home_at(sizes.ring, disk, tip.tail, tip.fill);
     let added = append_close(logs, work, home, ABORT, number, budget);

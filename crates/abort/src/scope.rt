@@ -3,8 +3,8 @@ ghost use Rattle.std.specs.Prelude.{◌≡◌, true, not, ◌||◌, ◌+◌, ◌
 ghost use Rattle.model.specs.declared.Carried.{Carried};
 ghost use Rattle.model.specs.Moments.{old};
 ghost use Rattle.model.specs.State.{limit};
-ghost use Rattle.model.specs.View.{headWords, ownWork, core_of};
-ghost use Rattle.abort.specs.Scope.{OfState, scopeIn, Read};
+ghost use Rattle.model.specs.View.{head_words, own_work, core_of};
+ghost use Rattle.abort.specs.Scope.{OfState, scope_in, Read};
 
 use frame::entry::{Entry, find_entry};
 use frame::sizes::known_sizes;
@@ -67,7 +67,7 @@ fn log_fits(end: u64, first: u64, reserved: u64, ring: u64) -> bool
 // One with no update has nothing to read.
 fn scope_at(entry: Entry, first: u64) -> Scope
     requires { (2 ≤ entry.reserved) × (entry.tail + entry.fill ≤ limit) }
-    ensures { result ≡ scopeIn entry first }
+    ensures { result ≡ scope_in entry first }
 {
     let disk = entry.disk;
     let words = entry.reserved - CLOSE_WORDS;
@@ -98,8 +98,8 @@ pub fn find_scope(
     tails: [u64; 8],
     number: u64,
 ) -> Target
-    requires { (disks ≤ 8) × (headWords ≤ length work.now) × OfState work.now disks tails }
-    ensures { (h : Carried) → ownWork h (old work) ≡ true → h.pages ≡ pages → h.disks ≡ disks → h.ring ≡ ring → h.total ≡ total
+    requires { (disks ≤ 8) × (head_words ≤ length work.now) × OfState work.now disks tails }
+    ensures { (h : Carried) → own_work h (old work) ≡ true → h.pages ≡ pages → h.disks ≡ disks → h.ring ≡ ring → h.total ≡ total
         → h.tails ≡ tails → Read (core_of h (old work)) number result }
 {
     let entry = find_entry(work, disks, &tails, number);

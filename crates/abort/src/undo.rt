@@ -1,11 +1,11 @@
 // The updates of a transaction taken back, newest first.
 ghost use Rattle.std.specs.Prelude.{◌≡◌, List, [], ◌∷◌, ℕ, ◌+◌, ◌≤◌, min, take};
-ghost use Rattle.model.specs.Scan.{scan, updatesIn};
-ghost use Rattle.model.specs.World.{worldOf};
+ghost use Rattle.model.specs.Scan.{scan, updates_in};
+ghost use Rattle.model.specs.World.{world_of};
 ghost use Rattle.model.specs.State.{end_of};
-ghost use Rattle.model.specs.Abort.{compensate, undoAll};
-ghost use Rattle.abort.specs.Undo.{onlyLog, Did, Counts, reader, logFrom, updateAt, updateRead, Compensable, Undoable};
-ghost use Rattle.abort.specs.Groups.{Noted, lastFirst, Takeable};
+ghost use Rattle.model.specs.Abort.{compensate, undo_all};
+ghost use Rattle.abort.specs.Undo.{only_log, Did, Counts, reader, log_from, update_at, update_read, Compensable, Undoable};
+ghost use Rattle.abort.specs.Groups.{Noted, last_first, Takeable};
 
 use crate::difference::{Difference, Site, difference_at, site_at};
 use crate::notes::Notes;
@@ -13,7 +13,7 @@ use crate::reading::group_from;
 use crate::record::{Progress, log_compensation};
 use crate::window::Tip;
 use layout::places::slot_base;
-use log::updates::Group;
+use disk_log::updates::Group;
 use model::Sizes;
 use words::xor_in;
 
@@ -36,13 +36,13 @@ fn undo_one(
     work: &mut [u64],
     budget: &mut u64,
 ) -> Undone
-    requires { Compensable sizes (onlyLog disk tip) disk site pages.old logs.old work.old }
+    requires { Compensable sizes (only_log disk tip) disk site pages.old logs.old work.old }
     ensures by_index { (anchor backups : List ℕ) → Did disk budget.old budget.new
-        (compensate sizes (onlyLog disk tip) (worldOf anchor pages.old backups logs.old work.old) number disk
-        (updateAt sizes (onlyLog disk tip) disk logs.old work.old site))
-        (worldOf anchor pages.old backups logs.old work.old)
-        (worldOf anchor pages.new backups logs.new work.new) result.progress }
-    ensures counts { Counts (updateAt sizes (onlyLog disk tip) disk logs.old work.old site ∷ []) result × (result.ones ≤ 2048) }
+        (compensate sizes (only_log disk tip) (world_of anchor pages.old backups logs.old work.old) number disk
+        (update_at sizes (only_log disk tip) disk logs.old work.old site))
+        (world_of anchor pages.old backups logs.old work.old)
+        (world_of anchor pages.new backups logs.new work.new) result.progress }
+    ensures counts { Counts (update_at sizes (only_log disk tip) disk logs.old work.old site ∷ []) result × (result.ones ≤ 2048) }
 {
     let Difference { words, ones } = difference_at(
         sizes,
@@ -87,13 +87,13 @@ fn undo_group(
     work: &mut [u64],
     budget: &mut u64,
 ) -> Undone
-    requires { (group.count ≤ 128) × Takeable sizes (onlyLog disk tip) disk (take group.count group.at) pages.old logs.old work.old }
+    requires { (group.count ≤ 128) × Takeable sizes (only_log disk tip) disk (take group.count group.at) pages.old logs.old work.old }
     ensures by_index { (anchor backups : List ℕ) → Did disk budget.old budget.new
-        (undoAll sizes (onlyLog disk tip) (worldOf anchor pages.old backups logs.old work.old) number disk
-        (lastFirst (updateRead (reader sizes (onlyLog disk tip) disk logs.old work.old)) (take group.count group.at)))
-        (worldOf anchor pages.old backups logs.old work.old)
-        (worldOf anchor pages.new backups logs.new work.new) result.progress }
-    ensures counts { Counts (lastFirst (updateRead (reader sizes (onlyLog disk tip) disk logs.old work.old)) (take group.count group.at)) result × (result.ones ≤ 262144) }
+        (undo_all sizes (only_log disk tip) (world_of anchor pages.old backups logs.old work.old) number disk
+        (last_first (update_read (reader sizes (only_log disk tip) disk logs.old work.old)) (take group.count group.at)))
+        (world_of anchor pages.old backups logs.old work.old)
+        (world_of anchor pages.new backups logs.new work.new) result.progress }
+    ensures counts { Counts (last_first (update_read (reader sizes (only_log disk tip) disk logs.old work.old)) (take group.count group.at)) result × (result.ones ≤ 262144) }
 {
     let at = group.at;
     let mut after = tip;
@@ -139,14 +139,14 @@ pub fn undo_all(
     work: &mut [u64],
     budget: &mut u64,
 ) -> Undone
-    requires undoable { Undoable sizes (onlyLog disk tip) disk number notes.from pages.old logs.old work.old }
-    requires noted { Noted number (scan sizes (reader sizes (onlyLog disk tip) disk logs.old work.old) (end_of (onlyLog disk tip) disk)) notes.from notes }
+    requires undoable { Undoable sizes (only_log disk tip) disk number notes.from pages.old logs.old work.old }
+    requires noted { Noted number (scan sizes (reader sizes (only_log disk tip) disk logs.old work.old) (end_of (only_log disk tip) disk)) notes.from notes }
     ensures by_index { (anchor backups : List ℕ) → Did disk budget.old budget.new
-        (undoAll sizes (onlyLog disk tip) (worldOf anchor pages.old backups logs.old work.old) number disk
-        (updatesIn number (logFrom sizes (onlyLog disk tip) disk logs.old work.old notes.from)))
-        (worldOf anchor pages.old backups logs.old work.old)
-        (worldOf anchor pages.new backups logs.new work.new) result.progress }
-    ensures counts { Counts (updatesIn number (logFrom sizes (onlyLog disk tip) disk logs.old work.old notes.from)) result }
+        (undo_all sizes (only_log disk tip) (world_of anchor pages.old backups logs.old work.old) number disk
+        (updates_in number (log_from sizes (only_log disk tip) disk logs.old work.old notes.from)))
+        (world_of anchor pages.old backups logs.old work.old)
+        (world_of anchor pages.new backups logs.new work.new) result.progress }
+    ensures counts { Counts (updates_in number (log_from sizes (only_log disk tip) disk logs.old work.old notes.from)) result }
 {
     let end = tip.tail + tip.fill;
     let mut after = tip;

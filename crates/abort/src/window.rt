@@ -1,7 +1,7 @@
 // Where a disk's log ends, and where its buffered words lie in the work memory.
 ghost use Rattle.std.specs.Prelude.{◌≡◌, ◌≤◌, ◌<◌};
-ghost use Rattle.model.specs.State.{limit, fillOf, end_of};
-ghost use Rattle.abort.specs.Undo.{onlyLog, windowOf};
+ghost use Rattle.model.specs.State.{limit, fill_of, end_of};
+ghost use Rattle.abort.specs.Undo.{only_log, window_of};
 
 use layout::memory::buffer_place;
 
@@ -22,8 +22,8 @@ pub struct Window {
 }
 
 pub fn window_of(tip: Tip, disk: u64) -> Window
-    requires { (disk < 8) × (fillOf (onlyLog disk tip) disk ≤ 64) × (end_of (onlyLog disk tip) disk ≤ limit) }
-    ensures { result ≡ windowOf (onlyLog disk tip) disk }
+    requires { (disk < 8) × (fill_of (only_log disk tip) disk ≤ 64) × (end_of (only_log disk tip) disk ≤ limit) }
+    ensures { result ≡ window_of (only_log disk tip) disk }
 {
     let start = buffer_place(disk);
     Window {

@@ -14,132 +14,132 @@ use Rattle.model.specs.declared.Carried.{Carried}
 use Rattle.model.specs.declared.Logs.{Logs}
 use Rattle.model.specs.declared.Table.{Table}
 use Rattle.model.specs.declared.Handed.{Handed}
-use Rattle.model.specs.Record.{encode, wordsOf, updateKind}
-use Rattle.model.specs.World.{World, worldOf}
-use Rattle.model.specs.State.{tailOf, fillOf, withLog, withPlace, withReserved}
-use Rattle.model.specs.Causes.{whenShut}
+use Rattle.model.specs.Record.{encode, words_of, update_kind}
+use Rattle.model.specs.World.{World, world_of}
+use Rattle.model.specs.State.{tail_of, fill_of, with_log, with_place, with_reserved}
+use Rattle.model.specs.Causes.{when_shut}
 use Rattle.model.specs.Refusal.{verdict, accepted}
-use Rattle.model.specs.Transaction.{slotWords, updateRecord, updated, updateRows, updateTask}
+use Rattle.model.specs.Transaction.{slot_words, update_record, updated, update_rows, update_task}
 use Rattle.model.specs.Call.{update}
-use Rattle.model.specs.View.{headWords, ownWork, core_of, carried_of, head_of, body_of, Serves}
-use Rattle.model.specs.Fields.{putWords, entering, filling}
-use Rattle.model.proofs.RecordSizes.{words-change}
-use Rattle.model.proofs.View.Laid.{setIn}
-use Rattle.model.proofs.View.Head.{own-work, carried-back}
-use Rattle.model.proofs.View.Fields.{putLists, Within as within-head, head-put}
-use Rattle.log.specs.declared.write.Head.{Head}
-use Rattle.log.specs.declared.write.Home.{Home}
+use Rattle.model.specs.View.{head_words, own_work, core_of, carried_of, head_of, body_of, Serves}
+use Rattle.model.specs.Fields.{put_words, entering, filling}
+use Rattle.model.proofs.RecordSizes.{words_change}
+use Rattle.model.proofs.View.Laid.{set_in}
+use Rattle.model.proofs.View.Head.{own_work_lem, carried_back}
+use Rattle.model.proofs.View.Fields.{put_lists, Within as within_head, head_put}
+use Rattle.disk_log.specs.declared.write.Head.{Head}
+use Rattle.disk_log.specs.declared.write.Home.{Home}
 use Rattle.access.specs.declared.change.Changed.{Changed}
-use Rattle.log.specs.Write.{Within, Encodable, Lent}
-use Rattle.frame.specs.Handed.{refusedTo, finishedTo, cut_to}
-use Rattle.frame.specs.Home.{home_of, withDisk}
-use Rattle.frame.proofs.Homes.{home-lent}
-use Rattle.frame.proofs.Shown.{shown-refused, shown-whole, shown-cut}
+use Rattle.disk_log.specs.Write.{Within, Encodable, Lent}
+use Rattle.frame.specs.Handed.{refused_to, finished_to, cut_to}
+use Rattle.frame.specs.Home.{home_of, with_disk}
+use Rattle.frame.proofs.Homes.{home_lent}
+use Rattle.frame.proofs.Shown.{shown_refused, shown_whole, shown_cut}
 use Rattle.access.specs.declared.plan.Plan.{Plan}
-use Rattle.access.specs.Tasks.{withMemory, replacing, Replaced}
+use Rattle.access.specs.Tasks.{with_memory, replacing, Replaced}
 use Rattle.access.specs.Plans.{Plans, Planned}
-use Rattle.access.proofs.Differences.{record-length}
+use Rattle.access.proofs.Differences.{record_length}
 
 -- a row refuses it
-pub update-refused : (h : Carried) (w : World) {number page slot : ℕ} (value : List ℕ) {p : Plan} (budget : ℕ)
-    → Planned h w number page slot (length value) p → (p.refusal ≡ 0 → ⊥) → {reply : Handed} → reply ≡ refusedTo h p.refusal 0 0
+pub update_refused : (h : Carried) (w : World) {number page slot : ℕ} (value : List ℕ) {p : Plan} (budget : ℕ)
+    → Planned h w number page slot (length value) p → (p.refusal ≡ 0 → ⊥) → {reply : Handed} → reply ≡ refused_to h p.refusal 0 0
     → Serves (update number page slot value budget) h w reply budget w
-update-refused h w {number} {page} {slot} value {p} budget planned some reply =
-    shown-refused (update number page slot value budget) h w (planned.rows value refl ∙ rw (ne_eqb p.refusal 0 some) refl) reply
+update_refused h w {number} {page} {slot} value {p} budget planned some reply =
+    shown_refused (update number page slot value budget) h w (planned.rows value refl ∙ rw (ne_eqb p.refusal 0 some) refl) reply
 
 -- none does
-pub update-taken : (h : Carried) (w : World) {number page slot : ℕ} (value : List ℕ) {p : Plan} → Planned h w number page slot (length value) p
-    → p.refusal ≡ 0 → verdict (updateRows (core_of h w.work) (body_of w) number page slot value) ≡ accepted
-update-taken h w value {p} planned none = planned.rows value refl ∙ rw (eq-eqb p.refusal 0 none) refl
+pub update_taken : (h : Carried) (w : World) {number page slot : ℕ} (value : List ℕ) {p : Plan} → Planned h w number page slot (length value) p
+    → p.refusal ≡ 0 → verdict (update_rows (core_of h w.work) (body_of w) number page slot value) ≡ accepted
+update_taken h w value {p} planned none = planned.rows value refl ∙ rw (eq-eqb p.refusal 0 none) refl
 
 -- what its record says beside the difference
-abbrev pub headOfChange : (page slot number copy : ℕ) → Head
-headOfChange page slot number copy = record { kind = 0; page = page; slot = slot; number = number; copy = copy }
+abbrev pub head_of_change : (page slot number copy : ℕ) → Head
+head_of_change page slot number copy = record { kind = 0; page = page; slot = slot; number = number; copy = copy }
 
-module _ (h : Carried) (w : World) (own : ownWork h w.work ≡ true) {number page slot : ℕ} (value : List ℕ) {p : Plan}
+module _ (h : Carried) (w : World) (own : own_work h w.work ≡ true) {number page slot : ℕ} (value : List ℕ) {p : Plan}
     (plans : Plans (core_of h w.work) (body_of w) number page slot (length value) p) where
   abbrev c : Core
   c = core_of h w.work
 
   abbrev head : Head
-  head = headOfChange page slot number p.copy
+  head = head_of_change page slot number p.copy
 
   -- its disk, by the numbers
-  pub home-is : {home : Home} → ((s : Sizes) (l : Logs) → s.ring ≡ h.ring → tailOf l p.disk ≡ p.tail → fillOf l p.disk ≡ p.fill → home ≡ home_of s l p.disk)
+  pub home_is : {home : Home} → ((s : Sizes) (l : Logs) → s.ring ≡ h.ring → tail_of l p.disk ≡ p.tail → fill_of l p.disk ≡ p.fill → home ≡ home_of s l p.disk)
       → home ≡ home_of c.sizes c.logs p.disk
-  home-is e = e c.sizes c.logs (ap (λ (x : Carried). x.ring) (carried-back h w.work)) (sym plans.tail) (sym plans.fill)
+  home_is e = e c.sizes c.logs (ap (λ (x : Carried). x.ring) (carried_back h w.work)) (sym plans.tail) (sym plans.fill)
 
-  pub home-disk : {home : Home} → home ≡ home_of c.sizes c.logs p.disk → home.disk ≡ p.disk
+  pub home_disk : {home : Home} → home ≡ home_of c.sizes c.logs p.disk → home.disk ≡ p.disk
   unfolding home_of
-  home-disk e = ap (λ (x : Home). x.disk) e
+  home_disk e = ap (λ (x : Home). x.disk) e
 
   -- what its work is lent
-  pub change-ready : {home : Home} → home ≡ home_of c.sizes c.logs p.disk
+  pub change_ready : {home : Home} → home ≡ home_of c.sizes c.logs p.disk
       → Within home (body_of w).logs (body_of w).work × Encodable head (length value) × (p.at + length value ≤ length (body_of w).pages) × (p.owner < length (body_of w).work)
-  change-ready e = (
+  change_ready e = (
     rw e plans.home,
-    record { kind-small = omega arith; page-small = plans.page-small; slot_small = plans.slot_small; width_small = plans.width-max },
+    record { kind_small = omega arith; page_small = plans.page_small; slot_small = plans.slot_small; width_small = plans.width_max },
     plans.end,
-    plans.owner-within,
+    plans.owner_within,
   )
 
-  pub change-lent : {home : Home} → home ≡ home_of c.sizes c.logs p.disk → Lent c.sizes c.logs (body_of w) home (body_of w).logs (body_of w).work
-  change-lent e = rw e (home-lent c.sizes c.logs (body_of w) p.disk)
+  pub change_lent : {home : Home} → home ≡ home_of c.sizes c.logs p.disk → Lent c.sizes c.logs (body_of w) home (body_of w).logs (body_of w).work
+  change_lent e = rw e (home_lent c.sizes c.logs (body_of w) p.disk)
 
   -- its task
-  actions-are : (replacing c.sizes c.logs (body_of w) p.disk head p.at value).actions ≡ (updateTask c (body_of w) number page slot value).actions
-  unfolding replacing updateTask updateRecord slotWords
-  actions-are = rw (← plans.same_width, ← plans.at, ← plans.disk, ← plans.copy) refl
+  actions_are : (replacing c.sizes c.logs (body_of w) p.disk head p.at value).actions ≡ (update_task c (body_of w) number page slot value).actions
+  unfolding replacing update_task update_record slot_words
+  actions_are = rw (← plans.same_width, ← plans.at, ← plans.disk, ← plans.copy) refl
 
-  words_are : length (encode (updateRecord c (body_of w) number page slot value)) ≡ wordsOf updateKind (length value)
-  unfolding updateRecord slotWords
+  words_are : length (encode (update_record c (body_of w) number page slot value)) ≡ words_of update_kind (length value)
+  unfolding update_record slot_words
   words_are =
       rw (← plans.same_width, ← plans.at, ← plans.copy)
-      (record-length p.at value (body_of w).pages plans.end head ∙ sym (words-change updateKind (length value) (omega arith)))
+      (record_length p.at value (body_of w).pages plans.end head ∙ sym (words_change update_kind (length value) (omega arith)))
 
-  abbrev table-after : Table
-  table-after = withReserved (withPlace c.table p.place number p.disk p.first p.reserved) p.disk p.sum
+  abbrev table_after_lem : Table
+  table_after_lem = with_reserved (with_place c.table p.place number p.disk p.first p.reserved) p.disk p.sum
 
-  table_is : updated c number (wordsOf updateKind (length value)) ≡ table-after
+  table_is : updated c number (words_of update_kind (length value)) ≡ table_after_lem
   unfolding updated
   table_is = rw (← plans.place, ← plans.disk, ← plans.first, ← plans.reserved, ← plans.sum) refl
 
-  core_is : (updateTask c (body_of w) number page slot value).core
-      ≡ withLog c (replacing c.sizes c.logs (body_of w) p.disk head p.at value).logs table-after
-  unfolding replacing updateTask updateRecord slotWords
+  core_is : (update_task c (body_of w) number page slot value).core
+      ≡ with_log c (replacing c.sizes c.logs (body_of w) p.disk head p.at value).logs table_after_lem
+  unfolding replacing update_task update_record slot_words
   core_is = rw (words_are, table_is, ← plans.same_width, ← plans.at, ← plans.disk, ← plans.copy) refl
 
   -- its work, cut or whole
-  module _ (rows : verdict (updateRows c (body_of w) number page slot value) ≡ accepted) {budget rest : ℕ} {pages logs body : List ℕ} {r : Changed}
-      (did : Replaced budget rest c.sizes c.logs p.disk head p.at value (body_of w) (withMemory (body_of w) pages logs body) r) where
-    pub update-cut : r.logged.finished ≡ false → {work : List ℕ} → work ≡ take headWords w.work ++ body → {reply : Handed} → reply ≡ cut_to (budget - rest)
-        → Serves (update number page slot value budget) h w reply rest (worldOf w.anchor pages w.backups logs work)
+  module _ (rows : verdict (update_rows c (body_of w) number page slot value) ≡ accepted) {budget rest : ℕ} {pages logs body : List ℕ} {r : Changed}
+      (did : Replaced budget rest c.sizes c.logs p.disk head p.at value (body_of w) (with_memory (body_of w) pages logs body) r) where
+    pub update_cut : r.logged.finished ≡ false → {work : List ℕ} → work ≡ take head_words w.work ++ body → {reply : Handed} → reply ≡ cut_to (budget - rest)
+        → Serves (update number page slot value budget) h w reply rest (world_of w.anchor pages w.backups logs work)
     unfolding body_of
-    update-cut cut head-left reply =
-        shown-cut (update number page slot value budget) h w rows (rw (actions-are, cut) at did.ran) head-left reply
+    update_cut cut head_left reply =
+        shown_cut (update number page slot value budget) h w rows (rw (actions_are, cut) at did.ran) head_left reply
 
     module _ (finished : r.logged.finished ≡ true) where
       abbrev after : Core
-      after = withLog c (withDisk c.logs p.disk r.logged.tail r.logged.fill) table-after
+      after = with_log c (with_disk c.logs p.disk r.logged.tail r.logged.fill) table_after_lem
 
-      core-after : (updateTask c (body_of w) number page slot value).core ≡ after
-      core-after = core_is ∙ ap (λ (l : Logs). withLog c l table-after) (did.state finished)
+      core_after : (update_task c (body_of w) number page slot value).core ≡ after
+      core_after = core_is ∙ ap (λ (l : Logs). with_log c l table_after_lem) (did.state finished)
 
-      serving-after : whenShut (updateTask c (body_of w) number page slot value).core.stage ≡ false
-      unfolding withLog
-      serving-after =
-          ap (λ (x : Core). whenShut x.stage) core-after ∙ ap (λ (x : Carried). whenShut x.stage) (carried-back h w.work)
-          ∙ (own-work h w.work own).serving
+      serving_after : when_shut (update_task c (body_of w) number page slot value).core.stage ≡ false
+      unfolding with_log
+      serving_after =
+          ap (λ (x : Core). when_shut x.stage) core_after ∙ ap (λ (x : Carried). when_shut x.stage) (carried_back h w.work)
+          ∙ (own_work_lem h w.work own).serving
 
-      head-after : putWords (filling p.disk r.logged.fill)
-          (putWords (entering p.place number p.disk p.first p.reserved p.sum) (take headWords w.work ++ body))
+      head_after_lem : put_words (filling p.disk r.logged.fill)
+          (put_words (entering p.place number p.disk p.first p.reserved p.sum) (take head_words w.work ++ body))
           ≡ head_of after ++ body
-      unfolding putWords putLists setIn withLog withReserved withPlace within-head
-      head-after =
-          head-put h w.work body own (entering p.place number p.disk p.first p.reserved p.sum ++ filling p.disk r.logged.fill)
-          (plans.place-low, (plans.place-low, (plans.place-low, (plans.place-low, (plans.disk-low, (plans.disk-low, tt)))))) after refl
+      unfolding put_words put_lists set_in with_log with_reserved with_place within_head
+      head_after_lem =
+          head_put h w.work body own (entering p.place number p.disk p.first p.reserved p.sum ++ filling p.disk r.logged.fill)
+          (plans.place_low, (plans.place_low, (plans.place_low, (plans.place_low, (plans.disk_low, (plans.disk_low, tt)))))) after refl
 
-      carried-after : carried_of after
+      carried_after : carried_of after
           ≡ record {
             stage = h.stage;
             pages = h.pages;
@@ -154,42 +154,42 @@ module _ (h : Carried) (w : World) (own : ownWork h w.work ≡ true) {number pag
             ends = h.ends;
             classes = h.classes;
           }
-      unfolding withLog core_of
-      carried-after = refl
+      unfolding with_log core_of
+      carried_after = refl
 
-      value-is : (updateTask c (body_of w) number page slot value).value ≡ r.ones
-      unfolding updateTask updateRecord slotWords
-      value-is = rw (← plans.same_width, ← plans.at) (sym (did.ones finished))
+      value_is : (update_task c (body_of w) number page slot value).value ≡ r.ones
+      unfolding update_task update_record slot_words
+      value_is = rw (← plans.same_width, ← plans.at) (sym (did.ones finished))
 
-      pub update-finished : {work : List ℕ}
-          → work ≡ putWords (filling p.disk r.logged.fill) (putWords (entering p.place number p.disk p.first p.reserved p.sum) (take headWords w.work ++ body))
+      pub update_finished : {work : List ℕ}
+          → work ≡ put_words (filling p.disk r.logged.fill) (put_words (entering p.place number p.disk p.first p.reserved p.sum) (take head_words w.work ++ body))
           → {reply : Handed}
-          → reply ≡ finishedTo (record { stage = h.stage; pages = h.pages; disks = h.disks; ring = h.ring; total = h.total; epoch = h.epoch; next = h.next; copied = h.copied; starts = h.starts; tails = set h.tails p.disk r.logged.tail; ends = h.ends; classes = h.classes }) (budget - rest) r.ones
-          → Serves (update number page slot value budget) h w reply rest (worldOf w.anchor pages w.backups logs work)
+          → reply ≡ finished_to (record { stage = h.stage; pages = h.pages; disks = h.disks; ring = h.ring; total = h.total; epoch = h.epoch; next = h.next; copied = h.copied; starts = h.starts; tails = set h.tails p.disk r.logged.tail; ends = h.ends; classes = h.classes }) (budget - rest) r.ones
+          → Serves (update number page slot value budget) h w reply rest (world_of w.anchor pages w.backups logs work)
       unfolding body_of
-      update-finished head-left reply =
-          shown-whole (update number page slot value budget) h w rows (rw (actions-are, finished) at did.ran) serving-after
-          (head-left ∙ head-after ∙ ap (λ (x : Core). head_of x ++ body) (sym core-after)) (sym carried-after ∙ ap carried_of (sym core-after)) (rw value-is reply)
+      update_finished head_left reply =
+          shown_whole (update number page slot value budget) h w rows (rw (actions_are, finished) at did.ran) serving_after
+          (head_left ∙ head_after_lem ∙ ap (λ (x : Core). head_of x ++ body) (sym core_after)) (sym carried_after ∙ ap carried_of (sym core_after)) (rw value_is reply)
 
       -- where nothing is flushed, the tail stays, and with it all that is carried
-      pub update-unmoved : r.logged.tail ≡ p.tail → {work : List ℕ}
-          → work ≡ putWords (filling p.disk r.logged.fill) (putWords (entering p.place number p.disk p.first p.reserved p.sum) (take headWords w.work ++ body))
-          → {reply : Handed} → reply ≡ finishedTo h (budget - rest) r.ones
-          → Serves (update number page slot value budget) h w reply rest (worldOf w.anchor pages w.backups logs work)
-      unfolding tailOf core_of
-      update-unmoved stays head-left reply =
+      pub update_unmoved : r.logged.tail ≡ p.tail → {work : List ℕ}
+          → work ≡ put_words (filling p.disk r.logged.fill) (put_words (entering p.place number p.disk p.first p.reserved p.sum) (take head_words w.work ++ body))
+          → {reply : Handed} → reply ≡ finished_to h (budget - rest) r.ones
+          → Serves (update number page slot value budget) h w reply rest (world_of w.anchor pages w.backups logs work)
+      unfolding tail_of core_of
+      update_unmoved stays head_left reply =
           let same : set h.tails p.disk r.logged.tail ≡ h.tails = rw (stays, plans.tail) (set-get_or h.tails p.disk 0) in
-          update-finished head-left (rw same reply)
+          update_finished head_left (rw same reply)
 
 -- The body as it is lent, and the whole when it is back.
-pub body-lent : (work : List ℕ) → take (length work - headWords) (drop headWords work) ≡ drop headWords work
-body-lent work = part_to_end work headWords
+pub body_lent : (work : List ℕ) → take (length work - head_words) (drop head_words work) ≡ drop head_words work
+body_lent work = part_to_end work head_words
 
-pub body_kept : (work body : List ℕ) → take headWords work ++ (body ++ drop (length work - headWords) (drop headWords work)) ≡ take headWords work ++ body
+pub body_kept : (work body : List ℕ) → take head_words work ++ (body ++ drop (length work - head_words) (drop head_words work)) ≡ take head_words work ++ body
 body_kept work body =
-    ap (λ (rest : List ℕ). take headWords work ++ (body ++ rest))
-    (drop_of_length-le (drop headWords work) {i = length work - headWords} (omega (arith, length-drop headWords work)))
-    ∙ ap (λ (l : List ℕ). take headWords work ++ l) (append-nil body)
+    ap (λ (rest : List ℕ). take head_words work ++ (body ++ rest))
+    (drop_of_length-le (drop head_words work) {i = length work - head_words} (omega (arith, length-drop head_words work)))
+    ∙ ap (λ (l : List ℕ). take head_words work ++ l) (append-nil body)
 
-pub head-there : (work rest : List ℕ) → headWords ≤ length work → headWords ≤ length (take headWords work ++ rest)
-head-there work rest long = omega (arith, length-append (take headWords work) rest, length-take-le headWords work long)
+pub head_there : (work rest : List ℕ) → head_words ≤ length work → head_words ≤ length (take head_words work ++ rest)
+head_there work rest long = omega (arith, length-append (take head_words work) rest, length-take-le head_words work long)

@@ -3,23 +3,23 @@ use Rattle.std.specs.Prelude.{◌≡◌, List, Bool, true, cond, ℕ, ◌+◌, �
 use Rattle.model.specs.declared.Core.{Core}
 use Rattle.model.specs.declared.Carried.{Carried}
 use Rattle.model.specs.Sizes.{width_in}
-use Rattle.model.specs.Record.{wordsOf, updateKind}
+use Rattle.model.specs.Record.{words_of, update_kind}
 use Rattle.model.specs.World.{World}
-use Rattle.model.specs.Memory.{ownerAt, copy_of}
-use Rattle.model.specs.State.{tailOf, fillOf, end_of, place_of, first_at, reservedAt, reservedOn, hasUpdate, slotPlace}
+use Rattle.model.specs.Memory.{owner_at, copy_of}
+use Rattle.model.specs.State.{tail_of, fill_of, end_of, place_of, first_at, reserved_at, reserved_on, has_update, slot_place}
 use Rattle.model.specs.Refusal.{verdict}
-use Rattle.model.specs.Transaction.{diskOf, updateRows}
-use Rattle.model.specs.View.{ownWork, core_of, body_of}
-use Rattle.log.specs.Write.{Within}
-use Rattle.frame.specs.Checks.{verdictOf}
+use Rattle.model.specs.Transaction.{disk_of, update_rows}
+use Rattle.model.specs.View.{own_work, core_of, body_of}
+use Rattle.disk_log.specs.Write.{Within}
+use Rattle.frame.specs.Checks.{verdict_of}
 use Rattle.frame.specs.Home.{home_of}
 use Rattle.frame.specs.declared.entry.Entry.{Entry}
 use Rattle.access.specs.declared.slots.Slot.{Slot}
 use Rattle.access.specs.declared.plan.Plan.{Plan}
 
 -- rows 1, 2 and 8 to 10 by the numbers that slot and transaction were found with, and by whether anchor and value have their lengths
-unfoldable pub earlyOf : (slot entry : ℕ) → (anchor value : Bool) → ℕ
-earlyOf slot entry anchor value =
+unfoldable pub early_of : (slot entry : ℕ) → (anchor value : Bool) → ℕ
+early_of slot entry anchor value =
     cond (eqb slot 1) 1 (cond (eqb entry 1) 1 (cond anchor (cond (eqb slot 0) (cond (eqb entry 0) (cond value 0 10) 9) 8) 2))
 
 -- the plan of a slot and a transaction that were found
@@ -32,39 +32,39 @@ plan_of found entry owner copy first =
       copy = copy;
       place = entry.place;
       first = cond (ltb 2 entry.reserved) first (entry.tail + entry.fill);
-      reserved = entry.reserved + wordsOf updateKind found.width;
+      reserved = entry.reserved + words_of update_kind found.width;
       disk = entry.disk;
       tail = entry.tail;
       fill = entry.fill;
-      sum = entry.sum + wordsOf updateKind found.width;
+      sum = entry.sum + words_of update_kind found.width;
     }
 
 -- What an update that no row refuses goes on with: its numbers are those of a state, and lie within the slices of a world.
 pub record Plans (c : Core) (w : World) (number page slot width : ℕ) (r : Plan) : Type 0 where
-  pub at : r.at ≡ slotPlace c page slot
+  pub at : r.at ≡ slot_place c page slot
   pub same_width : width ≡ width_in c.sizes page
-  pub page-small : page < 64
+  pub page_small : page < 64
   pub slot_small : slot < 128
-  pub width-max : width ≤ 32
+  pub width_max : width ≤ 32
   pub end : r.at + width ≤ length w.pages
-  pub owner : r.owner ≡ ownerAt c.sizes r.at
-  pub owner-within : r.owner < length w.work
+  pub owner : r.owner ≡ owner_at c.sizes r.at
+  pub owner_within : r.owner < length w.work
   pub copy : r.copy ≡ copy_of c.sizes w.work page
   pub place : r.place ≡ place_of c.table number
-  pub place-low : r.place < 16
-  pub disk : r.disk ≡ diskOf c number
-  pub disk-low : r.disk < 8
-  pub tail : r.tail ≡ tailOf c.logs r.disk
-  pub fill : r.fill ≡ fillOf c.logs r.disk
-  pub first : r.first ≡ cond (hasUpdate c.table r.place) (first_at c.table r.place) (end_of c.logs r.disk)
-  pub reserved : r.reserved ≡ reservedAt c.table r.place + wordsOf updateKind width
-  pub sum : r.sum ≡ reservedOn c.table r.disk + wordsOf updateKind width
+  pub place_low : r.place < 16
+  pub disk : r.disk ≡ disk_of c number
+  pub disk_low : r.disk < 8
+  pub tail : r.tail ≡ tail_of c.logs r.disk
+  pub fill : r.fill ≡ fill_of c.logs r.disk
+  pub first : r.first ≡ cond (has_update c.table r.place) (first_at c.table r.place) (end_of c.logs r.disk)
+  pub reserved : r.reserved ≡ reserved_at c.table r.place + words_of update_kind width
+  pub sum : r.sum ≡ reserved_on c.table r.disk + words_of update_kind width
   pub home : Within (home_of c.sizes c.logs r.disk) w.logs w.work
 
 -- The row that refuses an update of a value of so many words, and where none does, its plan.
 pub record Planned (h : Carried) (w : World) (number page slot width : ℕ) (r : Plan) : Type 0 where
   pub rows : (value : List ℕ) → length value ≡ width
-      → verdict (updateRows (core_of h w.work) (body_of w) number page slot value) ≡ verdictOf r.refusal
-  pub own : r.refusal ≡ 0 → ownWork h w.work ≡ true
-  pub ring-max : r.refusal ≡ 0 → h.ring ≤ 65536
+      → verdict (update_rows (core_of h w.work) (body_of w) number page slot value) ≡ verdict_of r.refusal
+  pub own : r.refusal ≡ 0 → own_work h w.work ≡ true
+  pub ring_max : r.refusal ≡ 0 → h.ring ≤ 65536
   pub ready : r.refusal ≡ 0 → Plans (core_of h w.work) (body_of w) number page slot width r

@@ -2,13 +2,13 @@
 use Rattle.std.specs.Prelude.{◌≡◌, cond, ℕ}
 use Rattle.model.specs.declared.Core.{Core}
 use Rattle.model.specs.Sizes.{width_in}
-use Rattle.model.specs.State.{slotPlace}
-use Rattle.model.specs.Causes.{slotMissing}
-use Rattle.model.specs.Reads.{slotFits}
+use Rattle.model.specs.State.{slot_place}
+use Rattle.model.specs.Causes.{slot_missing}
+use Rattle.model.specs.Reads.{slot_fits}
 use Rattle.access.specs.declared.slots.Slot.{Slot}
 
 -- The number of the row that refuses a slot, and where none does, the slot.
 pub record Finds (c : Core) (page slot : ℕ) (r : Slot) : Type 0 where
-  pub refusal : r.refusal ≡ cond (slotMissing c.sizes page slot) 8 (cond (slotFits page slot c) 0 1)
-  pub place : r.refusal ≡ 0 → r.at ≡ slotPlace c page slot
+  pub refusal : r.refusal ≡ cond (slot_missing c.sizes page slot) 8 (cond (slot_fits page slot c) 0 1)
+  pub place : r.refusal ≡ 0 → r.at ≡ slot_place c page slot
   pub width : r.refusal ≡ 0 → r.width ≡ width_in c.sizes page

@@ -2,29 +2,29 @@
 use Rattle.std.specs.Prelude.{◌≡◌, List, [], ◌∷◌, ◌++◌, true, ℕ, length}
 use Rattle.model.specs.declared.Sizes.{Sizes}
 use Rattle.model.specs.declared.Logs.{Logs}
-use Rattle.model.specs.Word.{xors, onesOver, part}
+use Rattle.model.specs.Word.{xors, ones_over, part}
 use Rattle.model.specs.Record.{encode}
 use Rattle.model.specs.World.{World, write, pages, work, each}
-use Rattle.model.specs.Memory.{ownerAt}
+use Rattle.model.specs.Memory.{owner_at}
 use Rattle.model.specs.Append.{Appended, append}
 use Rattle.device.specs.Ran.{Ran}
-use Rattle.log.specs.declared.write.Head.{Head}
-use Rattle.log.specs.Write.{changeOf}
-use Rattle.frame.specs.Home.{withDisk}
+use Rattle.disk_log.specs.declared.write.Head.{Head}
+use Rattle.disk_log.specs.Write.{change_of}
+use Rattle.frame.specs.Home.{with_disk}
 use Rattle.access.specs.declared.change.Changed.{Changed}
 
 -- the world with other pages, logs and work memory
-abbrev pub withMemory : World → List ℕ → List ℕ → List ℕ → World
-withMemory w p l k = record { anchor = w.anchor; pages = p; backups = w.backups; logs = l; work = k }
+abbrev pub with_memory : World → List ℕ → List ℕ → List ℕ → World
+with_memory w p l k = record { anchor = w.anchor; pages = p; backups = w.backups; logs = l; work = k }
 
 -- An update's actions on the logs and the memories: the record appended, the slot set, its owner set; and the logs' part of the state.
 unfoldable pub replacing : Sizes → Logs → World → ℕ → Head → ℕ → List ℕ → Appended
 replacing s l w disk head at value =
-    let added : Appended = append s l w.work disk (encode (changeOf head (xors (part at (length value) w.pages) value))) in
-    record { actions = added.actions ++ each (write pages) at value ++ write work (ownerAt s at) head.number ∷ []; logs = added.logs }
+    let added : Appended = append s l w.work disk (encode (change_of head (xors (part at (length value) w.pages) value))) in
+    record { actions = added.actions ++ each (write pages) at value ++ write work (owner_at s at) head.number ∷ []; logs = added.logs }
 
 -- These actions run as far as a budget goes; where they were not cut, where the disk's log ends, and how many bits of the difference are 1.
 pub record Replaced (budget rest : ℕ) (s : Sizes) (l : Logs) (disk : ℕ) (head : Head) (at : ℕ) (value : List ℕ) (before after : World) (r : Changed) : Type 0 where
   pub ran : Ran budget rest (replacing s l before disk head at value).actions before after r.logged.finished
-  pub state : r.logged.finished ≡ true → (replacing s l before disk head at value).logs ≡ withDisk l disk r.logged.tail r.logged.fill
-  pub ones : r.logged.finished ≡ true → r.ones ≡ onesOver (xors (part at (length value) before.pages) value)
+  pub state : r.logged.finished ≡ true → (replacing s l before disk head at value).logs ≡ with_disk l disk r.logged.tail r.logged.fill
+  pub ones : r.logged.finished ≡ true → r.ones ≡ ones_over (xors (part at (length value) before.pages) value)

@@ -3,16 +3,16 @@ ghost use Rattle.std.specs.Prelude.{◌≡◌, true, ◌+◌, ◌≤◌, ◌<◌
 ghost use Rattle.std.proofs.lemmas.List.Edits.{sets};
 ghost use Rattle.model.specs.declared.Sizes.{Sizes};
 ghost use Rattle.model.specs.declared.Logs.{Logs};
-ghost use Rattle.model.specs.Word.{xors, onesOver, part};
+ghost use Rattle.model.specs.Word.{xors, ones_over, part};
 ghost use Rattle.model.specs.Record.{encode};
 ghost use Rattle.model.specs.World.{World};
-ghost use Rattle.model.specs.Memory.{ownerAt};
-ghost use Rattle.device.specs.Ran.{withSlices};
-ghost use Rattle.log.specs.Write.{Within, Encodable, changeOf, Lent, Appends};
-ghost use Rattle.access.specs.Tasks.{withMemory, Replaced};
+ghost use Rattle.model.specs.Memory.{owner_at};
+ghost use Rattle.device.specs.Ran.{with_slices};
+ghost use Rattle.disk_log.specs.Write.{Within, Encodable, change_of, Lent, Appends};
+ghost use Rattle.access.specs.Tasks.{with_memory, Replaced};
 
-use log::kinds::words_of;
-use log::write::{Head, Home, Logged, flush_disk};
+use disk_log::kinds::words_of;
+use disk_log::write::{Head, Home, Logged, flush_disk};
 use words::{copy_words, difference};
 
 // How the append of a change ended, and how many bits of its difference are 1.
@@ -34,8 +34,8 @@ fn put_change(
 ) -> u64
     requires { Encodable head (length value.now) × (to + 3 + length value.now ≤ length work.old) × (at + length value.now ≤ length pages.now) }
     ensures { (work.new ≡ sets work.old to
-        (encode (changeOf head (xors (part at (length value.now) pages.now) value.now))))
-        × (result ≡ onesOver (xors (part at (length value.now) pages.now) value.now)) }
+        (encode (change_of head (xors (part at (length value.now) pages.now) value.now))))
+        × (result ≡ ones_over (xors (part at (length value.now) pages.now) value.now)) }
 {
     let n = value.len() as u64;
     work[to] = head.kind + 8 * head.page + 512 * head.slot + 65536 * n;
@@ -58,9 +58,9 @@ fn log_change(
     requires { Within home logs.old work.old × Encodable head (length value.now) × (at + length value.now ≤ length pages.now) }
     ensures { ((s : Sizes) (l : Logs) (w : World) → Lent s l w home logs.old work.old
         → Appends budget.old budget.new s l home.disk
-        (encode (changeOf head (xors (part at (length value.now) pages.now) value.now))) w
-        (withSlices w logs.new work.new) result.logged)
-        × (result.logged.finished ≡ true → result.ones ≡ onesOver (xors (part at (length value.now) pages.now) value.now)) }
+        (encode (change_of head (xors (part at (length value.now) pages.now) value.now))) w
+        (with_slices w logs.new work.new) result.logged)
+        × (result.logged.finished ≡ true → result.ones ≡ ones_over (xors (part at (length value.now) pages.now) value.now)) }
 {
     let n = words_of(head.kind, value.len() as u64);
     let buffer = home.buffer;
@@ -122,8 +122,8 @@ pub fn log_and_set(
     budget: &mut u64,
 ) -> Changed
     requires { Within home logs.old work.old × Encodable head (length value.now) × (at + length value.now ≤ length pages.old) × (owner < length work.old) }
-    ensures { (s : Sizes) (l : Logs) (w : World) → Lent s l w home logs.old work.old → w.pages ≡ pages.old → owner ≡ ownerAt s at
-        → Replaced budget.old budget.new s l home.disk head at value.now w (withMemory w pages.new logs.new work.new) result }
+    ensures { (s : Sizes) (l : Logs) (w : World) → Lent s l w home logs.old work.old → w.pages ≡ pages.old → owner ≡ owner_at s at
+        → Replaced budget.old budget.new s l home.disk head at value.now w (with_memory w pages.new logs.new work.new) result }
 {
     let added = log_change(home, head, pages, at, value, logs, work, budget);
     if !added.logged.finished {

@@ -1,15 +1,15 @@
 // What an update reads before it stores: its rows, the slot, its transaction and that one's disk.
 ghost use Rattle.std.specs.Prelude.{◌≡◌, true, cond, not, ◌&&◌, ◌+◌, ◌*◌, ◌≤◌, ◌<◌, ltb, eqb, length, get_or, drop};
 ghost use Rattle.model.specs.declared.Carried.{Carried};
-ghost use Rattle.model.specs.Moments.{old, oldWorld};
-ghost use Rattle.model.specs.Anchor.{anchorWords};
-ghost use Rattle.model.specs.Record.{wordsOf, updateKind};
-ghost use Rattle.model.specs.Memory.{bufferAt, ownerOf};
+ghost use Rattle.model.specs.Moments.{old, old_world};
+ghost use Rattle.model.specs.Anchor.{anchor_words};
+ghost use Rattle.model.specs.Record.{words_of, update_kind};
+ghost use Rattle.model.specs.Memory.{buffer_at, owner_of};
 ghost use Rattle.model.specs.State.{limit, in_table};
-ghost use Rattle.model.specs.View.{headFirsts, headWords, ownWork, core_of};
+ghost use Rattle.model.specs.View.{head_firsts, head_words, own_work, core_of};
 ghost use Rattle.table.specs.Parts.{room_for};
 ghost use Rattle.access.specs.Reading.{Told};
-ghost use Rattle.access.specs.Plans.{earlyOf, plan_of, Planned};
+ghost use Rattle.access.specs.Plans.{early_of, plan_of, Planned};
 
 use crate::slots::{Slot, find_slot, is_locked};
 use frame::entry::{Entry, find_entry};
@@ -17,7 +17,7 @@ use frame::lent::lent_refusal;
 use head::places::{FIRSTS_AT, HEAD_WORDS};
 use layout::anchor::ANCHOR_WORDS;
 use layout::memory::{copy_place, owner_place};
-use log::kinds::{UPDATE, words_of};
+use disk_log::kinds::{UPDATE, words_of};
 use model::Stage;
 use table::place::CLOSE_WORDS;
 use table::room::fits_ring;
@@ -60,7 +60,7 @@ fn no_plan(refusal: u64) -> Plan
 
 // Rows 1, 2 and 8 to 10, by what was found of slot and transaction and by the lengths of anchor and value.
 fn early_refusal(slot: u64, entry: u64, anchor: usize, value: usize, width: usize) -> u64
-    ensures { result ≡ earlyOf slot entry (eqb anchor anchorWords) (eqb value width) }
+    ensures { result ≡ early_of slot entry (eqb anchor anchor_words) (eqb value width) }
 {
     if slot == 1 {
         return 1;
@@ -90,12 +90,12 @@ fn late_refusal(
     start: u64,
     number: u64,
 ) -> u64
-    requires disks_bound { (disks ≤ 8) × (found.at < 8192) × (found.width ≤ 32) × (headWords + (bufferAt disks + 64 + found.at) < length work.now) }
+    requires disks_bound { (disks ≤ 8) × (found.at < 8192) × (found.width ≤ 32) × (head_words + (buffer_at disks + 64 + found.at) < length work.now) }
     requires sum_bound { entry.tail + entry.fill + entry.sum ≤ limit }
-    ensures { (h : Carried) → ownWork h (old work) ≡ true → h.disks ≡ disks
-        → result ≡ cond (in_table (core_of h (old work)).table (ownerOf (core_of h (old work)).sizes (drop headWords (old work)) found.at)
-        && not (eqb (ownerOf (core_of h (old work)).sizes (drop headWords (old work)) found.at) number)) 11
-        (cond (room_for start (entry.tail + entry.fill) entry.sum ring (2 * wordsOf updateKind found.width)) 0 14) }
+    ensures { (h : Carried) → own_work h (old work) ≡ true → h.disks ≡ disks
+        → result ≡ cond (in_table (core_of h (old work)).table (owner_of (core_of h (old work)).sizes (drop head_words (old work)) found.at)
+        && not (eqb (owner_of (core_of h (old work)).sizes (drop head_words (old work)) found.at) number)) 11
+        (cond (room_for start (entry.tail + entry.fill) entry.sum ring (2 * words_of update_kind found.width)) 0 14) }
 {
     if is_locked(work, disks, found.at, number) {
         return 11;
@@ -117,9 +117,9 @@ fn first_position(reserved: u64, first: u64, end: u64) -> u64
 
 // The numbers of an update that no row refuses.
 fn make_plan(found: Slot, entry: Entry, work: &[u64], disks: u64, page: u64) -> Plan
-    requires disks_bound { (disks ≤ 8) × (page < 64) × (found.at < 8192) × (found.width ≤ 32) × (headWords + (bufferAt disks + 64 + found.at) < length work.now) }
+    requires disks_bound { (disks ≤ 8) × (page < 64) × (found.at < 8192) × (found.width ≤ 32) × (head_words + (buffer_at disks + 64 + found.at) < length work.now) }
     requires place_bound { (entry.place < 16) × (entry.reserved ≤ entry.sum) × (entry.tail + entry.fill + entry.sum ≤ limit) }
-    ensures { result ≡ plan_of found entry (bufferAt disks + 64 + found.at) (get_or (old work) (headWords + (bufferAt disks + page)) 0) (get_or (old work) (headFirsts + entry.place) 0) }
+    ensures { result ≡ plan_of found entry (buffer_at disks + 64 + found.at) (get_or (old work) (head_words + (buffer_at disks + page)) 0) (get_or (old work) (head_firsts + entry.place) 0) }
 {
     let place = entry.place;
     let first = first_position(
@@ -163,7 +163,7 @@ pub fn plan_update(
     work: &[u64],
 ) -> Plan
     ensures { (h : Carried) → Told h stage count disks ring total → h.starts ≡ starts → h.tails ≡ tails
-        → Planned h (oldWorld anchor pages backups logs work) number page slot width result }
+        → Planned h (old_world anchor pages backups logs work) number page slot width result }
 {
     let first = lent_refusal(
         stage,

@@ -3,11 +3,11 @@ ghost use Rattle.std.specs.Prelude.{◌≡◌, true, not, ◌&&◌, ℕ, ◌+◌
 ghost use Rattle.model.specs.declared.Carried.{Carried};
 ghost use Rattle.model.specs.Moments.{old};
 ghost use Rattle.model.specs.Word.{part};
-ghost use Rattle.model.specs.Memory.{bufferAt, ownerOf};
+ghost use Rattle.model.specs.Memory.{buffer_at, owner_of};
 ghost use Rattle.model.specs.State.{in_table};
-ghost use Rattle.model.specs.Causes.{readerNotOpen};
-ghost use Rattle.model.specs.View.{headWords, ownWork, core_of};
-ghost use Rattle.frame.specs.Fits.{pageWithin};
+ghost use Rattle.model.specs.Causes.{reader_not_open};
+ghost use Rattle.model.specs.View.{head_words, own_work, core_of};
+ghost use Rattle.frame.specs.Fits.{page_within};
 ghost use Rattle.access.specs.Slots.{Finds};
 
 use head::places::{BASES_AT, HEAD_WORDS, SLOTS_AT, WIDTHS_AT};
@@ -35,7 +35,7 @@ pub fn no_slot(refusal: u64) -> Slot
 // A page of any numbers. A product of 1 or more has both its factors 1 or more.
 fn page_fits(slots: u64, width: u64, base: u64, total: u64) -> bool
     requires { total ≤ 8192 }
-    ensures { result ≡ pageWithin slots width base total }
+    ensures { result ≡ page_within slots width base total }
 {
     if slots > 128 {
         return false;
@@ -58,8 +58,8 @@ fn page_fits(slots: u64, width: u64, base: u64, total: u64) -> bool
 
 // Row 8, and what row 1 asks of the page of a slot that is there; P and T are the state's.
 pub fn find_slot(work: &[u64], pages: u64, total: u64, page: u64, slot: u64) -> Slot
-    requires { (pages ≤ 64) × (total ≤ 8192) × (headWords ≤ length work.now) }
-    ensures { (h : Carried) → ownWork h (old work) ≡ true → h.pages ≡ pages → h.total ≡ total
+    requires { (pages ≤ 64) × (total ≤ 8192) × (head_words ≤ length work.now) }
+    ensures { (h : Carried) → own_work h (old work) ≡ true → h.pages ≡ pages → h.total ≡ total
         → Finds (core_of h (old work)) page slot result }
 {
     if page >= pages {
@@ -84,10 +84,10 @@ pub fn find_slot(work: &[u64], pages: u64, total: u64, page: u64, slot: u64) -> 
 
 // Held by a transaction other than this one; D is the state's.
 pub fn is_locked(work: &[u64], disks: u64, at: usize, number: u64) -> bool
-    requires { (disks ≤ 8) × (at < 8192) × (headWords + (bufferAt disks + 64 + at) < length work.now) }
-    ensures { (h : Carried) → ownWork h (old work) ≡ true → h.disks ≡ disks
-        → result ≡ (in_table (core_of h (old work)).table (ownerOf (core_of h (old work)).sizes (drop headWords (old work)) at)
-        && not (eqb (ownerOf (core_of h (old work)).sizes (drop headWords (old work)) at) number)) }
+    requires { (disks ≤ 8) × (at < 8192) × (head_words + (buffer_at disks + 64 + at) < length work.now) }
+    ensures { (h : Carried) → own_work h (old work) ≡ true → h.disks ≡ disks
+        → result ≡ (in_table (core_of h (old work)).table (owner_of (core_of h (old work)).sizes (drop head_words (old work)) at)
+        && not (eqb (owner_of (core_of h (old work)).sizes (drop head_words (old work)) at) number)) }
 {
     let owner = work[HEAD_WORDS + owner_place(disks, at)];
     if owner == number {
@@ -98,8 +98,8 @@ pub fn is_locked(work: &[u64], disks: u64, at: usize, number: u64) -> bool
 
 // A reader with a number that is not open; reader 0 has no transaction.
 pub fn reader_missing(work: &[u64], reader: u64) -> bool
-    requires { headWords ≤ length work.now }
-    ensures { (h : Carried) → ownWork h (old work) ≡ true → result ≡ readerNotOpen (core_of h (old work)) reader }
+    requires { head_words ≤ length work.now }
+    ensures { (h : Carried) → own_work h (old work) ≡ true → result ≡ reader_not_open (core_of h (old work)) reader }
 {
     if reader == 0 {
         return false;

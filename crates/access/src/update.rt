@@ -1,10 +1,10 @@
 // Update: its checks, then the change.
 ghost use Rattle.std.specs.Prelude.{◌≡◌, ◌≤◌, ◌<◌, length};
-ghost use Rattle.model.specs.World.{worldOf};
-ghost use Rattle.model.specs.Moments.{old, new, oldWorld};
+ghost use Rattle.model.specs.World.{world_of};
+ghost use Rattle.model.specs.Moments.{old, new, old_world};
 ghost use Rattle.model.specs.Call.{update};
-ghost use Rattle.model.specs.View.{headWords, Serves};
-ghost use Rattle.model.specs.Fields.{putWords, entering, filling};
+ghost use Rattle.model.specs.View.{head_words, Serves};
+ghost use Rattle.model.specs.Fields.{put_words, entering, filling};
 
 use crate::change::log_and_set;
 use crate::plan::{Plan, plan_update};
@@ -12,16 +12,16 @@ use frame::handed::{cut, finished, refused};
 use frame::home::home_at;
 use head::places::HEAD_WORDS;
 use head::table::{enter, set_fill};
-use log::kinds::UPDATE;
-use log::write::Head;
+use disk_log::kinds::UPDATE;
+use disk_log::write::Head;
 use model::{Carried, Handed};
 use words::saturating_sub;
 
 // The head after an update whose log then ends with so many buffered words.
 fn count_update(work: &mut [u64], plan: Plan, number: u64, fill: u64)
-    requires { (plan.place < 16) × (plan.disk < 8) × (headWords ≤ length work.old) }
-    ensures { new work ≡ putWords (filling plan.disk fill)
-        (putWords (entering plan.place number plan.disk plan.first plan.reserved plan.sum) (old work)) }
+    requires { (plan.place < 16) × (plan.disk < 8) × (head_words ≤ length work.old) }
+    ensures { new work ≡ put_words (filling plan.disk fill)
+        (put_words (entering plan.place number plan.disk plan.first plan.reserved plan.sum) (old work)) }
 {
     let disk = plan.disk as usize;
     enter(
@@ -49,8 +49,8 @@ pub fn update(
     work: &mut [u64],
     budget: &mut u64,
 ) -> Handed
-    ensures { Serves (update number page slot (old value) (old budget)) carried (oldWorld anchor pages backups logs work)
-        result (new budget) (worldOf (old anchor) (new pages) (old backups) (new logs) (new work)) }
+    ensures { Serves (update number page slot (old value) (old budget)) carried (old_world anchor pages backups logs work)
+        result (new budget) (world_of (old anchor) (new pages) (old backups) (new logs) (new work)) }
 {
     let stage = carried.stage;
     let starts = carried.starts;

@@ -6,39 +6,39 @@ use Prim.Native.Nat.{ℕ, ◌+◌, ◌≤◌}
 use native.Mathlib.Omega.{arith}
 use lib.ListN.{get_or, take}
 use Rattle.model.specs.declared.Core.{Core}
-use Rattle.model.specs.Below.{joinBelow}
-use Rattle.model.specs.Anchor.{startWord}
+use Rattle.model.specs.Below.{join_below}
+use Rattle.model.specs.Anchor.{start_word}
 use Rattle.model.specs.World.{World, store, anchor}
 use Rattle.model.specs.Append.{flush}
-use Rattle.model.specs.Checkpoint.{perDisk, newStart, checkpointEndTask}
-use Rattle.model.proofs.Below.{list-cong}
-use Rattle.model.proofs.PerDisk.{getD-per-disk, length-per-disk}
+use Rattle.model.specs.Checkpoint.{per_disk, new_start, checkpoint_end_task}
+use Rattle.model.proofs.Below.{list_cong}
+use Rattle.model.proofs.PerDisk.{get_d_per_disk, length_per_disk}
 use Rattle.device.specs.Ran.{Ran}
-use Rattle.device.proofs.Ran.{ran_then, ran-cut}
-use Rattle.frame.specs.Switch.{startsStored}
-use Rattle.frame.proofs.Switches.{switch-listed}
+use Rattle.device.proofs.Ran.{ran_then, ran_cut}
+use Rattle.frame.specs.Switch.{starts_stored}
+use Rattle.frame.proofs.Switches.{switch_listed}
 
 -- The stores of a checkpoint's end are the flushes and then the switch.
-end-parts : (c : Core) (w : World) → c.sizes.disks ≤ 8
-    → joinBelow (flush c.sizes c.logs w.work) c.sizes.disks
-    ++ startsStored (c.epoch + 1) (take c.sizes.disks (perDisk c.sizes (newStart c)))
-    ≡ (checkpointEndTask c w).actions
-unfolding checkpointEndTask
-end-parts c w few =
+end_parts : (c : Core) (w : World) → c.sizes.disks ≤ 8
+    → join_below (flush c.sizes c.logs w.work) c.sizes.disks
+    ++ starts_stored (c.epoch + 1) (take c.sizes.disks (per_disk c.sizes (new_start c)))
+    ≡ (checkpoint_end_task c w).actions
+unfolding checkpoint_end_task
+end_parts c w few =
     rw (
-      switch-listed (c.epoch + 1) c.sizes.disks (perDisk c.sizes (newStart c)) (omega (arith, length-per-disk c.sizes (newStart c))),
-      list-cong (λ d. store anchor (startWord (c.epoch + 1) d) (get_or (perDisk c.sizes (newStart c)) d 0))
-          (λ d. store anchor (startWord (c.epoch + 1) d) (newStart c d)) c.sizes.disks
-          (λ d h. ap (store anchor (startWord (c.epoch + 1) d)) (getD-per-disk c.sizes (newStart c) d few h)),
+      switch_listed (c.epoch + 1) c.sizes.disks (per_disk c.sizes (new_start c)) (omega (arith, length_per_disk c.sizes (new_start c))),
+      list_cong (λ d. store anchor (start_word (c.epoch + 1) d) (get_or (per_disk c.sizes (new_start c)) d 0))
+          (λ d. store anchor (start_word (c.epoch + 1) d) (new_start c d)) c.sizes.disks
+          (λ d h. ap (store anchor (start_word (c.epoch + 1) d)) (get_d_per_disk c.sizes (new_start c) d few h)),
     )
-    (sym (append_assoc (joinBelow (flush c.sizes c.logs w.work) c.sizes.disks) _ _))
+    (sym (append_assoc (join_below (flush c.sizes c.logs w.work) c.sizes.disks) _ _))
 
 module _ (c : Core) (w : World) (few : c.sizes.disks ≤ 8) {budget rest : ℕ} {v : World} {whole : Bool}
-    (ran : Ran budget rest (joinBelow (flush c.sizes c.logs w.work) c.sizes.disks) w v whole) where
-  pub end-cut : whole ≡ false → Ran budget rest (checkpointEndTask c w).actions w v false
-  end-cut e = rw (← end-parts c w few) (ran-cut ran _ e)
+    (ran : Ran budget rest (join_below (flush c.sizes c.logs w.work) c.sizes.disks) w v whole) where
+  pub end_cut : whole ≡ false → Ran budget rest (checkpoint_end_task c w).actions w v false
+  end_cut e = rw (← end_parts c w few) (ran_cut ran _ e)
 
-  pub end_whole : {starts : List ℕ} {last : ℕ} {u : World} {all : Bool} → starts ≡ perDisk c.sizes (newStart c) → whole ≡ true
-      → Ran rest last (startsStored (c.epoch + 1) (take c.sizes.disks starts)) v u all
-      → Ran budget last (checkpointEndTask c w).actions w u all
-  end_whole same e next = rw (← end-parts c w few, ← same) (ran_then ran _ e next)
+  pub end_whole : {starts : List ℕ} {last : ℕ} {u : World} {all : Bool} → starts ≡ per_disk c.sizes (new_start c) → whole ≡ true
+      → Ran rest last (starts_stored (c.epoch + 1) (take c.sizes.disks starts)) v u all
+      → Ran budget last (checkpoint_end_task c w).actions w u all
+  end_whole same e next = rw (← end_parts c w few, ← same) (ran_then ran _ e next)

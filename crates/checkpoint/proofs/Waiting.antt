@@ -9,103 +9,103 @@ use Rattle.model.specs.declared.Core.{Core}
 use Rattle.model.specs.declared.Reply.{Reply}
 use Rattle.model.specs.World.{World}
 use Rattle.model.specs.Refusal.{verdict}
-use Rattle.model.specs.Causes.{whenCopying}
-use Rattle.model.specs.Checkpoint.{toCopy, lowestToCopy, copyPage, checkpointStepRows, checkpointStepTask, checkpointEndRows, checkpointEndTask}
-use Rattle.model.specs.Call.{checkpointStep, checkpointEnd, Gives}
-use Rattle.model.proofs.Below.{first-unique, first-none}
-use Rattle.model.proofs.Lengths.{lengths-right}
+use Rattle.model.specs.Causes.{when_copying}
+use Rattle.model.specs.Checkpoint.{to_copy, lowest_to_copy, copy_page, checkpoint_step_rows, checkpoint_step_task, checkpoint_end_rows, checkpoint_end_task}
+use Rattle.model.specs.Call.{checkpoint_step, checkpoint_end, Gives}
+use Rattle.model.proofs.Below.{first_unique, first_none}
+use Rattle.model.proofs.Lengths.{lengths_right_lem}
 use Rattle.model.proofs.KeptBases.{total_kept}
-use Rattle.model.proofs.Store.Rows.{copying-serving, serving-sound, sizes-sound, bases-sound, checkpoint-sound}
+use Rattle.model.proofs.Store.Rows.{copying_serving, serving_sound_lem, sizes_sound, bases_sound, checkpoint_sound_lem}
 use Rattle.device.specs.Ran.{Ran}
 use Rattle.frame.specs.Checks.{CommonRefusal}
-use Rattle.frame.specs.Settle.{refusedWith, settled, Concludes}
-use Rattle.frame.proofs.Verdicts.{Passed, task-settled}
-use Rattle.frame.proofs.Given.{common-passed, given-refused, given-task}
-use Rattle.checkpoint.specs.Lent.{pageCopied, Steppable, Endable}
+use Rattle.frame.specs.Settle.{refused_with, settled, Concludes}
+use Rattle.frame.proofs.Verdicts.{Passed, task_settled}
+use Rattle.frame.proofs.Given.{common_passed, given_refused, given_task}
+use Rattle.checkpoint.specs.Lent.{page_copied, Steppable, Endable}
 
 -- pages are copied in order, so the lowest that waits is the number of those copied
-pub lowest-waits : (c : Core) → c.checkpoint.copied ≤ c.sizes.pages → lowestToCopy c ≡ c.checkpoint.copied
-unfolding lowestToCopy toCopy
-lowest-waits c most = go (ltb c.checkpoint.copied c.sizes.pages) refl
+pub lowest_waits : (c : Core) → c.checkpoint.copied ≤ c.sizes.pages → lowest_to_copy c ≡ c.checkpoint.copied
+unfolding lowest_to_copy to_copy
+lowest_waits c most = go (ltb c.checkpoint.copied c.sizes.pages) refl
   where
     before : (i : ℕ) → i < c.checkpoint.copied → leb c.checkpoint.copied i ≡ false
     before i h = lt-leb c.checkpoint.copied i h
 
-    go : (b : Bool) → ltb c.checkpoint.copied c.sizes.pages ≡ b → lowestToCopy c ≡ c.checkpoint.copied
+    go : (b : Bool) → ltb c.checkpoint.copied c.sizes.pages ≡ b → lowest_to_copy c ≡ c.checkpoint.copied
     go true e =
-        first-unique (toCopy c) c.sizes.pages c.checkpoint.copied (ltb-true _ _ e)
+        first_unique (to_copy c) c.sizes.pages c.checkpoint.copied (ltb-true _ _ e)
         (le-leb c.checkpoint.copied c.checkpoint.copied (omega arith)) before
     go false e =
         let same : c.sizes.pages ≡ c.checkpoint.copied = omega (arith, ltb-false c.checkpoint.copied c.sizes.pages e) in
-        first-none (toCopy c) c.sizes.pages (λ i h. before i (omega arith)) ∙ same
+        first_none (to_copy c) c.sizes.pages (λ i h. before i (omega arith)) ∙ same
 
 -- the page's copy, of the numbers that the code has
-copy-same : (c : Core) (w : World) → c.checkpoint.copied ≤ c.sizes.pages
-    → pageCopied c.sizes (c.epoch + 1) c.checkpoint.copied w.pages ≡ copyPage c w (lowestToCopy c)
-unfolding copyPage pageCopied
-copy-same c w most = rw (lowest-waits c most) refl
+copy_same : (c : Core) (w : World) → c.checkpoint.copied ≤ c.sizes.pages
+    → page_copied c.sizes (c.epoch + 1) c.checkpoint.copied w.pages ≡ copy_page c w (lowest_to_copy c)
+unfolding copy_page page_copied
+copy_same c w most = rw (lowest_waits c most) refl
 
-pub step-settled : (c : Core) (w : World) {budget rest : ℕ} {v : World} {whole : Bool} {r : Reply} → c.checkpoint.copied ≤ c.sizes.pages
-    → Ran budget rest (pageCopied c.sizes (c.epoch + 1) c.checkpoint.copied w.pages) w v whole
-    → r ≡ settled whole budget rest 0 (checkpointStepTask c w).core → Concludes budget rest (checkpointStepTask c w) w v r
-unfolding checkpointStepTask
-step-settled c w {whole} most ran e =
-    task-settled {whole = whole} (checkpointStepTask c w) (rw (← copy-same c w most) ran) e (λ _. refl)
+pub step_settled : (c : Core) (w : World) {budget rest : ℕ} {v : World} {whole : Bool} {r : Reply} → c.checkpoint.copied ≤ c.sizes.pages
+    → Ran budget rest (page_copied c.sizes (c.epoch + 1) c.checkpoint.copied w.pages) w v whole
+    → r ≡ settled whole budget rest 0 (checkpoint_step_task c w).core → Concludes budget rest (checkpoint_step_task c w) w v r
+unfolding checkpoint_step_task
+step_settled c w {whole} most ran e =
+    task_settled {whole = whole} (checkpoint_step_task c w) (rw (← copy_same c w most) ran) e (λ _. refl)
 
 -- What a step and an end give after the common checks, and what an accepted one may rely on.
-module _ {c : Core} {w : World} {r : ℕ} (checks : CommonRefusal whenCopying c w r) (none : r ≡ 0) where
-  passed : Passed whenCopying c w
-  passed = common-passed checks none
+module _ {c : Core} {w : World} {r : ℕ} (checks : CommonRefusal when_copying c w r) (none : r ≡ 0) where
+  passed : Passed when_copying c w
+  passed = common_passed checks none
 
-  lowest : lowestToCopy c ≡ c.checkpoint.copied
-  lowest = lowest-waits c (checkpoint-sound c passed.stage passed.state).copied
+  lowest : lowest_to_copy c ≡ c.checkpoint.copied
+  lowest = lowest_waits c (checkpoint_sound_lem c passed.stage passed.state).copied
 
-  pub step-none : (budget : ℕ) → c.sizes.pages ≤ c.checkpoint.copied → {reply : Reply} → reply ≡ refusedWith c 15 0 0
-      → Gives (checkpointStep budget) c w reply budget w
-  unfolding checkpointStepRows verdict
-  step-none budget h e = given-refused checks (checkpointStep budget) refl none (rw (lowest, le-leb _ _ h) refl) e
+  pub step_none : (budget : ℕ) → c.sizes.pages ≤ c.checkpoint.copied → {reply : Reply} → reply ≡ refused_with c 15 0 0
+      → Gives (checkpoint_step budget) c w reply budget w
+  unfolding checkpoint_step_rows verdict
+  step_none budget h e = given_refused checks (checkpoint_step budget) refl none (rw (lowest, le-leb _ _ h) refl) e
 
   pub step_given : (budget : ℕ) → c.checkpoint.copied < c.sizes.pages → (v : World) (rest : ℕ) (reply : Reply)
-      → Concludes budget rest (checkpointStepTask c w) w v reply → Gives (checkpointStep budget) c w reply rest v
-  unfolding checkpointStepRows verdict
-  step_given budget h = given-task checks (checkpointStep budget) refl none (rw (lowest, lt-leb _ _ h) refl)
+      → Concludes budget rest (checkpoint_step_task c w) w v reply → Gives (checkpoint_step budget) c w reply rest v
+  unfolding checkpoint_step_rows verdict
+  step_given budget h = given_task checks (checkpoint_step budget) refl none (rw (lowest, lt-leb _ _ h) refl)
 
-  pub end-early : (budget : ℕ) → c.checkpoint.copied < c.sizes.pages → {reply : Reply} → reply ≡ refusedWith c 15 0 0
-      → Gives (checkpointEnd budget) c w reply budget w
-  unfolding checkpointEndRows verdict
-  end-early budget h e = given-refused checks (checkpointEnd budget) refl none (rw (lowest, lt-ltb _ _ h) refl) e
+  pub end_early : (budget : ℕ) → c.checkpoint.copied < c.sizes.pages → {reply : Reply} → reply ≡ refused_with c 15 0 0
+      → Gives (checkpoint_end budget) c w reply budget w
+  unfolding checkpoint_end_rows verdict
+  end_early budget h e = given_refused checks (checkpoint_end budget) refl none (rw (lowest, lt-ltb _ _ h) refl) e
 
-  pub end-given : (budget : ℕ) → c.sizes.pages ≤ c.checkpoint.copied → (v : World) (rest : ℕ) (reply : Reply)
-      → Concludes budget rest (checkpointEndTask c w) w v reply → Gives (checkpointEnd budget) c w reply rest v
-  unfolding checkpointEndRows verdict
-  end-given budget h = given-task checks (checkpointEnd budget) refl none (rw (lowest, le-ltb _ _ h) refl)
+  pub end_given : (budget : ℕ) → c.sizes.pages ≤ c.checkpoint.copied → (v : World) (rest : ℕ) (reply : Reply)
+      → Concludes budget rest (checkpoint_end_task c w) w v reply → Gives (checkpoint_end budget) c w reply rest v
+  unfolding checkpoint_end_rows verdict
+  end_given budget h = given_task checks (checkpoint_end budget) refl none (rw (lowest, le-ltb _ _ h) refl)
 
   pub steppable : c.checkpoint.copied < c.sizes.pages → Steppable c w.pages w.backups w.work
   steppable h =
-      let serving = serving-sound c (copying-serving c passed.stage) passed.state in
-      let long = rw (total_kept c (bases-sound c serving)) at (lengths-right c.sizes c.bases.total w passed.lengths) in
+      let serving = serving_sound_lem c (copying_serving c passed.stage) passed.state in
+      let long = rw (total_kept c (bases_sound c serving)) at (lengths_right_lem c.sizes c.bases.total w passed.lengths) in
       record {
-        bounded = (checkpoint-sound c passed.stage passed.state).epoch;
+        bounded = (checkpoint_sound_lem c passed.stage passed.state).epoch;
         next =
             record {
-              sizes = sizes-sound c serving;
-              page-below = h;
-              page-words = long.pages;
-              backup-words = long.backups;
-              work-words = long.work;
+              sizes = sizes_sound c serving;
+              page_below = h;
+              page_words_lem = long.pages;
+              backup_words = long.backups;
+              work_words_lem = long.work;
             };
       }
 
   pub endable : Endable c w.anchor w.logs w.work
   endable =
-      let long = lengths-right c.sizes c.bases.total w passed.lengths in
+      let long = lengths_right_lem c.sizes c.bases.total w passed.lengths in
       record {
-        bounded = (checkpoint-sound c passed.stage passed.state).epoch;
-        anchor-words = passed.anchor;
+        bounded = (checkpoint_sound_lem c passed.stage passed.state).epoch;
+        anchor_words_lem = passed.anchor;
         serves =
             record {
-              state = serving-sound c (copying-serving c passed.stage) passed.state;
-              log-words = long.logs;
-              work-words = long.work;
+              state = serving_sound_lem c (copying_serving c passed.stage) passed.state;
+              log_words_lem = long.logs;
+              work_words_lem = long.work;
             };
       }

@@ -1,10 +1,10 @@
 // Checkpoint begin: each disk's end is remembered, and no page is copied yet.
 ghost use Rattle.std.specs.Prelude.{◌≡◌, true};
 ghost use Rattle.model.specs.World.{World};
-ghost use Rattle.model.specs.Moments.{oldWorld};
-ghost use Rattle.model.specs.State.{servingSound};
-ghost use Rattle.model.specs.Checkpoint.{checkpointBeginTask};
-ghost use Rattle.model.specs.Call.{checkpointBegin, Gives};
+ghost use Rattle.model.specs.Moments.{old_world};
+ghost use Rattle.model.specs.State.{serving_sound};
+ghost use Rattle.model.specs.Checkpoint.{checkpoint_begin_task};
+ghost use Rattle.model.specs.Call.{checkpoint_begin, Gives};
 
 use crate::ends::ends_of;
 use frame::checks::common_refusal;
@@ -15,8 +15,8 @@ use table::room::LIMIT;
 
 // The state with a checkpoint under way.
 fn marked(core: Core) -> Core
-    requires { servingSound core ≡ true }
-    ensures { (w : World) → result ≡ (checkpointBeginTask core w).core }
+    requires { serving_sound core ≡ true }
+    ensures { (w : World) → result ≡ (checkpoint_begin_task core w).core }
 {
     let ends = ends_of(core);
     Core {
@@ -34,8 +34,8 @@ pub fn begin(
     logs: &[u64],
     work: &[u64],
 ) -> Reply
-    ensures { Gives checkpointBegin core (oldWorld anchor pages backups logs work)
-        result 0 (oldWorld anchor pages backups logs work) }
+    ensures { Gives checkpoint_begin core (old_world anchor pages backups logs work)
+        result 0 (old_world anchor pages backups logs work) }
 {
     let refusal = common_refusal(When::Open, core, anchor, pages, backups, logs, work);
     if refusal != 0 {

@@ -1,8 +1,8 @@
 // A page goes to the backup of the checkpoint under way.
 ghost use Rattle.std.specs.Prelude.{List, ℕ};
-ghost use Rattle.model.specs.World.{worldOf};
+ghost use Rattle.model.specs.World.{world_of};
 ghost use Rattle.device.specs.Ran.{Ran};
-ghost use Rattle.checkpoint.specs.Lent.{Copyable, pageCopied};
+ghost use Rattle.checkpoint.specs.Lent.{Copyable, page_copied};
 
 use device::store_copy;
 use layout::backup::backup_at;
@@ -22,9 +22,9 @@ pub fn copy_page(
 ) -> bool
     requires { Copyable sizes page pages.now backups.old work.old }
     ensures { (anchor logs : List ℕ) → Ran budget.old budget.new
-        (pageCopied sizes number page pages.now)
-        (worldOf anchor pages.now backups.old logs work.old)
-        (worldOf anchor pages.now backups.new logs work.new) result }
+        (page_copied sizes number page pages.now)
+        (world_of anchor pages.now backups.old logs work.old)
+        (world_of anchor pages.now backups.new logs work.new) result }
 {
     let base = page_base(sizes, page);
     let words = page_words(sizes, page);

@@ -1,10 +1,10 @@
 // Checkpoint end: the disks are flushed, the new starts go to the other row, and the checkpoint's number makes it current.
 ghost use Rattle.std.specs.Prelude.{◌≡◌, true, List, ℕ, ◌<◌};
-ghost use Rattle.model.specs.World.{World, worldOf};
-ghost use Rattle.model.specs.Moments.{old, new, oldWorld};
-ghost use Rattle.model.specs.State.{limit, servingSound};
-ghost use Rattle.model.specs.Checkpoint.{perDisk, newStart, checkpointEndTask};
-ghost use Rattle.model.specs.Call.{checkpointEnd, Gives};
+ghost use Rattle.model.specs.World.{World, world_of};
+ghost use Rattle.model.specs.Moments.{old, new, old_world};
+ghost use Rattle.model.specs.State.{limit, serving_sound};
+ghost use Rattle.model.specs.Checkpoint.{per_disk, new_start, checkpoint_end_task};
+ghost use Rattle.model.specs.Call.{checkpoint_end, Gives};
 ghost use Rattle.device.specs.Ran.{Ran};
 ghost use Rattle.frame.specs.Settle.{Concludes};
 ghost use Rattle.checkpoint.specs.Lent.{Endable};
@@ -21,8 +21,8 @@ use model::{Core, Logs, Reply, Stage};
 
 // The state after the checkpoint.
 fn closed(core: Core, starts: [u64; 8]) -> Core
-    requires { (servingSound core ≡ true) × (core.epoch < limit) × (starts ≡ perDisk core.sizes (newStart core)) }
-    ensures { (w : World) → result ≡ (checkpointEndTask core w).core }
+    requires { (serving_sound core ≡ true) × (core.epoch < limit) × (starts ≡ per_disk core.sizes (new_start core)) }
+    ensures { (w : World) → result ≡ (checkpoint_end_task core w).core }
 {
     let tails = ends_of(core);
     Core {
@@ -47,11 +47,11 @@ fn store_end(
     work: &[u64],
     budget: &mut u64,
 ) -> bool
-    requires { Endable core anchor.old logs.old work.now × (starts ≡ perDisk core.sizes (newStart core)) }
+    requires { Endable core anchor.old logs.old work.now × (starts ≡ per_disk core.sizes (new_start core)) }
     ensures { (pages backups : List ℕ) → Ran budget.old budget.new
-        (checkpointEndTask core (worldOf anchor.old pages backups logs.old work.now)).actions
-        (worldOf anchor.old pages backups logs.old work.now)
-        (worldOf anchor.new pages backups logs.new work.now) result }
+        (checkpoint_end_task core (world_of anchor.old pages backups logs.old work.now)).actions
+        (world_of anchor.old pages backups logs.old work.now)
+        (world_of anchor.new pages backups logs.new work.now) result }
 {
     if !flush_all(core, logs, work, budget) {
         return false;
@@ -69,9 +69,9 @@ fn flush_and_switch(
 ) -> Reply
     requires { Endable core anchor.old logs.old work.now }
     ensures { (pages backups : List ℕ) → Concludes budget.old budget.new
-        (checkpointEndTask core (worldOf anchor.old pages backups logs.old work.now))
-        (worldOf anchor.old pages backups logs.old work.now)
-        (worldOf anchor.new pages backups logs.new work.now) result }
+        (checkpoint_end_task core (world_of anchor.old pages backups logs.old work.now))
+        (world_of anchor.old pages backups logs.old work.now)
+        (world_of anchor.new pages backups logs.new work.now) result }
 {
     let before = *budget;
     let starts = new_starts(core);
@@ -88,8 +88,8 @@ pub fn end(
     work: &[u64],
     budget: &mut u64,
 ) -> Reply
-    ensures { Gives (checkpointEnd (old budget)) core (oldWorld anchor pages backups logs work)
-        result (new budget) (worldOf (new anchor) (old pages) (old backups) (new logs) (old work)) }
+    ensures { Gives (checkpoint_end (old budget)) core (old_world anchor pages backups logs work)
+        result (new budget) (world_of (new anchor) (old pages) (old backups) (new logs) (old work)) }
 {
     let refusal = common_refusal(When::Copying, core, anchor, pages, backups, logs, work);
     if refusal != 0 {

@@ -1,14 +1,14 @@
 // Where the logs end.
 ghost use Rattle.std.specs.Prelude.{◌≡◌, true};
-ghost use Rattle.model.specs.State.{end_of, servingSound};
-ghost use Rattle.model.specs.Checkpoint.{perDisk};
+ghost use Rattle.model.specs.State.{end_of, serving_sound};
+ghost use Rattle.model.specs.Checkpoint.{per_disk};
 
 use model::Core;
 
 // Each disk's end, tail plus buffered; 0 from D on.
 pub fn ends_of(core: Core) -> [u64; 8]
-    requires { servingSound core ≡ true }
-    ensures { result ≡ perDisk core.sizes (end_of core.logs) }
+    requires { serving_sound core ≡ true }
+    ensures { result ≡ per_disk core.sizes (end_of core.logs) }
 {
     let disks = core.sizes.disks as usize;
     let logs = core.logs;

@@ -1,7 +1,7 @@
 // Where the logs start once a checkpoint ends.
 ghost use Rattle.std.specs.Prelude.{◌≡◌, cond, not, ◌&&◌, ◌≤◌, min, ltb, eqb};
 ghost use Rattle.model.specs.State.{places};
-ghost use Rattle.model.specs.Checkpoint.{perDisk, leastFirst, newStart};
+ghost use Rattle.model.specs.Checkpoint.{per_disk, least_first, new_start};
 
 use model::{Core, Table};
 use table::place::CLOSE_WORDS;
@@ -31,7 +31,7 @@ fn smaller(a: u64, b: u64) -> u64
 
 // The remembered end, or the first record of a transaction of that disk still open, if that is smaller.
 fn least_first(table: Table, disk: u64, remembered: u64) -> u64
-    ensures { result ≡ leastFirst table disk remembered places }
+    ensures { result ≡ least_first table disk remembered places }
 {
     let mut least = remembered;
     let mut i: usize = 0;
@@ -53,7 +53,7 @@ fn least_first(table: Table, disk: u64, remembered: u64) -> u64
 // Each disk's new start; 0 from D on.
 pub fn new_starts(core: Core) -> [u64; 8]
     requires { core.sizes.disks ≤ 8 }
-    ensures { result ≡ perDisk core.sizes (newStart core) }
+    ensures { result ≡ per_disk core.sizes (new_start core) }
 {
     let disks = core.sizes.disks as usize;
     let table = core.table;

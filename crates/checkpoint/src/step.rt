@@ -1,9 +1,9 @@
 // Checkpoint step: the lowest page not yet copied goes whole to the other backup and takes the checkpoint's number.
 ghost use Rattle.std.specs.Prelude.{List, ℕ};
-ghost use Rattle.model.specs.World.{worldOf};
-ghost use Rattle.model.specs.Moments.{old, new, oldWorld};
-ghost use Rattle.model.specs.Checkpoint.{checkpointStepTask};
-ghost use Rattle.model.specs.Call.{checkpointStep, Gives};
+ghost use Rattle.model.specs.World.{world_of};
+ghost use Rattle.model.specs.Moments.{old, new, old_world};
+ghost use Rattle.model.specs.Checkpoint.{checkpoint_step_task};
+ghost use Rattle.model.specs.Call.{checkpoint_step, Gives};
 ghost use Rattle.frame.specs.Settle.{Concludes};
 ghost use Rattle.checkpoint.specs.Lent.{Steppable};
 
@@ -23,9 +23,9 @@ fn copy_next(
 ) -> Reply
     requires { Steppable core pages.now backups.old work.old }
     ensures { (anchor logs : List ℕ) → Concludes budget.old budget.new
-        (checkpointStepTask core (worldOf anchor pages.now backups.old logs work.old))
-        (worldOf anchor pages.now backups.old logs work.old)
-        (worldOf anchor pages.now backups.new logs work.new) result }
+        (checkpoint_step_task core (world_of anchor pages.now backups.old logs work.old))
+        (world_of anchor pages.now backups.old logs work.old)
+        (world_of anchor pages.now backups.new logs work.new) result }
 {
     let before = *budget;
     let checkpoint = core.checkpoint;
@@ -58,8 +58,8 @@ pub fn step(
     work: &mut [u64],
     budget: &mut u64,
 ) -> Reply
-    ensures { Gives (checkpointStep (old budget)) core (oldWorld anchor pages backups logs work)
-        result (new budget) (worldOf (old anchor) (old pages) (new backups) (old logs) (new work)) }
+    ensures { Gives (checkpoint_step (old budget)) core (old_world anchor pages backups logs work)
+        result (new budget) (world_of (old anchor) (old pages) (new backups) (old logs) (new work)) }
 {
     let refusal = common_refusal(When::Copying, core, anchor, pages, backups, logs, work);
     if refusal != 0 {

@@ -1,8 +1,8 @@
 // A table as it is kept by value, and what it says of a class.
 ghost use Rattle.std.specs.Prelude.{◌≡◌, ℕ, ◌+◌, ◌*◌, ◌<◌, ◌≤◌, get_or};
 ghost use Rattle.model.specs.Moments.{old};
-ghost use Rattle.model.specs.Below.{within, listBelow, firstBelow};
-ghost use Rattle.model.specs.Classes.{maxLines, in_set, classesOf, setFor};
+ghost use Rattle.model.specs.Below.{within, list_below, first_below};
+ghost use Rattle.model.specs.Classes.{max_lines, in_set, classes_of, set_for};
 
 use crate::lines::covers;
 use model::Classes;
@@ -18,7 +18,7 @@ fn byte_at(lines: &[u64], at: usize) -> u8
 // The same word of each line.
 fn column(lines: &[u64], word: usize) -> [u8; 16]
     requires { (word < 3) × ((i : ℕ) → get_or lines.now i 0 < 256) }
-    ensures { result ≡ listBelow (λ i. get_or (old lines) (3 * i + word) 0) maxLines }
+    ensures { result ≡ list_below (λ i. get_or (old lines) (3 * i + word) 0) max_lines }
 {
     let mut out = [0u8; 16];
     let mut i: usize = 0;
@@ -31,7 +31,7 @@ fn column(lines: &[u64], word: usize) -> [u8; 16]
 
 pub fn classes_of(lines: &[u64]) -> Classes
     requires { (i : ℕ) → get_or lines.now i 0 < 256 }
-    ensures { result ≡ classesOf (old lines) }
+    ensures { result ≡ classes_of (old lines) }
 {
     let lows = column(lines, 0);
     let highs = column(lines, 1);
@@ -41,7 +41,7 @@ pub fn classes_of(lines: &[u64]) -> Classes
 
 // The first line that covers a class, or 16.
 fn line_for(lows: [u8; 16], highs: [u8; 16], class: u8) -> usize
-    ensures { result ≡ firstBelow (λ i. within (get_or lows i 0) (get_or highs i 0) class) maxLines }
+    ensures { result ≡ first_below (λ i. within (get_or lows i 0) (get_or highs i 0) class) max_lines }
 {
     let mut i: usize = 0;
     while i < 16 {
@@ -55,7 +55,7 @@ fn line_for(lows: [u8; 16], highs: [u8; 16], class: u8) -> usize
 
 // The disks that serve a class: all of them where no table is set.
 pub fn set_for(classes: Classes, class: u8) -> u64
-    ensures { (result ≤ 255) × (result ≡ setFor classes class) }
+    ensures { (result ≤ 255) × (result ≡ set_for classes class) }
 {
     let sets = classes.sets;
     if sets[0] == 0 {

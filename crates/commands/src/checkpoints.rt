@@ -1,6 +1,6 @@
 // The three commands of a checkpoint.
-ghost use Rattle.model.specs.World.{worldOf};
-ghost use Rattle.model.specs.Moments.{old, new, oldWorld};
+ghost use Rattle.model.specs.World.{world_of};
+ghost use Rattle.model.specs.Moments.{old, new, old_world};
 ghost use Rattle.lines.specs.declared.command.Command.TheVariants.{Mark, Copy, Close};
 ghost use Rattle.commands.specs.Meaning.{Runs};
 
@@ -15,8 +15,8 @@ pub fn run_mark(
     logs: &[u64],
     work: &mut [u64],
 ) -> Done
-    ensures { Runs Mark state.carried (oldWorld anchor pages backups logs work)
-        result (worldOf (old anchor) (old pages) (old backups) (old logs) (new work)) }
+    ensures { Runs Mark state.carried (old_world anchor pages backups logs work)
+        result (world_of (old anchor) (old pages) (old backups) (old logs) (new work)) }
 {
     let called = store::checkpoints::checkpoint_begin(state, anchor, pages, backups, logs, work);
     done_of(called, 0)
@@ -30,8 +30,8 @@ pub fn run_copy(
     logs: &[u64],
     work: &mut [u64],
 ) -> Done
-    ensures { Runs Copy state.carried (oldWorld anchor pages backups logs work)
-        result (worldOf (old anchor) (old pages) (new backups) (old logs) (new work)) }
+    ensures { Runs Copy state.carried (old_world anchor pages backups logs work)
+        result (world_of (old anchor) (old pages) (new backups) (old logs) (new work)) }
 {
     let mut budget = u64::MAX;
     let called = store::checkpoints::checkpoint_step(
@@ -54,8 +54,8 @@ pub fn run_close(
     logs: &mut [u64],
     work: &mut [u64],
 ) -> Done
-    ensures { Runs Close state.carried (oldWorld anchor pages backups logs work)
-        result (worldOf (new anchor) (old pages) (old backups) (new logs) (new work)) }
+    ensures { Runs Close state.carried (old_world anchor pages backups logs work)
+        result (world_of (new anchor) (old pages) (old backups) (new logs) (new work)) }
 {
     let mut budget = u64::MAX;
     let called = store::checkpoints::checkpoint_end(

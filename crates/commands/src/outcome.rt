@@ -1,7 +1,7 @@
 // What a line of input comes to.
 ghost use Rattle.std.specs.Prelude.{◌≡◌};
-ghost use Rattle.commands.specs.Shown.{valueIn, shownOf};
-ghost use Rattle.commands.specs.Restarting.{isFinished};
+ghost use Rattle.commands.specs.Shown.{value_in, shown_of};
+ghost use Rattle.commands.specs.Restarting.{is_finished};
 
 use model::Answer;
 use store::{Called, State};
@@ -26,7 +26,7 @@ pub struct Done {
 
 // An answer as it is shown; the value of a line refused or cut is 0.
 pub fn shown(answer: Answer, value: u64) -> Outcome
-    ensures { result ≡ shownOf answer value }
+    ensures { result ≡ shown_of answer value }
 {
     match answer {
         Answer::Finished { stores, value: _ } => Outcome {
@@ -53,7 +53,7 @@ pub fn shown(answer: Answer, value: u64) -> Outcome
 
 // The value that an answer holds.
 pub fn value_of(answer: Answer) -> u64
-    ensures { result ≡ valueIn answer }
+    ensures { result ≡ value_in answer }
 {
     match answer {
         Answer::Finished { stores: _, value } => value,
@@ -68,7 +68,7 @@ pub fn value_of(answer: Answer) -> u64
 
 // A call's line, with a value.
 pub fn done_of(called: Called, value: u64) -> Done
-    ensures { (result.outcome ≡ shownOf called.answer value) × (result.state.carried ≡ called.state.carried) }
+    ensures { (result.outcome ≡ shown_of called.answer value) × (result.state.carried ≡ called.state.carried) }
 {
     let answer = called.answer;
     let state = called.state;
@@ -77,7 +77,7 @@ pub fn done_of(called: Called, value: u64) -> Done
 }
 
 pub fn is_finished(answer: Answer) -> bool
-    ensures { result ≡ isFinished answer }
+    ensures { result ≡ is_finished answer }
 {
     match answer {
         Answer::Finished {

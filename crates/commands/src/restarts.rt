@@ -1,10 +1,10 @@
 // A restart: each source to its end, then the end of the restart. It stops at its first refusal.
 ghost use Rattle.std.specs.Prelude.{◌≡◌};
-ghost use Rattle.model.specs.World.{worldOf};
-ghost use Rattle.model.specs.Moments.{old, new, oldWorld};
+ghost use Rattle.model.specs.World.{world_of};
+ghost use Rattle.model.specs.Moments.{old, new, old_world};
 ghost use Rattle.model.specs.View.{core_of, body_of};
 ghost use Rattle.lines.specs.declared.command.Command.TheVariants.{Restart};
-ghost use Rattle.commands.specs.Restarting.{toEnd, replayedAll, given};
+ghost use Rattle.commands.specs.Restarting.{to_end, replayed_all, given};
 ghost use Rattle.commands.specs.Meaning.{Runs};
 
 use crate::outcome::{Done, done_of, is_finished, value_of};
@@ -20,8 +20,8 @@ fn replay(
     logs: &[u64],
     work: &mut [u64],
 ) -> Called
-    ensures { given result (worldOf (old anchor) (new pages) (old backups) (old logs) (new work))
-        ≡ toEnd source (given begun (oldWorld anchor pages backups logs work)) }
+    ensures { given result (world_of (old anchor) (new pages) (old backups) (old logs) (new work))
+        ≡ to_end source (given begun (old_world anchor pages backups logs work)) }
 {
     let answer = begun.answer;
     if !is_finished(answer) {
@@ -44,8 +44,8 @@ fn replay_all(
     logs: &[u64],
     work: &mut [u64],
 ) -> Called
-    ensures { given result (worldOf (old anchor) (new pages) (old backups) (old logs) (new work))
-        ≡ replayedAll (core_of state.carried (old work)) (body_of (oldWorld anchor pages backups logs work)) }
+    ensures { given result (world_of (old anchor) (new pages) (old backups) (old logs) (new work))
+        ≡ replayed_all (core_of state.carried (old work)) (body_of (old_world anchor pages backups logs work)) }
 {
     let begun = store::restarts::restart_begin(state, anchor, pages, backups, logs, work);
     let first = replay(begun, 0, anchor, pages, backups, logs, work);
@@ -62,8 +62,8 @@ pub fn run_restart(
     logs: &[u64],
     work: &mut [u64],
 ) -> Done
-    ensures { Runs Restart state.carried (oldWorld anchor pages backups logs work)
-        result (worldOf (new anchor) (new pages) (new backups) (old logs) (new work)) }
+    ensures { Runs Restart state.carried (old_world anchor pages backups logs work)
+        result (world_of (new anchor) (new pages) (new backups) (old logs) (new work)) }
 {
     let replayed = replay_all(state, anchor, pages, backups, logs, work);
     let answer = replayed.answer;

@@ -1,10 +1,10 @@
 // The commands of a transaction, and get.
 ghost use Rattle.std.specs.Prelude.{◌≡◌};
-ghost use Rattle.model.specs.World.{worldOf};
-ghost use Rattle.model.specs.Moments.{old, new, oldWorld};
+ghost use Rattle.model.specs.World.{world_of};
+ghost use Rattle.model.specs.Moments.{old, new, old_world};
 ghost use Rattle.model.specs.View.{core_of, body_of};
 ghost use Rattle.lines.specs.declared.command.Command.TheVariants.{Begin, Set, Commit, Abort, Get};
-ghost use Rattle.commands.specs.Shown.{slotWord};
+ghost use Rattle.commands.specs.Shown.{slot_word};
 ghost use Rattle.commands.specs.Meaning.{Runs};
 
 use crate::outcome::{Done, done_of, shown, value_of};
@@ -18,8 +18,8 @@ pub fn run_begin(
     logs: &[u64],
     work: &mut [u64],
 ) -> Done
-    ensures { Runs Begin state.carried (oldWorld anchor pages backups logs work)
-        result (worldOf (old anchor) (old pages) (old backups) (old logs) (new work)) }
+    ensures { Runs Begin state.carried (old_world anchor pages backups logs work)
+        result (world_of (old anchor) (old pages) (old backups) (old logs) (new work)) }
 {
     let called = store::transactions::begin(state, 0, anchor, pages, backups, logs, work);
     let answer = called.answer;
@@ -45,7 +45,7 @@ fn slot_word(
     logs: &[u64],
     work: &[u64],
 ) -> u64
-    ensures { result ≡ slotWord (core_of state.carried (old work)) (body_of (oldWorld anchor pages backups logs work)) seen.number seen.page seen.slot }
+    ensures { result ≡ slot_word (core_of state.carried (old work)) (body_of (old_world anchor pages backups logs work)) seen.number seen.page seen.slot }
 {
     let words = store::transactions::read(
         state,
@@ -75,8 +75,8 @@ pub fn run_set(
     logs: &mut [u64],
     work: &mut [u64],
 ) -> Done
-    ensures { Runs (Set seen.number seen.page seen.slot value) state.carried (oldWorld anchor pages backups logs work)
-        result (worldOf (old anchor) (new pages) (old backups) (new logs) (new work)) }
+    ensures { Runs (Set seen.number seen.page seen.slot value) state.carried (old_world anchor pages backups logs work)
+        result (world_of (old anchor) (new pages) (old backups) (new logs) (new work)) }
 {
     let before = slot_word(state, seen, anchor, pages, backups, logs, work);
     let after = [value];
@@ -107,8 +107,8 @@ pub fn run_commit(
     logs: &mut [u64],
     work: &mut [u64],
 ) -> Done
-    ensures { Runs (Commit number allowance) state.carried (oldWorld anchor pages backups logs work)
-        result (worldOf (old anchor) (old pages) (old backups) (new logs) (new work)) }
+    ensures { Runs (Commit number allowance) state.carried (old_world anchor pages backups logs work)
+        result (world_of (old anchor) (old pages) (old backups) (new logs) (new work)) }
 {
     let mut budget = allowance;
     let called = store::transactions::commit(
@@ -133,8 +133,8 @@ pub fn run_abort(
     logs: &mut [u64],
     work: &mut [u64],
 ) -> Done
-    ensures { Runs (Abort number) state.carried (oldWorld anchor pages backups logs work)
-        result (worldOf (old anchor) (new pages) (old backups) (new logs) (new work)) }
+    ensures { Runs (Abort number) state.carried (old_world anchor pages backups logs work)
+        result (world_of (old anchor) (new pages) (old backups) (new logs) (new work)) }
 {
     let mut budget = u64::MAX;
     let called = store::transactions::abort(
@@ -160,8 +160,8 @@ pub fn run_get(
     logs: &[u64],
     work: &[u64],
 ) -> Done
-    ensures { Runs (Get page slot) state.carried (oldWorld anchor pages backups logs work)
-        result (oldWorld anchor pages backups logs work) }
+    ensures { Runs (Get page slot) state.carried (old_world anchor pages backups logs work)
+        result (old_world anchor pages backups logs work) }
 {
     let seen = Seen {
         number: 0,

@@ -6,56 +6,56 @@ use borrow.Author.Tests.{eq-eqb, ne_eqb}
 use Rattle.model.specs.declared.Sizes.{Sizes}
 use Rattle.model.specs.declared.Bases.{Bases}
 use Rattle.model.specs.declared.Core.{Core}
-use Rattle.model.specs.Sizes.{total, sizesInBounds}
+use Rattle.model.specs.Sizes.{total, sizes_in_bounds}
 use Rattle.model.specs.World.{World}
-use Rattle.model.specs.Memory.{lengthsRight}
-use Rattle.model.specs.State.{basesOf}
+use Rattle.model.specs.Memory.{lengths_right}
+use Rattle.model.specs.State.{bases_of}
 use Rattle.model.specs.Refusal.{verdict, accepted, rejected}
-use Rattle.model.specs.Causes.{whenShut, stageForbids, anchorWrong, sizesWrong, lengthsWrong}
-use Rattle.model.specs.Format.{formatRows}
-use Rattle.model.proofs.Lengths.{lengths-right}
-use Rattle.layout.specs.Raw.{lengthsAre}
-use Rattle.layout.proofs.Laws.{lengths-made}
+use Rattle.model.specs.Causes.{when_shut, stage_forbids, anchor_wrong, sizes_wrong, lengths_wrong}
+use Rattle.model.specs.Format.{format_rows}
+use Rattle.model.proofs.Lengths.{lengths_right_lem}
+use Rattle.layout.specs.Raw.{lengths_are}
+use Rattle.layout.proofs.Laws.{lengths_made}
 use Rattle.format.specs.Parts.{Devices, Memories}
 
 module _ (c : Core) (w : World) (s : Sizes) where
-  pub format-forbidden : whenShut c.stage ≡ false → verdict (formatRows c w s) ≡ rejected 1 0 0
-  unfolding formatRows verdict stageForbids
-  format-forbidden e = rw e refl
+  pub format_forbidden : when_shut c.stage ≡ false → verdict (format_rows c w s) ≡ rejected 1 0 0
+  unfolding format_rows verdict stage_forbids
+  format_forbidden e = rw e refl
 
-  module _ (shut : whenShut c.stage ≡ true) where
-    pub format-anchor : (length w.anchor ≡ 148 → ⊥) → verdict (formatRows c w s) ≡ rejected 2 0 0
-    unfolding formatRows verdict stageForbids anchorWrong
-    format-anchor ne = rw (shut, ne_eqb (length w.anchor) 148 ne) refl
+  module _ (shut : when_shut c.stage ≡ true) where
+    pub format_anchor : (length w.anchor ≡ 148 → ⊥) → verdict (format_rows c w s) ≡ rejected 2 0 0
+    unfolding format_rows verdict stage_forbids anchor_wrong
+    format_anchor ne = rw (shut, ne_eqb (length w.anchor) 148 ne) refl
 
     module _ (long : length w.anchor ≡ 148) where
-      pub format-sizes : sizesInBounds s ≡ false → verdict (formatRows c w s) ≡ rejected 4 0 0
-      unfolding formatRows verdict stageForbids anchorWrong sizesWrong
-      format-sizes e = rw (shut, eq-eqb (length w.anchor) 148 long, e) refl
+      pub format_sizes : sizes_in_bounds s ≡ false → verdict (format_rows c w s) ≡ rejected 4 0 0
+      unfolding format_rows verdict stage_forbids anchor_wrong sizes_wrong
+      format_sizes e = rw (shut, eq-eqb (length w.anchor) 148 long, e) refl
 
-      module _ (inside : sizesInBounds s ≡ true) where
-        pub format-lengths : lengthsRight s (total s) w ≡ false → verdict (formatRows c w s) ≡ rejected 5 0 0
-        unfolding formatRows verdict stageForbids anchorWrong sizesWrong lengthsWrong
-        format-lengths e = rw (shut, eq-eqb (length w.anchor) 148 long, inside, e) refl
+      module _ (inside : sizes_in_bounds s ≡ true) where
+        pub format_lengths : lengths_right s (total s) w ≡ false → verdict (format_rows c w s) ≡ rejected 5 0 0
+        unfolding format_rows verdict stage_forbids anchor_wrong sizes_wrong lengths_wrong
+        format_lengths e = rw (shut, eq-eqb (length w.anchor) 148 long, inside, e) refl
 
-        pub format-accepted : lengthsRight s (total s) w ≡ true → verdict (formatRows c w s) ≡ accepted
-        unfolding formatRows verdict stageForbids anchorWrong sizesWrong lengthsWrong
-        format-accepted e = rw (shut, eq-eqb (length w.anchor) 148 long, inside, e) refl
+        pub format_accepted : lengths_right s (total s) w ≡ true → verdict (format_rows c w s) ≡ accepted
+        unfolding format_rows verdict stage_forbids anchor_wrong sizes_wrong lengths_wrong
+        format_accepted e = rw (shut, eq-eqb (length w.anchor) 148 long, inside, e) refl
 
 -- What the stores and the memory rely on, of sizes that are those handed to the call.
 module _ (s sizes : Sizes) (w : World) (same : sizes ≡ s) where
-  pub lengths-tested : {r : Bool} {bases : Bases} → bases ≡ basesOf sizes
-      → r ≡ lengthsAre sizes.disks sizes.ring bases.total (length w.pages) (length w.backups) (length w.logs) (length w.work)
-      → lengthsRight s (total s) w ≡ r
-  lengths-tested made e = rw (← same) (sym (lengths-made sizes made w e))
+  pub lengths_tested : {r : Bool} {bases : Bases} → bases ≡ bases_of sizes
+      → r ≡ lengths_are sizes.disks sizes.ring bases.total (length w.pages) (length w.backups) (length w.logs) (length w.work)
+      → lengths_right s (total s) w ≡ r
+  lengths_tested made e = rw (← same) (sym (lengths_made sizes made w e))
 
-  module _ (inside : sizesInBounds s ≡ true) (right : lengthsRight s (total s) w ≡ true) where
-    pub devices-right : length w.anchor ≡ 148 → Devices sizes w.anchor w.backups w.logs
-    devices-right long =
-        let all = lengths-right s (total s) w right in
-        rw same (record { sizes = inside; anchor-words = long; backup-words = all.backups; log-words = all.logs })
+  module _ (inside : sizes_in_bounds s ≡ true) (right : lengths_right s (total s) w ≡ true) where
+    pub devices_right : length w.anchor ≡ 148 → Devices sizes w.anchor w.backups w.logs
+    devices_right long =
+        let all = lengths_right_lem s (total s) w right in
+        rw same (record { sizes = inside; anchor_words_lem = long; backup_words = all.backups; log_words_lem = all.logs })
 
-    pub memories-right : Memories sizes w.pages w.work
-    memories-right =
-        let all = lengths-right s (total s) w right in
-        rw same (record { sizes = inside; page-words = all.pages; work-words = all.work })
+    pub memories_right : Memories sizes w.pages w.work
+    memories_right =
+        let all = lengths_right_lem s (total s) w right in
+        rw same (record { sizes = inside; page_words_lem = all.pages; work_words_lem = all.work })

@@ -1,12 +1,12 @@
 // All stores of a format.
 ghost use Rattle.std.specs.Prelude.{◌≡◌, List, ℕ, ◌+◌, ◌≤◌, length};
 ghost use Rattle.model.specs.Sizes.{total};
-ghost use Rattle.model.specs.Anchor.{anchorWords};
-ghost use Rattle.model.specs.World.{worldOf};
-ghost use Rattle.model.specs.Format.{formatStores};
-ghost use Rattle.layout.specs.Raw.{sizesOf};
+ghost use Rattle.model.specs.Anchor.{anchor_words};
+ghost use Rattle.model.specs.World.{world_of};
+ghost use Rattle.model.specs.Format.{format_stores};
+ghost use Rattle.layout.specs.Raw.{sizes_of};
 ghost use Rattle.device.specs.Ran.{Ran};
-ghost use Rattle.format.specs.Parts.{lastStores, Devices};
+ghost use Rattle.format.specs.Parts.{last_stores, Devices};
 
 use crate::anchor::store_anchor;
 use crate::tails::store_tails;
@@ -16,11 +16,11 @@ use model::Sizes;
 
 // Backup 1 zero, then number 1, which makes it current; true if all are stored.
 fn store_last(anchor: &mut [u64], backups: &mut [u64], words: u64, budget: &mut u64) -> bool
-    requires { (length anchor.old ≡ anchorWords) × (words + words ≤ length backups.old) }
+    requires { (length anchor.old ≡ anchor_words) × (words + words ≤ length backups.old) }
     ensures { (memory logs work : List ℕ) → Ran budget.old budget.new
-        (lastStores words)
-        (worldOf anchor.old memory backups.old logs work)
-        (worldOf anchor.new memory backups.new logs work) result }
+        (last_stores words)
+        (world_of anchor.old memory backups.old logs work)
+        (world_of anchor.new memory backups.new logs work) result }
 {
     let n = words as usize;
     if !store_fill(backups, n, n, 0, budget) {
@@ -40,11 +40,11 @@ pub fn store_devices(
     logs: &mut [u64],
     budget: &mut u64,
 ) -> bool
-    requires { Devices sizes anchor.old backups.old logs.old × (sizes ≡ sizesOf raw) × (words ≡ total sizes) }
+    requires { Devices sizes anchor.old backups.old logs.old × (sizes ≡ sizes_of raw) × (words ≡ total sizes) }
     ensures { (memory work : List ℕ) → Ran budget.old budget.new
-        (formatStores sizes)
-        (worldOf anchor.old memory backups.old logs.old work)
-        (worldOf anchor.new memory backups.new logs.new work) result }
+        (format_stores sizes)
+        (world_of anchor.old memory backups.old logs.old work)
+        (world_of anchor.new memory backups.new logs.new work) result }
 {
     if !store_anchor(anchor, raw, budget) {
         return false;

@@ -1,8 +1,8 @@
 // The call format.
-ghost use Rattle.model.specs.World.{worldOf};
-ghost use Rattle.model.specs.Moments.{old, new, oldWorld};
+ghost use Rattle.model.specs.World.{world_of};
+ghost use Rattle.model.specs.Moments.{old, new, old_world};
 ghost use Rattle.model.specs.Call.{format, Gives};
-ghost use Rattle.layout.specs.Raw.{sizesOf};
+ghost use Rattle.layout.specs.Raw.{sizes_of};
 
 use crate::devices::store_devices;
 use crate::memory::make_fresh;
@@ -25,8 +25,8 @@ pub fn format(
     work: &mut [u64],
     budget: &mut u64,
 ) -> Reply
-    ensures { Gives (format (sizesOf raw) (old budget)) core (oldWorld anchor pages backups logs work)
-        result (new budget) (worldOf (new anchor) (new pages) (new backups) (new logs) (new work)) }
+    ensures { Gives (format (sizes_of raw) (old budget)) core (old_world anchor pages backups logs work)
+        result (new budget) (world_of (new anchor) (new pages) (new backups) (new logs) (new work)) }
 {
     let stage = core.stage;
     if !is_shut(stage) {

@@ -1,9 +1,9 @@
 // Every log becomes empty.
 ghost use Rattle.std.specs.Prelude.{◌≡◌, true, List, ℕ, length};
-ghost use Rattle.model.specs.Sizes.{logWords, sizesInBounds};
-ghost use Rattle.model.specs.World.{worldOf};
+ghost use Rattle.model.specs.Sizes.{log_words, sizes_in_bounds};
+ghost use Rattle.model.specs.World.{world_of};
 ghost use Rattle.device.specs.Ran.{Ran};
-ghost use Rattle.format.specs.Parts.{tailStores};
+ghost use Rattle.format.specs.Parts.{tail_stores};
 
 use device::store_word;
 use layout::disks::disk_at;
@@ -11,11 +11,11 @@ use model::Sizes;
 
 // Tail 0 on each disk; true if all are stored.
 pub fn store_tails(sizes: Sizes, logs: &mut [u64], budget: &mut u64) -> bool
-    requires { (sizesInBounds sizes ≡ true) × (length logs.old ≡ logWords sizes) }
+    requires { (sizes_in_bounds sizes ≡ true) × (length logs.old ≡ log_words sizes) }
     ensures { (anchor memory backups work : List ℕ) → Ran budget.old budget.new
-        (tailStores sizes)
-        (worldOf anchor memory backups logs.old work)
-        (worldOf anchor memory backups logs.new work) result }
+        (tail_stores sizes)
+        (world_of anchor memory backups logs.old work)
+        (world_of anchor memory backups logs.new work) result }
 {
     let disks = sizes.disks;
     let mut d: u64 = 0;

@@ -10,63 +10,63 @@ use Rattle.model.specs.declared.Reply.{Reply}
 use Rattle.model.specs.World.{World}
 use Rattle.model.specs.State.{sound}
 use Rattle.model.specs.Refusal.{Row, verdict, accepted, rejected}
-use Rattle.model.specs.Causes.{stageForbids, anchorWrong, lengthsWrong}
-use Rattle.model.specs.Reads.{fitsOn}
-use Rattle.model.specs.Call.{Call, rows_of, task_of, budgetOf, Gives}
+use Rattle.model.specs.Causes.{stage_forbids, anchor_wrong, lengths_wrong}
+use Rattle.model.specs.Reads.{fits_on}
+use Rattle.model.specs.Call.{Call, rows_of, task_of, budget_of, Gives}
 use Rattle.model.proofs.Booleans.{both}
-use Rattle.model.proofs.Verdict.{row-passed}
+use Rattle.model.proofs.Verdict.{row_passed}
 use Rattle.model.proofs.Tested.{tested}
 use Rattle.device.specs.Ran.{Ran}
-use Rattle.frame.specs.Checks.{commonRows, CommonRefusal}
-use Rattle.frame.specs.Settle.{refusedWith, finishedWith, settled, Concludes}
-use Rattle.frame.proofs.Verdicts.{Passed, refusal-given, task-given, task-settled, task-storeless}
+use Rattle.frame.specs.Checks.{common_rows, CommonRefusal}
+use Rattle.frame.specs.Settle.{refused_with, finished_with, settled, Concludes}
+use Rattle.frame.proofs.Verdicts.{Passed, refusal_given, task_given, task_settled, task_storeless}
 
 none_left : verdict [] ≡ accepted
 unfolding verdict
 none_left = refl
 
 module _ {allowed : Stage → Bool} {c : Core} {w : World} {r : ℕ} (checks : CommonRefusal allowed c w r) where
-  pub common-refused : (r ≡ 0 → ⊥) → (rest : List Row) → verdict (commonRows allowed (sound c) c w rest) ≡ rejected r 0 0
-  common-refused some rest = checks.decides rest ∙ rw (ne_eqb r 0 some) refl
+  pub common_refused : (r ≡ 0 → ⊥) → (rest : List Row) → verdict (common_rows allowed (sound c) c w rest) ≡ rejected r 0 0
+  common_refused some rest = checks.decides rest ∙ rw (ne_eqb r 0 some) refl
 
   module _ (none : r ≡ 0) where
     -- the rest decides
-    pub common-decided : (rest : List Row) → verdict (commonRows allowed (sound c) c w rest) ≡ verdict rest
-    common-decided rest = checks.decides rest ∙ rw (eq-eqb r 0 none) refl
+    pub common_decided : (rest : List Row) → verdict (common_rows allowed (sound c) c w rest) ≡ verdict rest
+    common_decided rest = checks.decides rest ∙ rw (eq-eqb r 0 none) refl
 
-    pub common-passed : Passed allowed c w
-    unfolding stageForbids anchorWrong lengthsWrong
-    common-passed =
-        let r1 = row-passed _ _ (common-decided [] ∙ none_left) in
-        let r2 = row-passed _ _ r1.1 in
-        let r5 = row-passed _ _ r2.1 in
-        let first = both (allowed c.stage) (fitsOn (sound c) c w) (not-false _ r1.0) in
+    pub common_passed : Passed allowed c w
+    unfolding stage_forbids anchor_wrong lengths_wrong
+    common_passed =
+        let r1 = row_passed _ _ (common_decided [] ∙ none_left) in
+        let r2 = row_passed _ _ r1.1 in
+        let r5 = row_passed _ _ r2.1 in
+        let first = both (allowed c.stage) (fits_on (sound c) c w) (not-false _ r1.0) in
         let right = not-false _ r5.0 in
         record { stage = first.0; state = tested (sound c) c w first.1 right; anchor = eqb-true _ _ (not-false _ r2.0); lengths = right }
 
   -- A call whose rows begin with these.
-  module _ (k : Call) {rest : List Row} (rows : rows_of k c w ≡ commonRows allowed (sound c) c w rest) where
-    pub given-first : (r ≡ 0 → ⊥) → {reply : Reply} → reply ≡ refusedWith c r 0 0 → Gives k c w reply (budgetOf k) w
-    given-first some e = rw e (refusal-given k c w r 0 0 (rw rows (common-refused some rest)))
+  module _ (k : Call) {rest : List Row} (rows : rows_of k c w ≡ common_rows allowed (sound c) c w rest) where
+    pub given_first : (r ≡ 0 → ⊥) → {reply : Reply} → reply ≡ refused_with c r 0 0 → Gives k c w reply (budget_of k) w
+    given_first some e = rw e (refusal_given k c w r 0 0 (rw rows (common_refused some rest)))
 
     module _ (none : r ≡ 0) where
       -- another row applies
-      pub given-refused : {number first second : ℕ} → verdict rest ≡ rejected number first second → {reply : Reply}
-          → reply ≡ refusedWith c number first second → Gives k c w reply (budgetOf k) w
-      given-refused {number} {first} {second} some e = rw e (refusal-given k c w number first second (rw rows (common-decided none rest ∙ some)))
+      pub given_refused : {number first second : ℕ} → verdict rest ≡ rejected number first second → {reply : Reply}
+          → reply ≡ refused_with c number first second → Gives k c w reply (budget_of k) w
+      given_refused {number} {first} {second} some e = rw e (refusal_given k c w number first second (rw rows (common_decided none rest ∙ some)))
 
       -- no row applies: the call does its task
-      module _ (none-later : verdict rest ≡ accepted) where
-        pub given-task : (v : World) (left : ℕ) (reply : Reply) → Concludes (budgetOf k) left (task_of k c w) w v reply → Gives k c w reply left v
-        given-task v left reply did = task-given k c w v left reply (rw rows (common-decided none rest ∙ none-later)) did
+      module _ (none_later : verdict rest ≡ accepted) where
+        pub given_task : (v : World) (left : ℕ) (reply : Reply) → Concludes (budget_of k) left (task_of k c w) w v reply → Gives k c w reply left v
+        given_task v left reply did = task_given k c w v left reply (rw rows (common_decided none rest ∙ none_later)) did
 
         -- How a storing call concludes: its actions have run, and the reply is settled.
-        pub given-settled : {left : ℕ} {v : World} {whole : Bool} {core : Core} {reply : Reply}
-            → Ran (budgetOf k) left (task_of k c w).actions w v whole → (whole ≡ true → core ≡ (task_of k c w).core)
-            → reply ≡ settled whole (budgetOf k) left (task_of k c w).value core → Gives k c w reply left v
-        given-settled ran same e = given-task _ _ _ (task-settled (task_of k c w) ran e same)
+        pub given_settled : {left : ℕ} {v : World} {whole : Bool} {core : Core} {reply : Reply}
+            → Ran (budget_of k) left (task_of k c w).actions w v whole → (whole ≡ true → core ≡ (task_of k c w).core)
+            → reply ≡ settled whole (budget_of k) left (task_of k c w).value core → Gives k c w reply left v
+        given_settled ran same e = given_task _ _ _ (task_settled (task_of k c w) ran e same)
 
         -- and one that stores nothing
-        pub given-finished : budgetOf k ≡ 0 → (task_of k c w).actions ≡ [] → {core : Core} {reply : Reply} → core ≡ (task_of k c w).core
-            → reply ≡ finishedWith core (task_of k c w).value → Gives k c w reply 0 w
-        given-finished free idle same e = given-task w 0 _ (rw (free, e, same) (task-storeless (task_of k c w) w idle))
+        pub given_finished : budget_of k ≡ 0 → (task_of k c w).actions ≡ [] → {core : Core} {reply : Reply} → core ≡ (task_of k c w).core
+            → reply ≡ finished_with core (task_of k c w).value → Gives k c w reply 0 w
+        given_finished free idle same e = given_task w 0 _ (rw (free, e, same) (task_storeless (task_of k c w) w idle))

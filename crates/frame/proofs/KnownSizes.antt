@@ -11,55 +11,55 @@ use lib.ListN.{get_or}
 use Rattle.model.specs.declared.Sizes.{Sizes}
 use Rattle.model.specs.declared.Core.{Core}
 use Rattle.model.specs.declared.Carried.{Carried}
-use Rattle.model.specs.Sizes.{total, sizesInBounds}
-use Rattle.model.specs.Reads.{sizesFit}
-use Rattle.model.specs.View.{headSlots, headWidths, ownWork, core_of}
-use Rattle.model.proofs.Booleans.{true-false}
+use Rattle.model.specs.Sizes.{total, sizes_in_bounds}
+use Rattle.model.specs.Reads.{sizes_fit}
+use Rattle.model.specs.View.{head_slots, head_widths, own_work, core_of}
+use Rattle.model.proofs.Booleans.{true_false}
 use Rattle.model.proofs.Parts.{get_d_part}
 use Rattle.model.proofs.View.Head.{own_view}
-use Rattle.layout.proofs.Laws.{entry-bytes}
-use Rattle.frame.specs.Sizes.{sizesAt, Tested}
+use Rattle.layout.proofs.Laws.{entry_bytes}
+use Rattle.frame.specs.Sizes.{sizes_at, Tested}
 use Rattle.frame.specs.declared.sizes.Known.{Known}
 
 -- the 128 words of slots and widths are bytes
-pub head_bytes : (pages disks ring : ℕ) (work : List ℕ) → sizesInBounds (sizesAt pages disks ring work) ≡ true
+pub head_bytes : (pages disks ring : ℕ) (work : List ℕ) → sizes_in_bounds (sizes_at pages disks ring work) ≡ true
     → (i : ℕ) → i < 128 → get_or work i 0 < 256
-unfolding sizesAt
+unfolding sizes_at
 head_bytes pages disks ring work e i h = go (dec_lt i 64)
   where
-    bytes : (j : ℕ) → j < 64 → (get_or (sizesAt pages disks ring work).slots j 0 < 256) × (get_or (sizesAt pages disks ring work).widths j 0 < 256)
-    bytes j k = entry-bytes (sizesAt pages disks ring work) e j k
+    bytes : (j : ℕ) → j < 64 → (get_or (sizes_at pages disks ring work).slots j 0 < 256) × (get_or (sizes_at pages disks ring work).widths j 0 < 256)
+    bytes j k = entry_bytes (sizes_at pages disks ring work) e j k
 
     go : Dec (i < 64) → get_or work i 0 < 256
-    go (yes low) = rw (get_d_part headSlots 64 work i low, zero-add i) at (bytes i low).0
+    go (yes low) = rw (get_d_part head_slots 64 work i low, zero-add i) at (bytes i low).0
     go (no high) =
         let j : ℕ = i - 64 in
         let below : j < 64 = omega arith in
-        let there : headWidths + j ≡ i = omega arith in
-        rw (get_d_part headWidths 64 work j below, there) at (bytes j below).1
+        let there : head_widths + j ≡ i = omega arith in
+        rw (get_d_part head_widths 64 work j below, there) at (bytes j below).1
 
 -- so sizes that are not are out of bounds
-pub head-out : (pages disks ring : ℕ) (work : List ℕ) {above : ℕ} → (above ≡ 0 → ⊥) → (((i : ℕ) → i < 128 → get_or work i 0 < 256) → above ≡ 0)
-    → sizesInBounds (sizesAt pages disks ring work) ≡ false
-head-out pages disks ring work some none = go (sizesInBounds (sizesAt pages disks ring work)) refl
+pub head_out : (pages disks ring : ℕ) (work : List ℕ) {above : ℕ} → (above ≡ 0 → ⊥) → (((i : ℕ) → i < 128 → get_or work i 0 < 256) → above ≡ 0)
+    → sizes_in_bounds (sizes_at pages disks ring work) ≡ false
+head_out pages disks ring work some none = go (sizes_in_bounds (sizes_at pages disks ring work)) refl
   where
-    go : (b : Bool) → sizesInBounds (sizesAt pages disks ring work) ≡ b → b ≡ false
+    go : (b : Bool) → sizes_in_bounds (sizes_at pages disks ring work) ≡ b → b ≡ false
     go true e = absurd (some (none (head_bytes pages disks ring work e)))
     go false e = refl
 
 -- sizes that do not pass are not handed out
 module _ (s : Sizes) (words : ℕ) {r : Known} where
-  pub known-not : sizesInBounds s ≡ false → r.fits ≡ false → Tested s words r
-  known-not out unfit = record { fits = rw (unfit, out) refl; sizes = λ fits. true-false fits unfit }
+  pub known_not : sizes_in_bounds s ≡ false → r.fits ≡ false → Tested s words r
+  known_not out unfit = record { fits = rw (unfit, out) refl; sizes = λ fits. true_false fits unfit }
 
-  pub known-here : sizesInBounds s ≡ true → r.fits ≡ eqb words (total s) → r.sizes ≡ s → Tested s words r
-  known-here in_bounds fits same = record { fits = fits ∙ rw in_bounds refl; sizes = λ _. same }
+  pub known_here : sizes_in_bounds s ≡ true → r.fits ≡ eqb words (total s) → r.sizes ≡ s → Tested s words r
+  known_here in_bounds fits same = record { fits = fits ∙ rw in_bounds refl; sizes = λ _. same }
 
 -- the test of a state whose head this is
-module _ (h : Carried) (work : List ℕ) (own : ownWork h work ≡ true) where
-  pub sizes-here : sizesAt h.pages h.disks h.ring work ≡ (core_of h work).sizes
-  unfolding sizesAt
-  sizes-here = sym (ap (λ (c : Core). c.sizes) (own_view h work own))
+module _ (h : Carried) (work : List ℕ) (own : own_work h work ≡ true) where
+  pub sizes_here : sizes_at h.pages h.disks h.ring work ≡ (core_of h work).sizes
+  unfolding sizes_at
+  sizes_here = sym (ap (λ (c : Core). c.sizes) (own_view h work own))
 
   pub total_here : (core_of h work).bases.total ≡ h.total
   total_here = ap (λ (c : Core). c.bases.total) (own_view h work own)

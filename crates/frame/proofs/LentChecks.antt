@@ -12,20 +12,20 @@ use Rattle.model.specs.declared.Stage.{Stage}
 use Rattle.model.specs.declared.Stage.TheVariants.{Shut}
 use Rattle.model.specs.declared.Core.{Core}
 use Rattle.model.specs.declared.Carried.{Carried}
-use Rattle.model.specs.Sizes.{countsInBounds, logWords, diskAt}
-use Rattle.model.specs.Anchor.{anchorWords}
+use Rattle.model.specs.Sizes.{counts_in_bounds, log_words, disk_at}
+use Rattle.model.specs.Anchor.{anchor_words}
 use Rattle.model.specs.World.{World}
-use Rattle.model.specs.Memory.{bufferAt, copy_at, ownerAt, workWords, lengthsRight}
+use Rattle.model.specs.Memory.{buffer_at, copy_at, owner_at, work_words, lengths_right}
 use Rattle.model.specs.Refusal.{Row, row, verdict, rejected}
-use Rattle.model.specs.Causes.{whenShut, stageForbids, anchorWrong, lengthsWrong}
-use Rattle.model.specs.Reads.{countsFit, fitsOn}
-use Rattle.model.specs.View.{headWords, ownWork, core_of, body_of}
-use Rattle.model.proofs.Booleans.{all-four}
-use Rattle.model.proofs.Store.Rows.{not-shut}
-use Rattle.layout.specs.Raw.{lengthsAre}
-use Rattle.frame.specs.Checks.{commonRows}
-use Rattle.frame.specs.Fits.{countsWithin}
-use Rattle.frame.specs.Lent.{lentRefusal}
+use Rattle.model.specs.Causes.{when_shut, stage_forbids, anchor_wrong, lengths_wrong}
+use Rattle.model.specs.Reads.{counts_fit, fits_on}
+use Rattle.model.specs.View.{head_words, own_work, core_of, body_of}
+use Rattle.model.proofs.Booleans.{all_four}
+use Rattle.model.proofs.Store.Rows.{not_shut}
+use Rattle.layout.specs.Raw.{lengths_are}
+use Rattle.frame.specs.Checks.{common_rows}
+use Rattle.frame.specs.Fits.{counts_within}
+use Rattle.frame.specs.Lent.{lent_refusal}
 use Rattle.frame.proofs.Fitting.{Counted, counted}
 
 by_tests : (allowed counts right anchor test : Bool) (rest : List Row)
@@ -46,41 +46,41 @@ pub record LentReady (allowed : Stage → Bool) (h : Carried) (w : World) : Type
   pub counts : Counted h.pages h.disks h.ring h.total
   pub pages : length w.pages ≡ h.total
   pub logs : length w.logs ≡ h.disks * (h.ring + 1)
-  pub work : length w.work ≡ headWords + (64 * h.disks + 64 + h.total)
+  pub work : length w.work ≡ head_words + (64 * h.disks + 64 + h.total)
 
 module _ (allowed : Stage → Bool) (h : Carried) (w : World) {r : ℕ}
-    (answer : r ≡ lentRefusal (allowed h.stage) h.pages h.disks h.ring h.total (length w.anchor) (length w.pages) (length w.backups) (length w.logs) (length w.work))
+    (answer : r ≡ lent_refusal (allowed h.stage) h.pages h.disks h.ring h.total (length w.anchor) (length w.pages) (length w.backups) (length w.logs) (length w.work))
   where
     decides : (test : Bool) (rest : List Row)
-        → verdict (commonRows allowed test (core_of h w.work) (body_of w) rest)
-        ≡ cond (eqb r 0) (verdict (row 1 (not test) ∷ row 2 (anchorWrong w.anchor) ∷ rest)) (rejected r 0 0)
-    unfolding lentRefusal countsWithin lengthsAre stageForbids fitsOn countsFit countsInBounds anchorWrong lengthsWrong lengthsRight logWords diskAt workWords ownerAt copy_at bufferAt core_of body_of
+        → verdict (common_rows allowed test (core_of h w.work) (body_of w) rest)
+        ≡ cond (eqb r 0) (verdict (row 1 (not test) ∷ row 2 (anchor_wrong w.anchor) ∷ rest)) (rejected r 0 0)
+    unfolding lent_refusal counts_within lengths_are stage_forbids fits_on counts_fit counts_in_bounds anchor_wrong lengths_wrong lengths_right log_words disk_at work_words owner_at copy_at buffer_at core_of body_of
     decides test rest =
-        rw (answer, length-drop headWords w.work)
-        (by_tests (allowed h.stage) (countsWithin h.pages h.disks h.ring h.total)
-        (lengthsAre h.disks h.ring h.total (length w.pages) (length w.backups) (length w.logs) (length w.work - headWords))
-        (eqb (length w.anchor) anchorWords) test rest)
+        rw (answer, length-drop head_words w.work)
+        (by_tests (allowed h.stage) (counts_within h.pages h.disks h.ring h.total)
+        (lengths_are h.disks h.ring h.total (length w.pages) (length w.backups) (length w.logs) (length w.work - head_words))
+        (eqb (length w.anchor) anchor_words) test rest)
 
     -- they refuse
-    pub first-refused : (r ≡ 0 → ⊥) → (test : Bool) (rest : List Row)
-        → verdict (commonRows allowed test (core_of h w.work) (body_of w) rest) ≡ rejected r 0 0
-    first-refused some test rest = decides test rest ∙ rw (ne_eqb r 0 some) refl
+    pub first_refused : (r ≡ 0 → ⊥) → (test : Bool) (rest : List Row)
+        → verdict (common_rows allowed test (core_of h w.work) (body_of w) rest) ≡ rejected r 0 0
+    first_refused some test rest = decides test rest ∙ rw (ne_eqb r 0 some) refl
 
     module _ (none : r ≡ 0) where
       -- they do not, and the call's test and the anchor are next
-      pub first-passed : (test : Bool) (rest : List Row)
-          → verdict (commonRows allowed test (core_of h w.work) (body_of w) rest) ≡ verdict (row 1 (not test) ∷ row 2 (anchorWrong w.anchor) ∷ rest)
-      first-passed test rest = decides test rest ∙ rw (eq-eqb r 0 none) refl
+      pub first_passed : (test : Bool) (rest : List Row)
+          → verdict (common_rows allowed test (core_of h w.work) (body_of w) rest) ≡ verdict (row 1 (not test) ∷ row 2 (anchor_wrong w.anchor) ∷ rest)
+      first_passed test rest = decides test rest ∙ rw (eq-eqb r 0 none) refl
 
-      pub first-ready : LentReady allowed h w
-      unfolding lentRefusal lengthsAre logWords diskAt workWords ownerAt copy_at bufferAt
-      first-ready =
-          go (allowed h.stage) (countsWithin h.pages h.disks h.ring h.total)
-          (lengthsAre h.disks h.ring h.total (length w.pages) (length w.backups) (length w.logs) (length w.work - headWords))
-          (eqb (length w.anchor) anchorWords) refl refl refl (sym answer ∙ none)
+      pub first_ready : LentReady allowed h w
+      unfolding lent_refusal lengths_are log_words disk_at work_words owner_at copy_at buffer_at
+      first_ready =
+          go (allowed h.stage) (counts_within h.pages h.disks h.ring h.total)
+          (lengths_are h.disks h.ring h.total (length w.pages) (length w.backups) (length w.logs) (length w.work - head_words))
+          (eqb (length w.anchor) anchor_words) refl refl refl (sym answer ∙ none)
         where
-          go : (a n d b : Bool) → allowed h.stage ≡ a → countsWithin h.pages h.disks h.ring h.total ≡ n
-              → lengthsAre h.disks h.ring h.total (length w.pages) (length w.backups) (length w.logs) (length w.work - headWords) ≡ d
+          go : (a n d b : Bool) → allowed h.stage ≡ a → counts_within h.pages h.disks h.ring h.total ≡ n
+              → lengths_are h.disks h.ring h.total (length w.pages) (length w.backups) (length w.logs) (length w.work - head_words) ≡ d
               → ◌≡◌ {A = ℕ} (cond (a && n) (cond d 0 (cond b 5 2)) 1) 0 → LentReady allowed h w
           go false n d b e f g z = absurd (omega (arith, z))
           go true false d b e f g z = absurd (omega (arith, z))
@@ -88,21 +88,21 @@ module _ (allowed : Stage → Bool) (h : Carried) (w : World) {r : ℕ}
           go true true false false e f g z = absurd (omega (arith, z))
           go true true true b e f g z =
               let l =
-              all-four (eqb (length w.pages) h.total) (eqb (length w.backups) (2 * h.total)) (eqb (length w.logs) (h.disks * (h.ring + 1)))
-              (eqb (length w.work - headWords) (64 * h.disks + 64 + h.total)) g in
+              all_four (eqb (length w.pages) h.total) (eqb (length w.backups) (2 * h.total)) (eqb (length w.logs) (h.disks * (h.ring + 1)))
+              (eqb (length w.work - head_words) (64 * h.disks + 64 + h.total)) g in
               record {
                 stage = e;
                 counts = counted f;
                 pages = eqb-true _ _ l.0;
                 logs = eqb-true _ _ l.2;
-                work = omega (arith, eqb-true (length w.work - headWords) (64 * h.disks + 64 + h.total) l.3);
+                work = omega (arith, eqb-true (length w.work - head_words) (64 * h.disks + 64 + h.total) l.3);
               }
 
 -- So the state is not shut, the work memory is its own, and every word of the head is the view's.
 module _ (allowed : Stage → Bool) (closed : allowed Shut ≡ false) (h : Carried) (w : World) (ready : LentReady allowed h w) where
-  pub first-open : whenShut h.stage ≡ false
-  first-open = not-shut allowed closed h.stage ready.stage
+  pub first_open : when_shut h.stage ≡ false
+  first_open = not_shut allowed closed h.stage ready.stage
 
-  pub first-own : ownWork h w.work ≡ true
-  unfolding ownWork workWords ownerAt copy_at bufferAt
-  first-own = rw (first-open, eq-eqb (length w.work) (headWords + (64 * h.disks + 64 + h.total)) ready.work) refl
+  pub first_own : own_work h w.work ≡ true
+  unfolding own_work work_words owner_at copy_at buffer_at
+  first_own = rw (first_open, eq-eqb (length w.work) (head_words + (64 * h.disks + 64 + h.total)) ready.work) refl

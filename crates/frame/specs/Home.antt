@@ -3,28 +3,28 @@ use Rattle.std.specs.Prelude.{◌≡◌, List, true, ℕ, length, set}
 use Rattle.model.specs.declared.Sizes.{Sizes}
 use Rattle.model.specs.declared.Logs.{Logs}
 use Rattle.model.specs.declared.Core.{Core}
-use Rattle.model.specs.Sizes.{ringOf, diskAt, logWords}
-use Rattle.model.specs.Memory.{bufferAt, workWords}
-use Rattle.model.specs.State.{tailOf, fillOf, servingSound}
-use Rattle.log.specs.declared.write.Home.{Home}
+use Rattle.model.specs.Sizes.{ring_of, disk_at, log_words}
+use Rattle.model.specs.Memory.{buffer_at, work_words}
+use Rattle.model.specs.State.{tail_of, fill_of, serving_sound}
+use Rattle.disk_log.specs.declared.write.Home.{Home}
 
 -- A serving state that passed the whole test, and slices of the lengths that it gives.
 pub record Serves (c : Core) (logs work : List ℕ) : Type 0 where
-  pub state : servingSound c ≡ true
-  pub log-words : length logs ≡ logWords c.sizes
-  pub work-words : length work ≡ workWords c.sizes c.bases.total
+  pub state : serving_sound c ≡ true
+  pub log_words_lem : length logs ≡ log_words c.sizes
+  pub work_words_lem : length work ≡ work_words c.sizes c.bases.total
 
 unfoldable pub home_of : Sizes → Logs → ℕ → Home
 home_of s l disk =
     record {
       disk = disk;
-      place = diskAt s disk;
-      ring = ringOf s disk;
-      buffer = bufferAt disk;
-      tail = tailOf l disk;
-      fill = fillOf l disk;
+      place = disk_at s disk;
+      ring = ring_of s disk;
+      buffer = buffer_at disk;
+      tail = tail_of l disk;
+      fill = fill_of l disk;
     }
 
 -- the logs with another tail and fill of one disk
-abbrev pub withDisk : Logs → ℕ → ℕ → ℕ → Logs
-withDisk l disk tail fill = record { starts = l.starts; tails = set l.tails disk tail; fills = set l.fills disk fill }
+abbrev pub with_disk : Logs → ℕ → ℕ → ℕ → Logs
+with_disk l disk tail fill = record { starts = l.starts; tails = set l.tails disk tail; fills = set l.fills disk fill }

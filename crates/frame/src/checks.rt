@@ -1,9 +1,9 @@
 // The checks that every call but format and restart begin makes first: its stage with its test of the state, the anchor's length, the
 // other lengths.
 ghost use Rattle.std.specs.Prelude.{◌≡◌};
-ghost use Rattle.model.specs.State.{servingSound, replaySound, sound};
-ghost use Rattle.model.specs.Moments.{oldWorld};
-ghost use Rattle.frame.specs.Checks.{anchorRefusal, allowedIn, CommonRefusal};
+ghost use Rattle.model.specs.State.{serving_sound, replay_sound, sound};
+ghost use Rattle.model.specs.Moments.{old_world};
+ghost use Rattle.frame.specs.Checks.{anchor_refusal, allowed_in, CommonRefusal};
 
 use crate::fits::counts_fit;
 use crate::stages::{When, is_allowed, is_open, is_replaying, is_shut};
@@ -14,7 +14,7 @@ use model::Core;
 use table::sound::{checkpoint_bounds, replay_bounds, serving_bounds};
 
 fn serving_sound(core: Core) -> bool
-    ensures { result ≡ servingSound core }
+    ensures { result ≡ serving_sound core }
 {
     if !sizes_in_bounds(core.sizes) {
         return false;
@@ -29,7 +29,7 @@ fn serving_sound(core: Core) -> bool
 }
 
 fn replay_sound(core: Core) -> bool
-    ensures { result ≡ replaySound core }
+    ensures { result ≡ replay_sound core }
 {
     if !sizes_in_bounds(core.sizes) {
         return false;
@@ -62,7 +62,7 @@ fn is_sound(core: Core) -> bool
 
 // 2 where the anchor's length is wrong.
 fn anchor_refusal(anchor: usize, otherwise: u64) -> u64
-    ensures { result ≡ anchorRefusal anchor otherwise }
+    ensures { result ≡ anchor_refusal anchor otherwise }
 {
     if anchor == ANCHOR_WORDS { otherwise } else { 2 }
 }
@@ -78,7 +78,7 @@ pub fn common_refusal(
     logs: &[u64],
     work: &[u64],
 ) -> u64
-    ensures { CommonRefusal (allowedIn when) core (oldWorld anchor pages backups logs work) result }
+    ensures { CommonRefusal (allowed_in when) core (old_world anchor pages backups logs work) result }
 {
     let stage = core.stage;
     if !is_allowed(when, stage) {

@@ -1,22 +1,22 @@
 // How a call ends that takes its state in two parts: refused, finished or cut.
 ghost use Rattle.std.specs.Prelude.{◌≡◌};
-ghost use Rattle.model.specs.State.{newCore};
+ghost use Rattle.model.specs.State.{new_core};
 ghost use Rattle.model.specs.View.{carried_of};
-ghost use Rattle.frame.specs.Handed.{refusedTo, finishedTo, cut_to};
+ghost use Rattle.frame.specs.Handed.{refused_to, finished_to, cut_to};
 
 use crate::states::no_classes;
 use model::{Answer, Carried, Handed, Stage};
 
 // A refusal hands back what came in.
 pub fn refused(carried: Carried, number: u64) -> Handed
-    ensures { result ≡ refusedTo carried number 0 0 }
+    ensures { result ≡ refused_to carried number 0 0 }
 {
     refused_at(carried, number, 0, 0)
 }
 
 // One that says where.
 pub fn refused_at(carried: Carried, number: u64, first: u64, second: u64) -> Handed
-    ensures { result ≡ refusedTo carried number first second }
+    ensures { result ≡ refused_to carried number first second }
 {
     Handed {
         answer: Answer::Refused {
@@ -30,7 +30,7 @@ pub fn refused_at(carried: Carried, number: u64, first: u64, second: u64) -> Han
 
 // No. 7: a malformed record.
 pub fn unreadable(carried: Carried, disk: u64, position: u64) -> Handed
-    ensures { result ≡ refusedTo carried 7 disk position }
+    ensures { result ≡ refused_to carried 7 disk position }
 {
     Handed {
         answer: Answer::Refused {
@@ -43,7 +43,7 @@ pub fn unreadable(carried: Carried, disk: u64, position: u64) -> Handed
 }
 
 pub fn finished(carried: Carried, stores: u64, value: u64) -> Handed
-    ensures { result ≡ finishedTo carried stores value }
+    ensures { result ≡ finished_to carried stores value }
 {
     Handed {
         answer: Answer::Finished { stores, value },
@@ -53,7 +53,7 @@ pub fn finished(carried: Carried, stores: u64, value: u64) -> Handed
 
 // What a new state carries.
 pub fn new_carried() -> Carried
-    ensures { result ≡ carried_of newCore }
+    ensures { result ≡ carried_of new_core }
 {
     Carried {
         stage: Stage::Shut,

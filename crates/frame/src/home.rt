@@ -2,18 +2,18 @@
 ghost use Rattle.std.specs.Prelude.{◌≡◌, ◌≤◌, ◌<◌, length};
 ghost use Rattle.model.specs.declared.Sizes.{Sizes};
 ghost use Rattle.model.specs.declared.Logs.{Logs};
-ghost use Rattle.model.specs.State.{tailOf, fillOf};
+ghost use Rattle.model.specs.State.{tail_of, fill_of};
 ghost use Rattle.frame.specs.Home.{home_of};
 
 use layout::disks::disk_at;
 use layout::memory::buffer_place;
-use log::write::Home;
+use disk_log::write::Home;
 use model::{Logs, Sizes};
 
 // A disk, by its numbers.
 pub fn home_at(ring: u64, disk: u64, tail: u64, fill: u64) -> Home
     requires { (disk < 8) × (ring ≤ 65536) }
-    ensures { (s : Sizes) (l : Logs) → s.ring ≡ ring → tailOf l disk ≡ tail → fillOf l disk ≡ fill → result ≡ home_of s l disk }
+    ensures { (s : Sizes) (l : Logs) → s.ring ≡ ring → tail_of l disk ≡ tail → fill_of l disk ≡ fill → result ≡ home_of s l disk }
 {
     Home {
         disk,

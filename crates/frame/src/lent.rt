@@ -1,8 +1,8 @@
 // The first checks of a call that takes its state in two parts: what it is handed by value, and the lengths of what it is lent.
 ghost use Rattle.std.specs.Prelude.{◌≡◌, ◌-◌};
-ghost use Rattle.model.specs.Causes.{whenServing};
-ghost use Rattle.model.specs.View.{headWords};
-ghost use Rattle.frame.specs.Lent.{lentRefusal};
+ghost use Rattle.model.specs.Causes.{when_serving};
+ghost use Rattle.model.specs.View.{head_words};
+ghost use Rattle.frame.specs.Lent.{lent_refusal};
 
 use crate::fits::counts_fit;
 use crate::stages::is_serving;
@@ -13,7 +13,7 @@ use model::Stage;
 
 // The length of what lies behind the head.
 fn body_words(work: usize) -> usize
-    ensures { result ≡ work - headWords }
+    ensures { result ≡ work - head_words }
 {
     if work < HEAD_WORDS {
         0
@@ -36,7 +36,7 @@ pub fn refusal_when(
     logs: usize,
     work: usize,
 ) -> u64
-    ensures { result ≡ lentRefusal allowed pages disks ring total anchor paged backups logs work }
+    ensures { result ≡ lent_refusal allowed pages disks ring total anchor paged backups logs work }
 {
     if !allowed {
         return 1;
@@ -64,7 +64,7 @@ pub fn lent_refusal(
     logs: usize,
     work: usize,
 ) -> u64
-    ensures { result ≡ lentRefusal (whenServing stage) pages disks ring total anchor paged backups logs work }
+    ensures { result ≡ lent_refusal (when_serving stage) pages disks ring total anchor paged backups logs work }
 {
     let serving = is_serving(stage);
     refusal_when(

@@ -2,11 +2,11 @@
 ghost use Rattle.std.specs.Prelude.{◌≡◌, true, ◌≤◌, length};
 ghost use Rattle.model.specs.declared.Carried.{Carried};
 ghost use Rattle.model.specs.Below.{all_below};
-ghost use Rattle.model.specs.Sizes.{countsInBounds};
-ghost use Rattle.model.specs.State.{replaySound};
+ghost use Rattle.model.specs.Sizes.{counts_in_bounds};
+ghost use Rattle.model.specs.State.{replay_sound};
 ghost use Rattle.model.specs.Moments.{old};
-ghost use Rattle.model.specs.View.{headWords, ownWork, core_of};
-ghost use Rattle.frame.specs.Pages.{positionRight};
+ghost use Rattle.model.specs.View.{head_words, own_work, core_of};
+ghost use Rattle.frame.specs.Pages.{position_right};
 
 use crate::pages::pages_right;
 use head::places::{PAGE_AT, POSITIONS_AT};
@@ -14,8 +14,8 @@ use table::room::LIMIT;
 
 // Every log's tail is within bounds, and its next position not past it.
 fn positions_right(work: &[u64], disks: u64, tails: [u64; 8]) -> bool
-    requires { (disks ≤ 8) × (headWords ≤ length work.now) }
-    ensures { result ≡ all_below (positionRight (old work) tails) disks }
+    requires { (disks ≤ 8) × (head_words ≤ length work.now) }
+    ensures { result ≡ all_below (position_right (old work) tails) disks }
 {
     let end = disks as usize;
     let mut d: usize = 0;
@@ -41,9 +41,9 @@ pub fn replay_right(
     epoch: u64,
     tails: [u64; 8],
 ) -> bool
-    requires { (pages ≤ 64) × (disks ≤ 8) × (headWords ≤ length work.now) }
-    ensures { (h : Carried) → ownWork h (old work) ≡ true → h.pages ≡ pages → h.disks ≡ disks → h.total ≡ total → h.epoch ≡ epoch
-        → h.tails ≡ tails → countsInBounds (core_of h (old work)).sizes ≡ true → result ≡ replaySound (core_of h (old work)) }
+    requires { (pages ≤ 64) × (disks ≤ 8) × (head_words ≤ length work.now) }
+    ensures { (h : Carried) → own_work h (old work) ≡ true → h.pages ≡ pages → h.disks ≡ disks → h.total ≡ total → h.epoch ≡ epoch
+        → h.tails ≡ tails → counts_in_bounds (core_of h (old work)).sizes ≡ true → result ≡ replay_sound (core_of h (old work)) }
 {
     if epoch >= LIMIT {
         return false;

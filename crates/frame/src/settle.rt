@@ -1,6 +1,6 @@
 // How a call ends: refused, finished or cut.
 ghost use Rattle.std.specs.Prelude.{◌≡◌, ◌-◌};
-ghost use Rattle.frame.specs.Settle.{refusedWith, finishedWith, settled};
+ghost use Rattle.frame.specs.Settle.{refused_with, finished_with, settled};
 
 use crate::states::new_core;
 use model::{Answer, Core, Reply};
@@ -8,7 +8,7 @@ use words::saturating_sub;
 
 // A refusal leaves the state as it was.
 pub fn refuse_at(core: Core, number: u64, first: u64, second: u64) -> Reply
-    ensures { result ≡ refusedWith core number first second }
+    ensures { result ≡ refused_with core number first second }
 {
     Reply {
         answer: Answer::Refused {
@@ -21,14 +21,14 @@ pub fn refuse_at(core: Core, number: u64, first: u64, second: u64) -> Reply
 }
 
 pub fn refuse(core: Core, number: u64) -> Reply
-    ensures { result ≡ refusedWith core number 0 0 }
+    ensures { result ≡ refused_with core number 0 0 }
 {
     refuse_at(core, number, 0, 0)
 }
 
 // A call that is finished and stored nothing.
 pub fn finish(core: Core, value: u64) -> Reply
-    ensures { result ≡ finishedWith core value }
+    ensures { result ≡ finished_with core value }
 {
     Reply {
         answer: Answer::Finished { stores: 0, value },

@@ -2,8 +2,8 @@
 ghost use Rattle.std.specs.Prelude.{◌≡◌, false, ℕ, ◌+◌, ◌≤◌, ◌<◌, length, get_or};
 ghost use Rattle.model.specs.Word.{part};
 ghost use Rattle.model.specs.Moments.{old};
-ghost use Rattle.model.specs.View.{headSlots, headWidths};
-ghost use Rattle.frame.specs.Sizes.{sizesAt, Tested};
+ghost use Rattle.model.specs.View.{head_slots, head_widths};
+ghost use Rattle.frame.specs.Sizes.{sizes_at, Tested};
 
 use head::places::{SLOTS_AT, WIDTHS_AT};
 use layout::bounds::sizes_in_bounds;
@@ -45,7 +45,7 @@ fn entries_at(work: &[u64], at: usize) -> [u8; 64]
 
 fn sizes_at(work: &[u64], pages: u64, disks: u64, ring: u64) -> Sizes
     requires { (128 ≤ length work.now) × ((i : ℕ) → i < 128 → get_or work.now i 0 < 256) }
-    ensures { result ≡ sizesAt pages disks ring (old work) }
+    ensures { result ≡ sizes_at pages disks ring (old work) }
 {
     Sizes {
         pages,
@@ -74,7 +74,7 @@ fn unfit() -> Known
 // Every page is within its bounds, and T is `words`.
 pub fn known_sizes(work: &[u64], pages: u64, disks: u64, ring: u64, words: u64) -> Known
     requires { 128 ≤ length work.now }
-    ensures { Tested (sizesAt pages disks ring (old work)) words result }
+    ensures { Tested (sizes_at pages disks ring (old work)) words result }
 {
     if above_bytes(work) != 0 {
         return unfit();

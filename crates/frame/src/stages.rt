@@ -1,7 +1,7 @@
 // The stages that a call is for.
 ghost use Rattle.std.specs.Prelude.{◌≡◌};
-ghost use Rattle.model.specs.Causes.{whenShut, whenReplaying, whenOpen, whenCopying, whenServing};
-ghost use Rattle.frame.specs.Checks.{allowedIn};
+ghost use Rattle.model.specs.Causes.{when_shut, when_replaying, when_open, when_copying, when_serving};
+ghost use Rattle.frame.specs.Checks.{allowed_in};
 
 use model::Stage;
 
@@ -15,7 +15,7 @@ pub enum When {
 }
 
 pub fn is_shut(stage: Stage) -> bool
-    ensures { result ≡ whenShut stage }
+    ensures { result ≡ when_shut stage }
 {
     match stage {
         Stage::Shut => true,
@@ -26,7 +26,7 @@ pub fn is_shut(stage: Stage) -> bool
 }
 
 pub fn is_replaying(stage: Stage) -> bool
-    ensures { result ≡ whenReplaying stage }
+    ensures { result ≡ when_replaying stage }
 {
     match stage {
         Stage::Shut => false,
@@ -37,7 +37,7 @@ pub fn is_replaying(stage: Stage) -> bool
 }
 
 pub fn is_open(stage: Stage) -> bool
-    ensures { result ≡ whenOpen stage }
+    ensures { result ≡ when_open stage }
 {
     match stage {
         Stage::Shut => false,
@@ -48,7 +48,7 @@ pub fn is_open(stage: Stage) -> bool
 }
 
 pub fn is_copying(stage: Stage) -> bool
-    ensures { result ≡ whenCopying stage }
+    ensures { result ≡ when_copying stage }
 {
     match stage {
         Stage::Shut => false,
@@ -60,7 +60,7 @@ pub fn is_copying(stage: Stage) -> bool
 
 // Open or copying.
 pub fn is_serving(stage: Stage) -> bool
-    ensures { result ≡ whenServing stage }
+    ensures { result ≡ when_serving stage }
 {
     match stage {
         Stage::Shut => false,
@@ -71,7 +71,7 @@ pub fn is_serving(stage: Stage) -> bool
 }
 
 pub fn is_allowed(when: When, stage: Stage) -> bool
-    ensures { result ≡ allowedIn when stage }
+    ensures { result ≡ allowed_in when stage }
 {
     match when {
         When::Replaying => is_replaying(stage),

@@ -1,12 +1,12 @@
 // New, opened and replaying states, written out field by field.
 ghost use Rattle.std.specs.Prelude.{◌≡◌};
-ghost use Rattle.model.specs.Classes.{noClasses};
-ghost use Rattle.model.specs.State.{basesOf, noTable, noCheckpoint, noReplay, emptyLogs, newCore, openCore, replayingCore};
+ghost use Rattle.model.specs.Classes.{no_classes};
+ghost use Rattle.model.specs.State.{bases_of, no_table, no_checkpoint, no_replay, empty_logs, new_core, open_core, replaying_core};
 
 use model::{Bases, Checkpoint, Classes, Core, Logs, Replay, Sizes, Stage, Table};
 
 fn no_table() -> Table
-    ensures { result ≡ noTable }
+    ensures { result ≡ no_table }
 {
     Table {
         numbers: [0u64; 16],
@@ -18,7 +18,7 @@ fn no_table() -> Table
 }
 
 pub fn no_checkpoint() -> Checkpoint
-    ensures { result ≡ noCheckpoint }
+    ensures { result ≡ no_checkpoint }
 {
     Checkpoint {
         ends: [0u64; 8],
@@ -27,7 +27,7 @@ pub fn no_checkpoint() -> Checkpoint
 }
 
 fn no_replay() -> Replay
-    ensures { result ≡ noReplay }
+    ensures { result ≡ no_replay }
 {
     Replay {
         positions: [0u64; 8],
@@ -36,7 +36,7 @@ fn no_replay() -> Replay
 }
 
 pub fn no_classes() -> Classes
-    ensures { result ≡ noClasses }
+    ensures { result ≡ no_classes }
 {
     Classes {
         lows: [0u8; 16],
@@ -47,7 +47,7 @@ pub fn no_classes() -> Classes
 
 // Logs that start at their tails, with nothing buffered.
 fn empty_logs(tails: [u64; 8]) -> Logs
-    ensures { result ≡ emptyLogs tails }
+    ensures { result ≡ empty_logs tails }
 {
     Logs {
         starts: tails,
@@ -58,7 +58,7 @@ fn empty_logs(tails: [u64; 8]) -> Logs
 
 // A new state; also what a cut call hands back.
 pub fn new_core() -> Core
-    ensures { result ≡ newCore }
+    ensures { result ≡ new_core }
 {
     let sizes = Sizes {
         pages: 0,
@@ -87,8 +87,8 @@ pub fn new_core() -> Core
 
 // An open state with no transaction, as format and restart end leave it.
 pub fn open_core(sizes: Sizes, bases: Bases, epoch: u64, tails: [u64; 8]) -> Core
-    requires { bases ≡ basesOf sizes }
-    ensures { result ≡ openCore sizes epoch tails }
+    requires { bases ≡ bases_of sizes }
+    ensures { result ≡ open_core sizes epoch tails }
 {
     Core {
         stage: Stage::Open,
@@ -112,8 +112,8 @@ pub fn replaying_core(
     starts: [u64; 8],
     tails: [u64; 8],
 ) -> Core
-    requires { bases ≡ basesOf sizes }
-    ensures { result ≡ replayingCore sizes epoch starts tails }
+    requires { bases ≡ bases_of sizes }
+    ensures { result ≡ replaying_core sizes epoch starts tails }
 {
     Core {
         stage: Stage::Replaying,

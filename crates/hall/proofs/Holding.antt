@@ -10,15 +10,15 @@ use Rattle.model.specs.View.{core_of, body_of}
 use Rattle.lines.specs.declared.command.Command.{Command}
 use Rattle.lines.specs.declared.partial.Partial.{Partial}
 use Rattle.lines.specs.declared.tally.Tally.{Tally}
-use Rattle.lines.specs.Line.{is_empty, commandOf}
-use Rattle.lines.specs.After.{commandAfter}
-use Rattle.lines.specs.Output.{tallyText}
-use Rattle.lines.specs.Counting.{oneMore, counted}
+use Rattle.lines.specs.Line.{is_empty, command_of}
+use Rattle.lines.specs.After.{command_after}
+use Rattle.lines.specs.Output.{tally_text}
+use Rattle.lines.specs.Counting.{one_more, counted}
 use Rattle.commands.specs.declared.outcome.Done.{Done}
 use Rattle.commands.specs.Meaning.{Line, line_of, Runs}
 use Rattle.store.specs.declared.State.{State}
 use Rattle.hall.specs.declared.console.Console.{Console}
-use Rattle.hall.specs.Running.{Program, text_of, lineTaken, withRead, withTally, heading, formatting, started}
+use Rattle.hall.specs.Running.{Program, text_of, line_taken, with_read, with_tally, heading, formatting, started}
 use Rattle.hall.specs.Held.{Holds, Stands}
 
 -- a console with another fill
@@ -26,56 +26,56 @@ abbrev pub filled : Console → ℕ → Console
 filled c fill = record { state = c.state; tally = c.tally; line = c.line; partial = c.partial; begun = c.begun; fill = fill }
 
 -- more text in the buffer
-more-text : (handed front text : List ℕ) {all waiting : List ℕ} → all ≡ handed ++ front → waiting ≡ front ++ text → all ++ text ≡ handed ++ waiting
-more-text handed front text e added = rw (e, added, append_assoc)
+more_text : (handed front text : List ℕ) {all waiting : List ℕ} → all ≡ handed ++ front → waiting ≡ front ++ text → all ++ text ≡ handed ++ waiting
+more_text handed front text e added = rw (e, added, append_assoc)
 
 module _ (c : Console) (w : World) (out handed : List ℕ) (p : Program) (h : Holds c w out handed p) where
   -- a line was run
-  pub line-run : (v : World) (after : List ℕ) {command : Command} {done : Done} {tally : Tally} {line fill : ℕ} {fresh : Partial}
-      → command ≡ commandAfter c.partial []
+  pub line_run : (v : World) (after : List ℕ) {command : Command} {done : Done} {tally : Tally} {line fill : ℕ} {fresh : Partial}
+      → command ≡ command_after c.partial []
       → Runs command c.state.carried w done v
-      → line ≡ oneMore c.line
+      → line ≡ one_more c.line
       → tally ≡ counted c.tally done.outcome.answer
       → take fill after ≡ take c.fill out ++ text_of line done.outcome
-      → ((l : List ℕ) → commandAfter fresh l ≡ commandOf l)
-      → Stands (record { state = done.state; tally = tally; line = line; partial = fresh; begun = false; fill = fill }) v after handed (lineTaken p)
-  unfolding lineTaken
-  line-run v after {command} {done} {tally} {line} {fill} {fresh} asked runs numbered counts added starts =
-      let same : command ≡ commandOf p.read = asked ∙ (h.read [] ∙ ap commandOf (append-nil p.read)) in
-      let l : record { outcome = done.outcome; core = core_of done.state.carried v.work; world = body_of v } ≡ line_of (commandOf p.read) p.core p.world =
+      → ((l : List ℕ) → command_after fresh l ≡ command_of l)
+      → Stands (record { state = done.state; tally = tally; line = line; partial = fresh; begun = false; fill = fill }) v after handed (line_taken p)
+  unfolding line_taken
+  line_run v after {command} {done} {tally} {line} {fill} {fresh} asked runs numbered counts added starts =
+      let same : command ≡ command_of p.read = asked ∙ (h.read [] ∙ ap command_of (append-nil p.read)) in
+      let l : record { outcome = done.outcome; core = core_of done.state.carried v.work; world = body_of v } ≡ line_of (command_of p.read) p.core p.world =
       rw (same, h.core, h.world) at runs in
-      let shown : done.outcome ≡ (line_of (commandOf p.read) p.core p.world).outcome = ap (λ (x : Line). x.outcome) l in
+      let shown : done.outcome ≡ (line_of (command_of p.read) p.core p.world).outcome = ap (λ (x : Line). x.outcome) l in
       record {
         holds =
             record {
               core = ap (λ (x : Line). x.core) l;
               world = ap (λ (x : Line). x.world) l;
               tally = counts ∙ rw (h.tally, shown);
-              line = numbered ∙ ap oneMore h.line;
+              line = numbered ∙ ap one_more h.line;
               read = starts;
-              text = more-text handed (take c.fill out) _ h.text (rw (numbered, h.line, shown) at added);
+              text = more_text handed (take c.fill out) _ h.text (rw (numbered, h.line, shown) at added);
             };
         begun = refl;
       }
 
   -- bytes of a line were read
-  pub piece-read : (piece : List ℕ) (partial : Partial) {begun : Bool} → ((more : List ℕ) → commandAfter partial more ≡ commandAfter c.partial (piece ++ more))
-      → Holds (record { state = c.state; tally = c.tally; line = c.line; partial = partial; begun = begun; fill = c.fill }) w out handed (withRead p piece)
-  unfolding withRead
-  piece-read piece partial {begun} reads =
+  pub piece_read : (piece : List ℕ) (partial : Partial) {begun : Bool} → ((more : List ℕ) → command_after partial more ≡ command_after c.partial (piece ++ more))
+      → Holds (record { state = c.state; tally = c.tally; line = c.line; partial = partial; begun = begun; fill = c.fill }) w out handed (with_read p piece)
+  unfolding with_read
+  piece_read piece partial {begun} reads =
       record {
         core = h.core;
         world = h.world;
         tally = h.tally;
         line = h.line;
-        read = λ more. reads more ∙ (h.read (piece ++ more) ∙ ap commandOf (sym (append_assoc p.read piece more)));
+        read = λ more. reads more ∙ (h.read (piece ++ more) ∙ ap command_of (sym (append_assoc p.read piece more)));
         text = h.text;
       }
 
 -- a line of which something is read has begun
-pub has-begun : (p : Program) (piece : List ℕ) → 1 ≤ length piece → true ≡ not (is_empty (withRead p piece).read)
-unfolding withRead
-has-begun p piece some = go p.read piece some
+pub has_begun : (p : Program) (piece : List ℕ) → 1 ≤ length piece → true ≡ not (is_empty (with_read p piece).read)
+unfolding with_read
+has_begun p piece some = go p.read piece some
   where
     go : (a b : List ℕ) → 1 ≤ length b → true ≡ not (is_empty (a ++ b))
     go [] [] h = absurd (omega arith)
@@ -83,13 +83,13 @@ has-begun p piece some = go p.read piece some
     go (x ∷ a) b h = refl
 
 -- before the first line nothing is read, and the heading waits
-pub console-opened : (state : State) (w v : World) (out after : List ℕ) {fill : ℕ} {fresh : Partial}
+pub console_opened : (state : State) (w v : World) (out after : List ℕ) {fill : ℕ} {fresh : Partial}
     → (core_of state.carried v.work ≡ (formatting (body_of w)).core) × (body_of v ≡ (formatting (body_of w)).world)
     → take fill after ≡ take 0 out ++ heading
-    → ((l : List ℕ) → commandAfter fresh l ≡ commandOf l)
+    → ((l : List ℕ) → command_after fresh l ≡ command_of l)
     → Stands (record { state = state; tally = record { taken = 0; refused = 0; cut = 0 }; line = 0; partial = fresh; begun = false; fill = fill }) v after [] (started (body_of w))
 unfolding started
-console-opened state w v out after format added fresh =
+console_opened state w v out after format added fresh =
     record {
       holds = record { core = format.0; world = format.1; tally = refl; line = refl; read = fresh; text = sym added };
       begun = refl;
@@ -97,8 +97,8 @@ console-opened state w v out after format added fresh =
 
 module _ (c : Console) (w : World) (out handed : List ℕ) (p : Program) (s : Stands c w out handed p) where
   -- all that waits was handed on
-  pub all-handed : Stands (filled c 0) w out p.text p
-  all-handed =
+  pub all_handed : Stands (filled c 0) w out p.text p
+  all_handed =
       let h = s.holds in
       record {
         holds = record { core = h.core; world = h.world; tally = h.tally; line = h.line; read = h.read; text = sym (append-nil p.text) };
@@ -106,10 +106,10 @@ module _ (c : Console) (w : World) (out handed : List ℕ) (p : Program) (s : St
       }
 
   -- the tally was added
-  pub tally-added : (after : List ℕ) {fill : ℕ} → take fill after ≡ take c.fill out ++ tallyText c.tally.taken c.tally.refused c.tally.cut
-      → Stands (filled c fill) w after handed (withTally p)
-  unfolding withTally
-  tally-added after added =
+  pub tally_added : (after : List ℕ) {fill : ℕ} → take fill after ≡ take c.fill out ++ tally_text c.tally.taken c.tally.refused c.tally.cut
+      → Stands (filled c fill) w after handed (with_tally p)
+  unfolding with_tally
+  tally_added after added =
       let h = s.holds in
       record {
         holds =
@@ -119,7 +119,7 @@ module _ (c : Console) (w : World) (out handed : List ℕ) (p : Program) (s : St
               tally = h.tally;
               line = h.line;
               read = h.read;
-              text = more-text handed (take c.fill out) _ h.text (rw h.tally at added);
+              text = more_text handed (take c.fill out) _ h.text (rw h.tally at added);
             };
         begun = s.begun;
       }

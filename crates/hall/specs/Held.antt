@@ -2,8 +2,8 @@
 use Rattle.std.specs.Prelude.{◌≡◌, ℕ, List, ◌++◌, not, take}
 use Rattle.model.specs.World.{World}
 use Rattle.model.specs.View.{core_of, body_of}
-use Rattle.lines.specs.Line.{is_empty, commandOf}
-use Rattle.lines.specs.After.{commandAfter}
+use Rattle.lines.specs.Line.{is_empty, command_of}
+use Rattle.lines.specs.After.{command_after}
 use Rattle.hall.specs.declared.console.Console.{Console}
 use Rattle.hall.specs.Running.{Program}
 
@@ -14,7 +14,7 @@ pub record Holds (c : Console) (w : World) (out handed : List ℕ) (p : Program)
   pub world : body_of w ≡ p.world
   pub tally : c.tally ≡ p.tally
   pub line : c.line ≡ p.line
-  pub read : (more : List ℕ) → commandAfter c.partial more ≡ commandOf (p.read ++ more)
+  pub read : (more : List ℕ) → command_after c.partial more ≡ command_of (p.read ++ more)
   pub text : p.text ≡ handed ++ take c.fill out
 
 -- and it knows whether a line has begun

@@ -2,15 +2,15 @@
 use Rattle.std.specs.Prelude.{ℕ, List, [], ◌∷◌, ◌++◌, cond, replicate, eqb}
 use Rattle.model.specs.declared.Sizes.{Sizes}
 use Rattle.model.specs.declared.Core.{Core}
-use Rattle.model.specs.World.{World, worldOf}
-use Rattle.model.specs.State.{newCore}
+use Rattle.model.specs.World.{World, world_of}
+use Rattle.model.specs.State.{new_core}
 use Rattle.model.specs.Refusal.{Result}
 use Rattle.model.specs.Call.{format, result_of}
 use Rattle.model.specs.View.{body_of}
 use Rattle.lines.specs.declared.tally.Tally.{Tally}
-use Rattle.lines.specs.Line.{is_empty, commandOf}
-use Rattle.lines.specs.Output.{lineText, otherText, tallyText}
-use Rattle.lines.specs.Counting.{oneMore, counted}
+use Rattle.lines.specs.Line.{is_empty, command_of}
+use Rattle.lines.specs.Output.{line_text, other_text, tally_text}
+use Rattle.lines.specs.Counting.{one_more, counted}
 use Rattle.commands.specs.declared.outcome.Outcome.{Outcome}
 use Rattle.commands.specs.Meaning.{Line, line_of}
 
@@ -29,7 +29,7 @@ unfoldable pub sizes : Sizes
 sizes = record { pages = 2; disks = 2; ring = 128; slots = 4 ∷ 4 ∷ replicate 62 0; widths = 1 ∷ 1 ∷ replicate 62 0 }
 
 unfoldable pub formatting : World → Result
-formatting w = result_of (format sizes 18446744073709551615) newCore w
+formatting w = result_of (format sizes 18446744073709551615) new_core w
 
 -- "The heading shown comes first.": line answer stores value
 abbrev pub heading : List ℕ
@@ -50,13 +50,13 @@ started w =
 
 -- a line of the output
 unfoldable pub text_of : ℕ → Outcome → List ℕ
-text_of line o = cond (eqb o.answer 17) (otherText line) (lineText line o.answer o.stores o.value)
+text_of line o = cond (eqb o.answer 17) (other_text line) (line_text line o.answer o.stores o.value)
 
 -- a line that has ended is run, counted and shown under its number
-unfoldable pub lineTaken : Program → Program
-lineTaken p =
-    let l : Line = line_of (commandOf p.read) p.core p.world in
-    let number : ℕ = oneMore p.line in
+unfoldable pub line_taken : Program → Program
+line_taken p =
+    let l : Line = line_of (command_of p.read) p.core p.world in
+    let number : ℕ = one_more p.line in
     record {
       core = l.core;
       world = l.world;
@@ -67,34 +67,34 @@ lineTaken p =
     }
 
 -- bytes of a line
-unfoldable pub withRead : Program → List ℕ → Program
-withRead p bytes = record { core = p.core; world = p.world; tally = p.tally; line = p.line; read = p.read ++ bytes; text = p.text }
+unfoldable pub with_read : Program → List ℕ → Program
+with_read p bytes = record { core = p.core; world = p.world; tally = p.tally; line = p.line; read = p.read ++ bytes; text = p.text }
 
 -- The input, byte by byte: byte 10 ends a line.
 unfoldable pub fed : Program → List ℕ → Program
 fed p [] = p
-fed p (b ∷ bytes) = fed (cond (eqb b 10) (lineTaken p) (withRead p (b ∷ []))) bytes
+fed p (b ∷ bytes) = fed (cond (eqb b 10) (line_taken p) (with_read p (b ∷ []))) bytes
 
 -- At the end of the input: a last line without an end counts.
 unfoldable pub ended : Program → Program
-ended p = cond (is_empty p.read) p (lineTaken p)
+ended p = cond (is_empty p.read) p (line_taken p)
 
 -- "printed last"
-unfoldable pub withTally : Program → Program
-withTally p =
+unfoldable pub with_tally : Program → Program
+with_tally p =
     record {
       core = p.core;
       world = p.world;
       tally = p.tally;
       line = p.line;
       read = p.read;
-      text = p.text ++ tallyText p.tally.taken p.tally.refused p.tally.cut;
+      text = p.text ++ tally_text p.tally.taken p.tally.refused p.tally.cut;
     }
 
 -- the lent words at the start, as the definitions see them
 unfoldable pub zeros : World
-zeros = body_of (worldOf (replicate 148 0) (replicate 8 0) (replicate 16 0) (replicate 258 0) (replicate 481 0))
+zeros = body_of (world_of (replicate 148 0) (replicate 8 0) (replicate 16 0) (replicate 258 0) (replicate 481 0))
 
 -- All that the program puts out, by all that it reads.
-unfoldable pub outputOf : List ℕ → List ℕ
-outputOf input = (withTally (ended (fed (started zeros) input))).text
+unfoldable pub output_of : List ℕ → List ℕ
+output_of input = (with_tally (ended (fed (started zeros) input))).text

@@ -1,8 +1,8 @@
 // What the program keeps from line to line.
 ghost use Rattle.std.specs.Prelude.{◌≡◌, ℕ, ◌+◌, ◌*◌, ◌-◌, ◌≤◌, ◌<◌, List, length, drop};
-ghost use Rattle.model.specs.World.{worldOf};
-ghost use Rattle.model.specs.Moments.{old, new, oldWorld};
-ghost use Rattle.hall.specs.Running.{Program, lineTaken, fed, ended};
+ghost use Rattle.model.specs.World.{world_of};
+ghost use Rattle.model.specs.Moments.{old, new, old_world};
+ghost use Rattle.hall.specs.Running.{Program, line_taken, fed, ended};
 ghost use Rattle.hall.specs.Held.{Holds, Stands};
 
 use crate::output::add_line;
@@ -35,8 +35,8 @@ fn take_line(
 ) -> Console
     requires { console.fill + 84 ≤ length out.old }
     ensures fill_bound { result.fill ≤ console.fill + 84 }
-    ensures by_index { (handed : List ℕ) (p : Program) → Holds console (oldWorld anchor pages backups logs work) (old out) handed p
-        → Stands result (worldOf (new anchor) (new pages) (new backups) (new logs) (new work)) (new out) handed (lineTaken p) }
+    ensures by_index { (handed : List ℕ) (p : Program) → Holds console (old_world anchor pages backups logs work) (old out) handed p
+        → Stands result (world_of (new anchor) (new pages) (new backups) (new logs) (new work)) (new out) handed (line_taken p) }
 {
     let command = command_of(console.partial);
     let done = run(command, console.state, anchor, pages, backups, logs, work);
@@ -78,8 +78,8 @@ fn feed_line(
     requires at_in_bounds { at < length bytes.now }
     requires at_in_bounds_2 { console.fill + 84 * (length bytes.now - at) ≤ length out.old }
     ensures at_lt_next { (at < result.next) × (result.next ≤ length bytes.now) × (result.console.fill + 84 * (length bytes.now - result.next) ≤ length out.old) }
-    ensures by_index { (handed : List ℕ) (p : Program) → Stands console (oldWorld anchor pages backups logs work) (old out) handed p
-        → (q : Program) × Stands result.console (worldOf (new anchor) (new pages) (new backups) (new logs) (new work)) (new out) handed q
+    ensures by_index { (handed : List ℕ) (p : Program) → Stands console (old_world anchor pages backups logs work) (old out) handed p
+        → (q : Program) × Stands result.console (world_of (new anchor) (new pages) (new backups) (new logs) (new work)) (new out) handed q
         × (fed q (drop result.next (old bytes)) ≡ fed p (drop at (old bytes))) }
 {
     let n = line_length(&bytes[at..]);
@@ -114,8 +114,8 @@ pub fn feed(
 ) -> Console
     requires { console.fill + 84 * length bytes.now ≤ length out.old }
     ensures fill_in_bounds { result.fill ≤ length out.old }
-    ensures by_index { (handed : List ℕ) (p : Program) → Stands console (oldWorld anchor pages backups logs work) (old out) handed p
-        → Stands result (worldOf (new anchor) (new pages) (new backups) (new logs) (new work)) (new out) handed (fed p (old bytes)) }
+    ensures by_index { (handed : List ℕ) (p : Program) → Stands console (old_world anchor pages backups logs work) (old out) handed p
+        → Stands result (world_of (new anchor) (new pages) (new backups) (new logs) (new work)) (new out) handed (fed p (old bytes)) }
 {
     let mut c = console;
     let mut at = 0;
@@ -139,8 +139,8 @@ pub fn last_line(
 ) -> Console
     requires { console.fill + 84 ≤ length out.old }
     ensures fill_bound { result.fill ≤ console.fill + 84 }
-    ensures by_index { (handed : List ℕ) (p : Program) → Stands console (oldWorld anchor pages backups logs work) (old out) handed p
-        → Stands result (worldOf (new anchor) (new pages) (new backups) (new logs) (new work)) (new out) handed (ended p) }
+    ensures by_index { (handed : List ℕ) (p : Program) → Stands console (old_world anchor pages backups logs work) (old out) handed p
+        → Stands result (world_of (new anchor) (new pages) (new backups) (new logs) (new work)) (new out) handed (ended p) }
 {
     if console.begun {
         return take_line(console, anchor, pages, backups, logs, work, out);

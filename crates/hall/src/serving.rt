@@ -1,8 +1,8 @@
 // Reading the input, answering it, and writing the answers.
 ghost use Rattle.std.specs.Prelude.{◌≡◌, ◌⊎◌, true, false, ℕ, ◌+◌, ◌≤◌, List, length};
-ghost use Rattle.model.specs.World.{World, worldOf};
-ghost use Rattle.model.specs.Moments.{old, new, oldWorld};
-ghost use Rattle.hall.specs.Running.{Program, fed, ended, withTally};
+ghost use Rattle.model.specs.World.{World, world_of};
+ghost use Rattle.model.specs.Moments.{old, new, old_world};
+ghost use Rattle.hall.specs.Running.{Program, fed, ended, with_tally};
 ghost use Rattle.hall.specs.Held.{Stands};
 
 use crate::console::{Console, feed, last_line};
@@ -50,9 +50,9 @@ fn serve_some(
 ) -> Served
     requires { (console.fill ≡ 0) × (65520 ≤ length out.old) }
     ensures fill_value { result.console.fill ≡ 0 }
-    ensures by_index { (p : Program) → Stands console (oldWorld anchor pages backups logs work) (old out) p.text p
+    ensures by_index { (p : Program) → Stands console (old_world anchor pages backups logs work) (old out) p.text p
         → (input : List ℕ) × (length input ≡ result.got)
-        × Stands result.console (worldOf (new anchor) (new pages) (new backups) (new logs) (new work)) (new out) (fed p input).text (fed p input) }
+        × Stands result.console (world_of (new anchor) (new pages) (new backups) (new logs) (new work)) (new out) (fed p input).text (fed p input) }
 {
     let mut input = [0u8; 780];
     let answer = libc::read(STDIN_FILENO, &mut input);
@@ -89,8 +89,8 @@ fn serve(
     requires { (console.fill ≡ 0) × (65520 ≤ length out.old) }
     ensures fact { (result.got ≡ 0) ⊎ (result.failed ≡ true) }
     ensures fill_value { result.console.fill ≡ 0 }
-    ensures by_index { (p : Program) → Stands console (oldWorld anchor pages backups logs work) (old out) p.text p
-        → (input : List ℕ) × Stands result.console (worldOf (new anchor) (new pages) (new backups) (new logs) (new work)) (new out) (fed p input).text (fed p input) }
+    ensures by_index { (p : Program) → Stands console (old_world anchor pages backups logs work) (old out) p.text p
+        → (input : List ℕ) × Stands result.console (world_of (new anchor) (new pages) (new backups) (new logs) (new work)) (new out) (fed p input).text (fed p input) }
 {
     let mut c = console;
     let mut turns = u64::MAX;
@@ -118,7 +118,7 @@ fn serve(
 fn close(console: Console, out: &mut [u8]) -> Console
     requires { console.fill + 84 ≤ length out.old }
     ensures fill_in_bounds { result.fill ≤ length out.old }
-    ensures stands { (w : World) (handed : List ℕ) (p : Program) → Stands console w out.old handed p → Stands result w out.new handed (withTally p) }
+    ensures stands { (w : World) (handed : List ℕ) (p : Program) → Stands console w out.old handed p → Stands result w out.new handed (with_tally p) }
 {
     let tally = console.tally;
     let mut text = [0u8; 84];
@@ -139,9 +139,9 @@ pub fn answer_input(
 ) -> Served
     requires { (console.fill ≡ 0) × (65520 ≤ length out.old) }
     ensures fill_in_bounds { result.console.fill ≤ length out.old }
-    ensures by_index { result.failed ≡ false → (p : Program) → Stands console (oldWorld anchor pages backups logs work) (old out) p.text p
-        → (input : List ℕ) × Stands result.console (worldOf (new anchor) (new pages) (new backups) (new logs) (new work)) (new out)
-        (fed p input).text (withTally (ended (fed p input))) }
+    ensures by_index { result.failed ≡ false → (p : Program) → Stands console (old_world anchor pages backups logs work) (old out) p.text p
+        → (input : List ℕ) × Stands result.console (world_of (new anchor) (new pages) (new backups) (new logs) (new work)) (new out)
+        (fed p input).text (with_tally (ended (fed p input))) }
 {
     let served = serve(console, anchor, pages, backups, logs, work, out);
     let failed = served.failed;

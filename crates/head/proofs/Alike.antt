@@ -13,29 +13,29 @@ use Rattle.model.specs.declared.Stage.TheVariants.{Shut, Replaying, Open, Copyin
 use Rattle.model.specs.declared.Sizes.{Sizes}
 use Rattle.model.specs.declared.Core.{Core}
 use Rattle.model.specs.declared.Carried.{Carried}
-use Rattle.model.specs.Below.{sumBelow}
+use Rattle.model.specs.Below.{sum_below}
 use Rattle.model.specs.Word.{part}
-use Rattle.model.specs.Sizes.{slotsIn, width_in, pageWords, pageBase, sizesInBounds}
-use Rattle.model.specs.State.{base_of, basesRight, servingSound, checkpointSound, soundIn, sound}
-use Rattle.model.specs.Causes.{whenShut}
-use Rattle.model.specs.View.{headWords, ownWork, coreIn, core_of}
-use Rattle.model.proofs.Booleans.{true-false, both}
+use Rattle.model.specs.Sizes.{slots_in, width_in, page_words, page_base, sizes_in_bounds}
+use Rattle.model.specs.State.{base_of, bases_right, serving_sound, checkpoint_sound, sound_in, sound}
+use Rattle.model.specs.Causes.{when_shut}
+use Rattle.model.specs.View.{head_words, own_work, core_in, core_of}
+use Rattle.model.proofs.Booleans.{true_false, both}
 use Rattle.model.proofs.Bounds.{Bounded, bounded}
 use Rattle.model.proofs.KeptBases.{base_kept}
-use Rattle.model.proofs.Store.Rows.{sizes-sound, bases-sound}
-use Rattle.model.proofs.Sound.Test.{replay-bounds}
-use Rattle.model.proofs.View.Head.{HeadSized, view-sized, other-view}
-use Rattle.head.specs.Narrow.{capped, byteMost, baseMost, narrowed}
-use Rattle.head.proofs.ByLength.{shut-owns-none}
-use Rattle.head.proofs.Capped.{length-capped}
-use Rattle.head.proofs.Laying.{length-here}
+use Rattle.model.proofs.Store.Rows.{sizes_sound, bases_sound}
+use Rattle.model.proofs.Sound.Test.{replay_bounds}
+use Rattle.model.proofs.View.Head.{HeadSized, view_sized, other_view}
+use Rattle.head.specs.Narrow.{capped, byte_most, base_most, narrowed}
+use Rattle.head.proofs.ByLength.{shut_owns_none}
+use Rattle.head.proofs.Capped.{length_capped}
+use Rattle.head.proofs.Laying.{length_here}
 
 -- A list whose words fit is left as it is.
-getD-capped : (most : ℕ) (l : List ℕ) (i : ℕ) → i < length l → get_or (capped most l) i 0 ≡ min most (get_or l i 0)
+get_d_capped : (most : ℕ) (l : List ℕ) (i : ℕ) → i < length l → get_or (capped most l) i 0 ≡ min most (get_or l i 0)
 unfolding capped
-getD-capped most [] i h = absurd (omega arith)
-getD-capped most (x ∷ l) zero h = refl
-getD-capped most (x ∷ l) (suc i) h = getD-capped most l i (omega arith)
+get_d_capped most [] i h = absurd (omega arith)
+get_d_capped most (x ∷ l) zero h = refl
+get_d_capped most (x ∷ l) (suc i) h = get_d_capped most l i (omega arith)
 
 capped_same : (most : ℕ) (l : List ℕ) → ((i : ℕ) → i < length l → get_or l i 0 ≤ most) → capped most l ≡ l
 unfolding capped
@@ -46,22 +46,22 @@ capped_same most (x ∷ l) h =
 
 -- What bounds say of any page of the 64.
 module _ (s : Sizes) (b : Bounded s) where
-  entry-small : (page : ℕ) → page < 64 → (slotsIn s page ≤ 128) × (width_in s page ≤ 128) × (pageWords s page ≤ 128)
-  unfolding pageWords
-  entry-small page h = go (ltb page s.pages) refl
+  entry_small : (page : ℕ) → page < 64 → (slots_in s page ≤ 128) × (width_in s page ≤ 128) × (page_words s page ≤ 128)
+  unfolding page_words
+  entry_small page h = go (ltb page s.pages) refl
     where
-      go : (used : Bool) → ltb page s.pages ≡ used → (slotsIn s page ≤ 128) × (width_in s page ≤ 128) × (slotsIn s page * width_in s page ≤ 128)
+      go : (used : Bool) → ltb page s.pages ≡ used → (slots_in s page ≤ 128) × (width_in s page ≤ 128) × (slots_in s page * width_in s page ≤ 128)
       go true e =
           let u = b.used page (ltb-true page s.pages e) in
-          (u.slots-max, omega (arith, u.width-max), u.words-max)
+          (u.slots_max, omega (arith, u.width_max), u.words_max)
       go false e =
           let z = b.unused page (ltb-false page s.pages e) h in
           (omega (arith, z.0), omega (arith, z.1), rw (z.0, z.1) (omega arith))
 
-  base-small : (page : ℕ) → page ≤ 64 → pageBase s page ≤ 128 * page
-  unfolding pageBase sumBelow
-  base-small zero h = omega arith
-  base-small (suc n) h = omega (arith, base-small n (omega arith), (entry-small n (omega arith)).2)
+  base_small : (page : ℕ) → page ≤ 64 → page_base s page ≤ 128 * page
+  unfolding page_base sum_below
+  base_small zero h = omega arith
+  base_small (suc n) h = omega (arith, base_small n (omega arith), (entry_small n (omega arith)).2)
 
 -- The words of a state that fit.
 record Small (c : Core) : Type 0 where
@@ -69,94 +69,94 @@ record Small (c : Core) : Type 0 where
   widths : (i : ℕ) → i < 64 → get_or c.sizes.widths i 0 ≤ 128
   bases : (i : ℕ) → i < 64 → get_or c.bases.pages i 0 ≤ 8192
 
-sound-parts : (c : Core) → whenShut c.stage ≡ false → sound c ≡ true → (sizesInBounds c.sizes ≡ true) × (basesRight c ≡ true)
+sound_parts : (c : Core) → when_shut c.stage ≡ false → sound c ≡ true → (sizes_in_bounds c.sizes ≡ true) × (bases_right c ≡ true)
 unfolding sound
-sound-parts c = go c.stage
+sound_parts c = go c.stage
   where
-    serving : servingSound c ≡ true → (sizesInBounds c.sizes ≡ true) × (basesRight c ≡ true)
-    serving e = (sizes-sound c e, bases-sound c e)
+    serving : serving_sound c ≡ true → (sizes_in_bounds c.sizes ≡ true) × (bases_right c ≡ true)
+    serving e = (sizes_sound c e, bases_sound c e)
 
-    go : (s : Stage) → whenShut s ≡ false → soundIn s c ≡ true → (sizesInBounds c.sizes ≡ true) × (basesRight c ≡ true)
-    go Shut stage e = true-false refl stage
-    go Replaying stage e = ((replay-bounds c e).bounds, (replay-bounds c e).bases)
+    go : (s : Stage) → when_shut s ≡ false → sound_in s c ≡ true → (sizes_in_bounds c.sizes ≡ true) × (bases_right c ≡ true)
+    go Shut stage e = true_false refl stage
+    go Replaying stage e = ((replay_bounds c e).bounds, (replay_bounds c e).bases)
     go Open stage e = serving e
-    go Copying stage e = serving (both (servingSound c) (checkpointSound c) e).0
+    go Copying stage e = serving (both (serving_sound c) (checkpoint_sound c) e).0
 
-sound-small : (c : Core) → whenShut c.stage ≡ false → sound c ≡ true → Small c
-unfolding slotsIn width_in base_of
-sound-small c stage e =
-    let parts = sound-parts c stage e in
+sound_small : (c : Core) → when_shut c.stage ≡ false → sound c ≡ true → Small c
+unfolding slots_in width_in base_of
+sound_small c stage e =
+    let parts = sound_parts c stage e in
     let b = bounded c.sizes parts.0 in
     record {
-      slots = λ i h. (entry-small c.sizes b i h).0;
-      widths = λ i h. (entry-small c.sizes b i h).1;
-      bases = λ i h. omega (arith, base_kept c parts.1 i h, base-small c.sizes b i (omega arith));
+      slots = λ i h. (entry_small c.sizes b i h).0;
+      widths = λ i h. (entry_small c.sizes b i h).1;
+      bases = λ i h. omega (arith, base_kept c parts.1 i h, base_small c.sizes b i (omega arith));
     }
 
 module _ (c : Core) (sized : HeadSized c) where
-  slots-long : length c.sizes.slots ≡ 64
-  slots-long = length-here c sized 0
+  slots_long : length c.sizes.slots ≡ 64
+  slots_long = length_here c sized 0
 
-  widths-long : length c.sizes.widths ≡ 64
-  widths-long = length-here c sized 1
+  widths_long : length c.sizes.widths ≡ 64
+  widths_long = length_here c sized 1
 
-  bases-long : length c.bases.pages ≡ 64
-  bases-long = length-here c sized 2
+  bases_long : length c.bases.pages ≡ 64
+  bases_long = length_here c sized 2
 
   small_same : Small c → narrowed c ≡ c
   unfolding narrowed
   small_same s =
       rw (
-        capped_same byteMost c.sizes.slots (λ i h. omega (arith, s.slots i (omega (arith, h, slots-long)))),
-        capped_same byteMost c.sizes.widths (λ i h. omega (arith, s.widths i (omega (arith, h, widths-long)))),
-        capped_same baseMost c.bases.pages (λ i h. omega (arith, s.bases i (omega (arith, h, bases-long)))),
+        capped_same byte_most c.sizes.slots (λ i h. omega (arith, s.slots i (omega (arith, h, slots_long)))),
+        capped_same byte_most c.sizes.widths (λ i h. omega (arith, s.widths i (omega (arith, h, widths_long)))),
+        capped_same base_most c.bases.pages (λ i h. omega (arith, s.bases i (omega (arith, h, bases_long)))),
       ) refl
 
   -- what is small after it was narrowed was small
-  small-before : Small (narrowed c) → Small c
+  small_before : Small (narrowed c) → Small c
   unfolding narrowed
-  small-before s =
+  small_before s =
       record {
-        slots = λ i h. omega (arith, s.slots i h, getD-capped byteMost c.sizes.slots i (omega (arith, h, slots-long)));
-        widths = λ i h. omega (arith, s.widths i h, getD-capped byteMost c.sizes.widths i (omega (arith, h, widths-long)));
-        bases = λ i h. omega (arith, s.bases i h, getD-capped baseMost c.bases.pages i (omega (arith, h, bases-long)));
+        slots = λ i h. omega (arith, s.slots i h, get_d_capped byte_most c.sizes.slots i (omega (arith, h, slots_long)));
+        widths = λ i h. omega (arith, s.widths i h, get_d_capped byte_most c.sizes.widths i (omega (arith, h, widths_long)));
+        bases = λ i h. omega (arith, s.bases i h, get_d_capped base_most c.bases.pages i (omega (arith, h, bases_long)));
       }
 
-  pub narrowed-sized : HeadSized (narrowed c)
+  pub narrowed_sized : HeadSized (narrowed c)
   unfolding HeadSized narrowed
-  narrowed-sized = simp length-capped sized
+  narrowed_sized = simp length_capped sized
 
-  sound-same : whenShut c.stage ≡ false → sound c ≡ true → narrowed c ≡ c
-  sound-same stage e = small_same (sound-small c stage e)
+  sound_same : when_shut c.stage ≡ false → sound c ≡ true → narrowed c ≡ c
+  sound_same stage e = small_same (sound_small c stage e)
 
-  unsound-alike : whenShut c.stage ≡ false → sound c ≡ false → sound (narrowed c) ≡ false
+  unsound_alike : when_shut c.stage ≡ false → sound c ≡ false → sound (narrowed c) ≡ false
   unfolding narrowed
-  unsound-alike stage e = go (sound (narrowed c)) refl
+  unsound_alike stage e = go (sound (narrowed c)) refl
     where
       go : (b : Bool) → sound (narrowed c) ≡ b → b ≡ false
-      go true f = true-false (ap sound (sym (small_same (small-before (sound-small (narrowed c) stage f)))) ∙ f) e
+      go true f = true_false (ap sound (sym (small_same (small_before (sound_small (narrowed c) stage f)))) ∙ f) e
       go false f = refl
 
 -- A shut state has a head of zeros.
-shut-same : (h : Carried) (work : List ℕ) → whenShut h.stage ≡ true → narrowed (core_of h work) ≡ core_of h work
+shut_same : (h : Carried) (work : List ℕ) → when_shut h.stage ≡ true → narrowed (core_of h work) ≡ core_of h work
 unfolding narrowed capped part
-shut-same h work e =
-    let zeros : core_of h work ≡ coreIn h (replicate headWords 0) = other-view h work (sym (shut-owns-none h work e)) in
+shut_same h work e =
+    let zeros : core_of h work ≡ core_in h (replicate head_words 0) = other_view h work (sym (shut_owns_none h work e)) in
     rw zeros refl
 
 -- The view, narrowed: it is the view, or both are unsound and not shut.
 pub data Alike (c : Core) : Type 0 where
   same : narrowed c ≡ c → Alike c
-  unsound : whenShut c.stage ≡ false → sound c ≡ false → sound (narrowed c) ≡ false → Alike c
+  unsound : when_shut c.stage ≡ false → sound c ≡ false → sound (narrowed c) ≡ false → Alike c
 
-pub view-alike : (h : Carried) (work : List ℕ) → Alike (core_of h work)
+pub view_alike : (h : Carried) (work : List ℕ) → Alike (core_of h work)
 unfolding core_of
-view-alike h work = go (whenShut h.stage) refl (sound (core_of h work)) refl
+view_alike h work = go (when_shut h.stage) refl (sound (core_of h work)) refl
   where
     sized : HeadSized (core_of h work)
-    sized = view-sized h work
+    sized = view_sized h work
 
-    go : (b : Bool) → whenShut h.stage ≡ b → (t : Bool) → sound (core_of h work) ≡ t → Alike (core_of h work)
-    go true e t f = same (shut-same h work e)
-    go false e true f = same (sound-same (core_of h work) sized e f)
-    go false e false f = unsound e f (unsound-alike (core_of h work) sized e f)
+    go : (b : Bool) → when_shut h.stage ≡ b → (t : Bool) → sound (core_of h work) ≡ t → Alike (core_of h work)
+    go true e t f = same (shut_same h work e)
+    go false e true f = same (sound_same (core_of h work) sized e f)
+    go false e false f = unsound e f (unsound_alike (core_of h work) sized e f)

@@ -7,9 +7,9 @@ use lib.Dec.{eqb}
 use lib.ListN.{length}
 use borrow.Author.Tests.{eqb-true, eqb-false, eq-eqb, ne_eqb}
 use Rattle.model.specs.declared.Carried.{Carried}
-use Rattle.model.specs.Memory.{bufferAt, copy_at, ownerAt, workWords}
-use Rattle.model.specs.Causes.{whenShut}
-use Rattle.model.specs.View.{headWords, ownWork}
+use Rattle.model.specs.Memory.{buffer_at, copy_at, owner_at, work_words}
+use Rattle.model.specs.Causes.{when_shut}
+use Rattle.model.specs.View.{head_words, own_work}
 
 -- two tests of numbers are one
 pub eqb_same : (a b m n : ℕ) → (a ≡ b → m ≡ n) → (m ≡ n → a ≡ b) → eqb a b ≡ eqb m n
@@ -24,19 +24,19 @@ and-false true = refl
 and-false false = refl
 
 -- the length that a state's own work memory has
-abbrev pub ownLength : Carried → ℕ
-ownLength h = headWords + (64 * h.disks + 64 + h.total)
+abbrev pub own_length : Carried → ℕ
+own_length h = head_words + (64 * h.disks + 64 + h.total)
 
 module _ (h : Carried) (work : List ℕ) where
-  by-numbers : ownWork h work ≡ not (whenShut h.stage) && eqb (length work) (ownLength h)
-  unfolding ownWork workWords ownerAt copy_at bufferAt
-  by-numbers = refl
+  by_numbers : own_work h work ≡ not (when_shut h.stage) && eqb (length work) (own_length h)
+  unfolding own_work work_words owner_at copy_at buffer_at
+  by_numbers = refl
 
-  pub shut-owns-none : whenShut h.stage ≡ true → false ≡ ownWork h work
-  shut-owns-none e = rw (by-numbers, e) refl
+  pub shut_owns_none : when_shut h.stage ≡ true → false ≡ own_work h work
+  shut_owns_none e = rw (by_numbers, e) refl
 
-  pub other_length : (length work ≡ ownLength h → ⊥) → false ≡ ownWork h work
-  other_length n = rw (by-numbers, ne_eqb (length work) (ownLength h) n) (sym (and-false (not (whenShut h.stage))))
+  pub other_length : (length work ≡ own_length h → ⊥) → false ≡ own_work h work
+  other_length n = rw (by_numbers, ne_eqb (length work) (own_length h) n) (sym (and-false (not (when_shut h.stage))))
 
-  pub by_length : whenShut h.stage ≡ false → eqb (length work) (ownLength h) ≡ ownWork h work
-  by_length e = rw (by-numbers, e) refl
+  pub by_length : when_shut h.stage ≡ false → eqb (length work) (own_length h) ≡ own_work h work
+  by_length e = rw (by_numbers, e) refl

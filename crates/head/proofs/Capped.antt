@@ -8,38 +8,38 @@ use lib.ListN.{length, get_or, set, length-map}
 use lib.Seq.{sets, take-length}
 use Rattle.model.specs.Word.{part}
 use Rattle.model.proofs.Parts.{length_part}
-use Rattle.words.proofs.Laws.{sets_more, sets-whole, part-more, copy_more}
+use Rattle.words.proofs.Laws.{sets_more, sets_whole, part_more, copy_more}
 use Rattle.head.specs.Narrow.{capped}
 
-pub length-capped : (most : ℕ) (l : List ℕ) → length (capped most l) ≡ length l
+pub length_capped : (most : ℕ) (l : List ℕ) → length (capped most l) ≡ length l
 unfolding capped
-length-capped most l = length-map l (min most)
+length_capped most l = length-map l (min most)
 
-capped-snoc : (most : ℕ) (l : List ℕ) (x : ℕ) → capped most (l ++ (x ∷ [])) ≡ capped most l ++ (min most x ∷ [])
+capped_snoc : (most : ℕ) (l : List ℕ) (x : ℕ) → capped most (l ++ (x ∷ [])) ≡ capped most l ++ (min most x ∷ [])
 unfolding capped
-capped-snoc most [] x = refl
-capped-snoc most (y ∷ l) x = ap (λ (r : List ℕ). min most y ∷ r) (capped-snoc most l x)
+capped_snoc most [] x = refl
+capped_snoc most (y ∷ l) x = ap (λ (r : List ℕ). min most y ∷ r) (capped_snoc most l x)
 
 -- Turns of the loop; i is the number of words done.
 module _ (most : ℕ) (out source : List ℕ) (at : ℕ) where
-  pub capped-none : out ≡ sets out 0 (capped most (part at 0 source))
+  pub capped_none : out ≡ sets out 0 (capped most (part at 0 source))
   unfolding capped part
-  capped-none = refl
+  capped_none = refl
 
-  pub capped-more : (i v : ℕ) → at + i < length source → v ≡ min most (get_or source (at + i) 0)
+  pub capped_more : (i v : ℕ) → at + i < length source → v ≡ min most (get_or source (at + i) 0)
       → set (sets out 0 (capped most (part at i source))) i v ≡ sets out 0 (capped most (part at (i + 1) source))
-  capped-more i v h e =
-      let long : length (capped most (part at i source)) ≡ i = length-capped most (part at i source) ∙ length_part at i source (omega arith) in
+  capped_more i v h e =
+      let long : length (capped most (part at i source)) ≡ i = length_capped most (part at i source) ∙ length_part at i source (omega arith) in
       let grown : capped most (part at i source) ++ (v ∷ []) ≡ capped most (part at (i + 1) source) =
-      ap (λ (x : ℕ). capped most (part at i source) ++ (x ∷ [])) e ∙ sym (capped-snoc most (part at i source) (get_or source (at + i) 0))
-      ∙ ap (capped most) (sym (part-more at i source h)) in
+      ap (λ (x : ℕ). capped most (part at i source) ++ (x ∷ [])) e ∙ sym (capped_snoc most (part at i source) (get_or source (at + i) 0))
+      ∙ ap (capped most) (sym (part_more at i source h)) in
       ap (λ (k : ℕ). set (sets out 0 (capped most (part at i source))) k v) (sym (zero-add i))
       ∙ sets_more out 0 (capped most (part at i source)) v i long ∙ ap (sets out 0) grown
 
-  pub capped-whole : (n : ℕ) → at + n ≤ length source → length out ≡ n
+  pub capped_whole : (n : ℕ) → at + n ≤ length source → length out ≡ n
       → sets out 0 (capped most (part at n source)) ≡ capped most (part at n source)
-  capped-whole n fits e =
-      sets-whole out (capped most (part at n source)) (e ∙ sym (length-capped most (part at n source) ∙ length_part at n source fits))
+  capped_whole n fits e =
+      sets_whole out (capped most (part at n source)) (e ∙ sym (length_capped most (part at n source) ∙ length_part at n source fits))
 
 -- A list laid into the head from its first word on.
 module _ (out : List ℕ) (at : ℕ) (source : List ℕ) where
@@ -51,6 +51,6 @@ module _ (out : List ℕ) (at : ℕ) (source : List ℕ) where
   laid_more i h =
       ap (λ (k : ℕ). set (sets out at (part 0 i source)) (at + i) (get_or source k 0)) (sym (zero-add i)) ∙ copy_more out at source 0 i (omega arith)
 
-  pub laid-whole : (n : ℕ) → n ≡ length source → sets out at (part 0 n source) ≡ sets out at source
+  pub laid_whole : (n : ℕ) → n ≡ length source → sets out at (part 0 n source) ≡ sets out at source
   unfolding part
-  laid-whole n e = rw (e, take-length)
+  laid_whole n e = rw (e, take-length)

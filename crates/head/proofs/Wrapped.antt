@@ -12,45 +12,45 @@ use Rattle.model.specs.declared.Sizes.{Sizes}
 use Rattle.model.specs.declared.Core.{Core}
 use Rattle.model.specs.declared.Carried.{Carried}
 use Rattle.model.specs.declared.Reply.{Reply}
-use Rattle.model.specs.Sizes.{diskAt, logWords, countsInBounds}
+use Rattle.model.specs.Sizes.{disk_at, log_words, counts_in_bounds}
 use Rattle.model.specs.World.{World}
-use Rattle.model.specs.Memory.{bufferAt, copy_at, ownerAt, workWords, lengthsRight}
-use Rattle.model.specs.State.{newCore, sound}
+use Rattle.model.specs.Memory.{buffer_at, copy_at, owner_at, work_words, lengths_right}
+use Rattle.model.specs.State.{new_core, sound}
 use Rattle.model.specs.Refusal.{Row, row, accepted, rejected, verdict, Result}
-use Rattle.model.specs.Causes.{whenShut, whenReplaying, whenOpen, whenCopying, whenServing, stageForbids, anchorWrong, lengthsWrong}
-use Rattle.model.specs.Reads.{countsFit, fitsOn}
-use Rattle.model.specs.Format.{formatRows}
-use Rattle.model.specs.Checkpoint.{checkpointBeginRows, checkpointStepRows, checkpointEndRows}
-use Rattle.model.specs.Restart.{restartBeginRows, restartStepRows, restartEndRows}
-use Rattle.model.specs.Answers.{stagesOf}
-use Rattle.model.specs.Call.{Call, format, begin, update, look, commit, abort, setClasses, checkpointBegin, checkpointStep, checkpointEnd, restartBegin, restartStep, restartRun, restartEnd, newState, rows_of, task_of, budgetOf, result_of, Gives}
-use Rattle.model.specs.View.{headWords, core_of, carried_of, body_of, behind, headAfter, givenBy, given, Serves}
-use Rattle.model.proofs.Booleans.{true-false}
-use Rattle.model.proofs.Verdict.{refused-leaves}
-use Rattle.model.proofs.Store.Cases.{call-cases}
-use Rattle.model.proofs.View.Head.{HeadSized, view-sized}
+use Rattle.model.specs.Causes.{when_shut, when_replaying, when_open, when_copying, when_serving, stage_forbids, anchor_wrong, lengths_wrong}
+use Rattle.model.specs.Reads.{counts_fit, fits_on}
+use Rattle.model.specs.Format.{format_rows}
+use Rattle.model.specs.Checkpoint.{checkpoint_begin_rows, checkpoint_step_rows, checkpoint_end_rows}
+use Rattle.model.specs.Restart.{restart_begin_rows, restart_step_rows, restart_end_rows}
+use Rattle.model.specs.Answers.{stages_of}
+use Rattle.model.specs.Call.{Call, format, begin, update, look, commit, abort, set_classes, checkpoint_begin, checkpoint_step, checkpoint_end, restart_begin, restart_step, restart_run, restart_end, new_state, rows_of, task_of, budget_of, result_of, Gives}
+use Rattle.model.specs.View.{head_words, core_of, carried_of, body_of, behind, head_after, given_by, given, Serves}
+use Rattle.model.proofs.Booleans.{true_false}
+use Rattle.model.proofs.Verdict.{refused_leaves}
+use Rattle.model.proofs.Store.Cases.{call_cases}
+use Rattle.model.proofs.View.Head.{HeadSized, view_sized}
 use Rattle.model.proofs.View.Seen.{Fits}
-use Rattle.model.proofs.View.Served.{Shuts, shuts-state, call_fits}
+use Rattle.model.proofs.View.Served.{Shuts, shuts_state, call_fits}
 use Rattle.head.specs.Narrow.{narrowed}
 use Rattle.head.specs.Saves.{saves}
-use Rattle.head.proofs.Alike.{Alike, same, unsound, view-alike, narrowed-sized}
+use Rattle.head.proofs.Alike.{Alike, same, unsound, view_alike, narrowed_sized}
 
-abbrev pub takesState : Call → Bool
-takesState (format s budget) = true
-takesState (begin class) = false
-takesState (update number page slot value budget) = false
-takesState (look q) = false
-takesState (commit number budget) = false
-takesState (abort number budget) = false
-takesState (setClasses lines) = false
-takesState checkpointBegin = true
-takesState (checkpointStep budget) = true
-takesState (checkpointEnd budget) = true
-takesState restartBegin = true
-takesState (restartStep source) = true
-takesState (restartRun source most) = true
-takesState (restartEnd budget) = true
-takesState newState = false
+abbrev pub takes_state : Call → Bool
+takes_state (format s budget) = true
+takes_state (begin class) = false
+takes_state (update number page slot value budget) = false
+takes_state (look q) = false
+takes_state (commit number budget) = false
+takes_state (abort number budget) = false
+takes_state (set_classes lines) = false
+takes_state checkpoint_begin = true
+takes_state (checkpoint_step budget) = true
+takes_state (checkpoint_end budget) = true
+takes_state restart_begin = true
+takes_state (restart_step source) = true
+takes_state (restart_run source most) = true
+takes_state (restart_end budget) = true
+takes_state new_state = false
 
 -- An unsound state is refused for itself; but where the counts fit and the lengths are wrong, for the anchor or the lengths.
 front : (a f n l : Bool) (rest : List Row)
@@ -62,100 +62,100 @@ front true true n false rest = refl
 front true true true true rest = refl
 front true true false true rest = refl
 
-abbrev frontNumber : (Stage → Bool) → Core → World → ℕ
-frontNumber allowed c w =
-    cond (allowed c.stage && (countsFit c && lengthsWrong c.sizes c.bases.total w)) (cond (anchorWrong w.anchor) 2 5) 1
+abbrev front_number : (Stage → Bool) → Core → World → ℕ
+front_number allowed c w =
+    cond (allowed c.stage && (counts_fit c && lengths_wrong c.sizes c.bases.total w)) (cond (anchor_wrong w.anchor) 2 5) 1
 
-unsound-front : (allowed : Stage → Bool) (c : Core) (w : World) (rest : List Row) → sound c ≡ false
-    → verdict (row 1 (stageForbids allowed (fitsOn (sound c) c w) c) ∷ row 2 (anchorWrong w.anchor) ∷ row 5 (lengthsWrong c.sizes c.bases.total w) ∷ rest)
-    ≡ rejected (frontNumber allowed c w) 0 0
-unfolding stageForbids fitsOn
-unsound-front allowed c w rest e =
-    rw e (front (allowed c.stage) (countsFit c) (anchorWrong w.anchor) (lengthsWrong c.sizes c.bases.total w) rest)
+unsound_front : (allowed : Stage → Bool) (c : Core) (w : World) (rest : List Row) → sound c ≡ false
+    → verdict (row 1 (stage_forbids allowed (fits_on (sound c) c w) c) ∷ row 2 (anchor_wrong w.anchor) ∷ row 5 (lengths_wrong c.sizes c.bases.total w) ∷ rest)
+    ≡ rejected (front_number allowed c w) 0 0
+unfolding stage_forbids fits_on
+unsound_front allowed c w rest e =
+    rw e (front (allowed c.stage) (counts_fit c) (anchor_wrong w.anchor) (lengths_wrong c.sizes c.bases.total w) rest)
 
-shut-front : (c : Core) (w : World) (rest : List Row) → whenShut c.stage ≡ false
-    → verdict (row 1 (stageForbids whenShut true c) ∷ rest) ≡ rejected (frontNumber whenShut c w) 0 0
-unfolding stageForbids verdict
-shut-front c w rest e = rw e refl
+shut_front : (c : Core) (w : World) (rest : List Row) → when_shut c.stage ≡ false
+    → verdict (row 1 (stage_forbids when_shut true c) ∷ rest) ≡ rejected (front_number when_shut c w) 0 0
+unfolding stage_forbids verdict
+shut_front c w rest e = rw e refl
 
-unsound-refused : (k : Call) → takesState k ≡ true → (c : Core) (w : World) → whenShut c.stage ≡ false → sound c ≡ false
-    → verdict (rows_of k c w) ≡ rejected (frontNumber (stagesOf k) c w) 0 0
-unfolding formatRows checkpointBeginRows checkpointStepRows checkpointEndRows restartBeginRows restartStepRows restartEndRows
-unsound-refused (format s budget) t c w stage e = shut-front c w _ stage
-unsound-refused (begin class) t c w stage e = true-false refl (sym t)
-unsound-refused (update number page slot value budget) t c w stage e = true-false refl (sym t)
-unsound-refused (look q) t c w stage e = true-false refl (sym t)
-unsound-refused (commit number budget) t c w stage e = true-false refl (sym t)
-unsound-refused (abort number budget) t c w stage e = true-false refl (sym t)
-unsound-refused (setClasses lines) t c w stage e = true-false refl (sym t)
-unsound-refused checkpointBegin t c w stage e = unsound-front whenOpen c w _ e
-unsound-refused (checkpointStep budget) t c w stage e = unsound-front whenCopying c w _ e
-unsound-refused (checkpointEnd budget) t c w stage e = unsound-front whenCopying c w _ e
-unsound-refused restartBegin t c w stage e = shut-front c w _ stage
-unsound-refused (restartStep source) t c w stage e = unsound-front whenReplaying c w _ e
-unsound-refused (restartRun source most) t c w stage e = unsound-front whenReplaying c w _ e
-unsound-refused (restartEnd budget) t c w stage e = unsound-front whenReplaying c w _ e
-unsound-refused newState t c w stage e = true-false refl (sym t)
+unsound_refused : (k : Call) → takes_state k ≡ true → (c : Core) (w : World) → when_shut c.stage ≡ false → sound c ≡ false
+    → verdict (rows_of k c w) ≡ rejected (front_number (stages_of k) c w) 0 0
+unfolding format_rows checkpoint_begin_rows checkpoint_step_rows checkpoint_end_rows restart_begin_rows restart_step_rows restart_end_rows
+unsound_refused (format s budget) t c w stage e = shut_front c w _ stage
+unsound_refused (begin class) t c w stage e = true_false refl (sym t)
+unsound_refused (update number page slot value budget) t c w stage e = true_false refl (sym t)
+unsound_refused (look q) t c w stage e = true_false refl (sym t)
+unsound_refused (commit number budget) t c w stage e = true_false refl (sym t)
+unsound_refused (abort number budget) t c w stage e = true_false refl (sym t)
+unsound_refused (set_classes lines) t c w stage e = true_false refl (sym t)
+unsound_refused checkpoint_begin t c w stage e = unsound_front when_open c w _ e
+unsound_refused (checkpoint_step budget) t c w stage e = unsound_front when_copying c w _ e
+unsound_refused (checkpoint_end budget) t c w stage e = unsound_front when_copying c w _ e
+unsound_refused restart_begin t c w stage e = shut_front c w _ stage
+unsound_refused (restart_step source) t c w stage e = unsound_front when_replaying c w _ e
+unsound_refused (restart_run source most) t c w stage e = unsound_front when_replaying c w _ e
+unsound_refused (restart_end budget) t c w stage e = unsound_front when_replaying c w _ e
+unsound_refused new_state t c w stage e = true_false refl (sym t)
 
-alike-number : (allowed : Stage → Bool) (c : Core) (w : World) → frontNumber allowed (narrowed c) w ≡ frontNumber allowed c w
-unfolding narrowed countsFit countsInBounds lengthsWrong lengthsRight logWords diskAt workWords ownerAt copy_at bufferAt
-alike-number allowed c w = refl
+alike_number : (allowed : Stage → Bool) (c : Core) (w : World) → front_number allowed (narrowed c) w ≡ front_number allowed c w
+unfolding narrowed counts_fit counts_in_bounds lengths_wrong lengths_right log_words disk_at work_words owner_at copy_at buffer_at
+alike_number allowed c w = refl
 
-refused-alike : (k : Call) → takesState k ≡ true → (c : Core) (w : World) (work : List ℕ) → whenShut c.stage ≡ false → sound c ≡ false
-    → sound (narrowed c) ≡ false → givenBy (result_of k (narrowed c) w) work ≡ givenBy (result_of k c w) work
+refused_alike : (k : Call) → takes_state k ≡ true → (c : Core) (w : World) (work : List ℕ) → when_shut c.stage ≡ false → sound c ≡ false
+    → sound (narrowed c) ≡ false → given_by (result_of k (narrowed c) w) work ≡ given_by (result_of k c w) work
 unfolding narrowed
-refused-alike k t c w work stage e f =
-    let n : ℕ = frontNumber (stagesOf k) c w in
+refused_alike k t c w work stage e f =
+    let n : ℕ = front_number (stages_of k) c w in
     let one : verdict (rows_of k (narrowed c) w) ≡ rejected n 0 0 =
-    unsound-refused k t (narrowed c) w stage f ∙ ap (λ (x : ℕ). rejected x 0 0) (alike-number (stagesOf k) c w) in
-    ap (λ (r : Result). givenBy r work) (refused-leaves k (narrowed c) w n 0 0 one)
-    ∙ sym (ap (λ (r : Result). givenBy r work) (refused-leaves k c w n 0 0 (unsound-refused k t c w stage e)))
+    unsound_refused k t (narrowed c) w stage f ∙ ap (λ (x : ℕ). rejected x 0 0) (alike_number (stages_of k) c w) in
+    ap (λ (r : Result). given_by r work) (refused_leaves k (narrowed c) w n 0 0 one)
+    ∙ sym (ap (λ (r : Result). given_by r work) (refused_leaves k c w n 0 0 (unsound_refused k t c w stage e)))
 
 -- On the narrowed view such a call gives what it gives on the view.
-narrowed-given : (k : Call) → takesState k ≡ true → (h : Carried) (w : World)
-    → givenBy (result_of k (narrowed (core_of h w.work)) (body_of w)) w.work ≡ given k h w
+narrowed_given : (k : Call) → takes_state k ≡ true → (h : Carried) (w : World)
+    → given_by (result_of k (narrowed (core_of h w.work)) (body_of w)) w.work ≡ given k h w
 unfolding given
-narrowed-given k t h w = go (view-alike h w.work)
+narrowed_given k t h w = go (view_alike h w.work)
   where
     c : Core
     c = core_of h w.work
 
-    go : Alike c → givenBy (result_of k (narrowed c) (body_of w)) w.work ≡ givenBy (result_of k c (body_of w)) w.work
-    go (same e) = ap (λ (x : Core). givenBy (result_of k x (body_of w)) w.work) e
-    go (unsound stage e f) = refused-alike k t c (body_of w) w.work stage e f
+    go : Alike c → given_by (result_of k (narrowed c) (body_of w)) w.work ≡ given_by (result_of k c (body_of w)) w.work
+    go (same e) = ap (λ (x : Core). given_by (result_of k x (body_of w)) w.work) e
+    go (unsound stage e f) = refused_alike k t c (body_of w) w.work stage e f
 
 -- Where a head is saved, there is room for it.
-body-rest : (w : World) → length (body_of w).work ≡ length w.work - headWords
+body_rest : (w : World) → length (body_of w).work ≡ length w.work - head_words
 unfolding body_of
-body-rest w = length-drop headWords w.work
+body_rest w = length-drop head_words w.work
 
-work-some : (s : Sizes) (t : ℕ) → 0 < workWords s t
-unfolding workWords ownerAt copy_at
-work-some s t = omega arith
+work_some : (s : Sizes) (t : ℕ) → 0 < work_words s t
+unfolding work_words owner_at copy_at
+work_some s t = omega arith
 
-saves-room : (k : Call) (c : Core) (w : World) → HeadSized c → (reply : Reply) (left : ℕ) (exit : World) → Gives k c (body_of w) reply left exit
-    → saves reply.answer reply.core.stage ≡ true → headWords ≤ length w.work
-unfolding Gives newCore
-saves-room k c w sized reply left exit g =
-    subst Roomy (sym g) (call-cases Roomy k c (body_of w) (λ number first second v e. true-false refl (sym e)) (λ v f. finished (call_fits k c (body_of w) sized v)) (λ v f e. true-false refl (sym e)))
+saves_room : (k : Call) (c : Core) (w : World) → HeadSized c → (reply : Reply) (left : ℕ) (exit : World) → Gives k c (body_of w) reply left exit
+    → saves reply.answer reply.core.stage ≡ true → head_words ≤ length w.work
+unfolding Gives new_core
+saves_room k c w sized reply left exit g =
+    subst Roomy (sym g) (call_cases Roomy k c (body_of w) (λ number first second v e. true_false refl (sym e)) (λ v f. finished (call_fits k c (body_of w) sized v)) (λ v f e. true_false refl (sym e)))
   where
     Roomy : Result → Type 0
-    Roomy r = saves r.answer r.core.stage ≡ true → headWords ≤ length w.work
+    Roomy r = saves r.answer r.core.stage ≡ true → head_words ≤ length w.work
 
-    finished : Fits (task_of k c (body_of w)).core (body_of w).work ⊎ Shuts k c → not (whenShut (task_of k c (body_of w)).core.stage) ≡ true
-        → headWords ≤ length w.work
-    finished (inl fits) e = omega (arith, fits.long, body-rest w, work-some (task_of k c (body_of w)).core.sizes (task_of k c (body_of w)).core.bases.total)
-    finished (inr shuts) e = true-false e (rw (shuts-state k c (body_of w) shuts) refl)
+    finished : Fits (task_of k c (body_of w)).core (body_of w).work ⊎ Shuts k c → not (when_shut (task_of k c (body_of w)).core.stage) ≡ true
+        → head_words ≤ length w.work
+    finished (inl fits) e = omega (arith, fits.long, body_rest w, work_some (task_of k c (body_of w)).core.sizes (task_of k c (body_of w)).core.bases.total)
+    finished (inr shuts) e = true_false e (rw (shuts_state k c (body_of w) shuts) refl)
 
-module _ (k : Call) (takes : takesState k ≡ true) (h : Carried) (w : World) {core : Core} (loaded : core ≡ narrowed (core_of h w.work))
+module _ (k : Call) (takes : takes_state k ≡ true) (h : Carried) (w : World) {core : Core} (loaded : core ≡ narrowed (core_of h w.work))
     (reply : Reply) (left : ℕ) (exit : World) (g : Gives k core (body_of w) reply left exit)
   where
-    pub wrapped-room : saves reply.answer reply.core.stage ≡ true → headWords ≤ length w.work
-    wrapped-room = saves-room k core w (rw loaded (narrowed-sized (core_of h w.work) (view-sized h w.work))) reply left exit g
+    pub wrapped_room : saves reply.answer reply.core.stage ≡ true → head_words ≤ length w.work
+    wrapped_room = saves_room k core w (rw loaded (narrowed_sized (core_of h w.work) (view_sized h w.work))) reply left exit g
 
-    pub wrapped-serves : Serves k h w (record { answer = reply.answer; carried = carried_of reply.core }) left
-        (behind (headAfter reply.answer reply.core w.work) exit)
+    pub wrapped_serves : Serves k h w (record { answer = reply.answer; carried = carried_of reply.core }) left
+        (behind (head_after reply.answer reply.core w.work) exit)
     unfolding Serves Gives
-    wrapped-serves =
-        ap (λ (r : Result). givenBy r w.work) g
-        ∙ ap (λ (c : Core). givenBy (result_of k c (body_of w)) w.work) loaded ∙ narrowed-given k takes h w
+    wrapped_serves =
+        ap (λ (r : Result). given_by r w.work) g
+        ∙ ap (λ (c : Core). given_by (result_of k c (body_of w)) w.work) loaded ∙ narrowed_given k takes h w

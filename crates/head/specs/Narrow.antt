@@ -6,11 +6,11 @@ use Rattle.model.specs.declared.Core.{Core}
 unfoldable pub capped : (most : ℕ) → List ℕ → List ℕ
 capped most words = map (min most) words
 
-abbrev pub byteMost : ℕ
-byteMost = 255
+abbrev pub byte_most : ℕ
+byte_most = 255
 
-abbrev pub baseMost : ℕ
-baseMost = 65535
+abbrev pub base_most : ℕ
+base_most = 65535
 
 unfoldable pub narrowed : Core → Core
 narrowed c =
@@ -21,10 +21,10 @@ narrowed c =
             pages = c.sizes.pages;
             disks = c.sizes.disks;
             ring = c.sizes.ring;
-            slots = capped byteMost c.sizes.slots;
-            widths = capped byteMost c.sizes.widths;
+            slots = capped byte_most c.sizes.slots;
+            widths = capped byte_most c.sizes.widths;
           };
-      bases = record { pages = capped baseMost c.bases.pages; total = c.bases.total };
+      bases = record { pages = capped base_most c.bases.pages; total = c.bases.total };
       epoch = c.epoch;
       logs = c.logs;
       table = c.table;

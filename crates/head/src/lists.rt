@@ -3,25 +3,25 @@ ghost use Rattle.std.specs.Prelude.{◌≡◌, ◌+◌, ◌≤◌, min, length};
 ghost use Rattle.std.proofs.lemmas.List.Edits.{sets};
 ghost use Rattle.model.specs.Word.{part};
 ghost use Rattle.model.specs.Moments.{old, new};
-ghost use Rattle.head.specs.Narrow.{capped, byteMost, baseMost};
+ghost use Rattle.head.specs.Narrow.{capped, byte_most, base_most};
 
 use words::copy_words;
 
 fn byte_of(word: u64) -> u8
-    ensures { result ≡ min byteMost word }
+    ensures { result ≡ min byte_most word }
 {
     if word > 255 { 255 } else { word as u8 }
 }
 
 fn two_bytes_of(word: u64) -> u16
-    ensures { result ≡ min baseMost word }
+    ensures { result ≡ min base_most word }
 {
     if word > 65535 { 65535 } else { word as u16 }
 }
 
 pub fn bytes_at(work: &[u64], at: usize) -> [u8; 64]
     requires { at + 64 ≤ length work.now }
-    ensures { result ≡ capped byteMost (part at 64 (old work)) }
+    ensures { result ≡ capped byte_most (part at 64 (old work)) }
 {
     let mut out = [0u8; 64];
     let mut i: usize = 0;
@@ -34,7 +34,7 @@ pub fn bytes_at(work: &[u64], at: usize) -> [u8; 64]
 
 pub fn bases_at(work: &[u64], at: usize) -> [u16; 64]
     requires { at + 64 ≤ length work.now }
-    ensures { result ≡ capped baseMost (part at 64 (old work)) }
+    ensures { result ≡ capped base_most (part at 64 (old work)) }
 {
     let mut out = [0u16; 64];
     let mut i: usize = 0;

@@ -2,7 +2,7 @@
 ghost use Rattle.std.specs.Prelude.{◌≡◌, ◌≤◌, length};
 ghost use Rattle.model.specs.declared.Carried.{Carried};
 ghost use Rattle.model.specs.Moments.{old};
-ghost use Rattle.model.specs.View.{headWords, coreIn, core_of};
+ghost use Rattle.model.specs.View.{head_words, core_in, core_of};
 ghost use Rattle.head.specs.Narrow.{narrowed};
 
 use crate::lists::{bases_at, bytes_at, eight_at, sixteen_at};
@@ -14,8 +14,8 @@ use crate::places::{
 use model::{Bases, Carried, Checkpoint, Core, Logs, Replay, Sizes, Table};
 
 fn table_in(work: &[u64]) -> Table
-    requires { headWords ≤ length work.now }
-    ensures { (h : Carried) → result ≡ (coreIn h (old work)).table }
+    requires { head_words ≤ length work.now }
+    ensures { (h : Carried) → result ≡ (core_in h (old work)).table }
 {
     Table {
         numbers: sixteen_at(work, NUMBERS_AT),
@@ -27,8 +27,8 @@ fn table_in(work: &[u64]) -> Table
 }
 
 fn core_in(carried: Carried, work: &[u64]) -> Core
-    requires { headWords ≤ length work.now }
-    ensures { result ≡ narrowed (coreIn carried (old work)) }
+    requires { head_words ≤ length work.now }
+    ensures { result ≡ narrowed (core_in carried (old work)) }
 {
     let slots = bytes_at(work, SLOTS_AT);
     let widths = bytes_at(work, WIDTHS_AT);

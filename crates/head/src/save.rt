@@ -2,7 +2,7 @@
 ghost use Rattle.std.specs.Prelude.{◌≡◌, [], ◌∷◌, ◌++◌, ◌≤◌, length, drop};
 ghost use Rattle.std.proofs.lemmas.List.Edits.{sets};
 ghost use Rattle.model.specs.Moments.{old, new};
-ghost use Rattle.model.specs.View.{headSlots, headFills, headNumbers, headWords, carried_of, head_of};
+ghost use Rattle.model.specs.View.{head_slots, head_fills, head_numbers, head_words, carried_of, head_of};
 
 use crate::lists::{put_bases, put_bytes};
 use crate::places::{
@@ -13,8 +13,8 @@ use model::{Bases, Carried, Core, Replay, Sizes, Table};
 use words::copy_words;
 
 fn save_pages(work: &mut [u64], sizes: Sizes, bases: Bases)
-    requires { headWords ≤ length work.old }
-    ensures { new work ≡ sets (old work) headSlots (sizes.slots ++ (sizes.widths ++ bases.pages)) }
+    requires { head_words ≤ length work.old }
+    ensures { new work ≡ sets (old work) head_slots (sizes.slots ++ (sizes.widths ++ bases.pages)) }
 {
     let slots = sizes.slots;
     let widths = sizes.widths;
@@ -25,8 +25,8 @@ fn save_pages(work: &mut [u64], sizes: Sizes, bases: Bases)
 }
 
 fn save_disks(work: &mut [u64], fills: [u64; 8], sums: [u64; 8], replay: Replay)
-    requires { headWords ≤ length work.old }
-    ensures { new work ≡ sets (old work) headFills (fills ++ (sums ++ (replay.positions ++ (replay.page ∷ [])))) }
+    requires { head_words ≤ length work.old }
+    ensures { new work ≡ sets (old work) head_fills (fills ++ (sums ++ (replay.positions ++ (replay.page ∷ [])))) }
 {
     let positions = replay.positions;
     copy_words(work, FILLS_AT, &fills, 0, 8);
@@ -36,8 +36,8 @@ fn save_disks(work: &mut [u64], fills: [u64; 8], sums: [u64; 8], replay: Replay)
 }
 
 fn save_table(work: &mut [u64], table: Table)
-    requires { headWords ≤ length work.old }
-    ensures { new work ≡ sets (old work) headNumbers (table.numbers ++ (table.disks ++ (table.firsts ++ table.reserved))) }
+    requires { head_words ≤ length work.old }
+    ensures { new work ≡ sets (old work) head_numbers (table.numbers ++ (table.disks ++ (table.firsts ++ table.reserved))) }
 {
     let numbers = table.numbers;
     let disks = table.disks;
@@ -50,8 +50,8 @@ fn save_table(work: &mut [u64], table: Table)
 }
 
 pub fn save(core: Core, work: &mut [u64])
-    requires { headWords ≤ length work.old }
-    ensures { new work ≡ head_of core ++ drop headWords (old work) }
+    requires { head_words ≤ length work.old }
+    ensures { new work ≡ head_of core ++ drop head_words (old work) }
 {
     let sizes = core.sizes;
     let bases = core.bases;

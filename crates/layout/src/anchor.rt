@@ -1,8 +1,8 @@
 // The anchor: where its words lie, and what it says of the sizes and of the log starts.
 ghost use Rattle.std.specs.Prelude.{◌≡◌, [], ◌∷◌, ◌+◌, length};
 ghost use Rattle.model.specs.Word.{part};
-ghost use Rattle.model.specs.Anchor.{anchorWords, rows_at, sizesOn};
-ghost use Rattle.layout.specs.Raw.{sizesOf};
+ghost use Rattle.model.specs.Anchor.{anchor_words, rows_at, sizes_on};
+ghost use Rattle.layout.specs.Raw.{sizes_of};
 
 use words::copy_words;
 
@@ -29,8 +29,8 @@ pub struct RawSizes {
 
 // What the anchor says of the sizes, in bounds or not.
 pub fn read_sizes(anchor: &[u64]) -> RawSizes
-    requires { length anchor.now ≡ anchorWords }
-    ensures { sizesOf result ≡ sizesOn anchor.now }
+    requires { length anchor.now ≡ anchor_words }
+    ensures { sizes_of result ≡ sizes_on anchor.now }
 {
     let mut slots = [0u64; 64];
     let mut widths = [0u64; 64];
@@ -47,7 +47,7 @@ pub fn read_sizes(anchor: &[u64]) -> RawSizes
 
 // Both rows of log starts, row 0 first. The checkpoint number tells which is current.
 pub fn read_rows(anchor: &[u64]) -> [[u64; 8]; 2]
-    requires { length anchor.now ≡ anchorWords }
+    requires { length anchor.now ≡ anchor_words }
     ensures { result ≡ part rows_at 8 anchor.now ∷ part (rows_at + 8) 8 anchor.now ∷ [] }
 {
     let mut first = [0u64; 8];

@@ -1,16 +1,16 @@
 // The first words of the pages, which a state keeps: made from the sizes, tested against them, and a slot's place by them.
 ghost use Rattle.std.specs.Prelude.{◌≡◌, true, ◌&&◌, ◌+◌, ◌*◌, ◌≤◌, ◌<◌, eqb, get_or};
 ghost use Rattle.model.specs.Below.{all_below};
-ghost use Rattle.model.specs.Sizes.{pageBase, total, sizesInBounds};
-ghost use Rattle.model.specs.State.{basesOf};
+ghost use Rattle.model.specs.Sizes.{page_base, total, sizes_in_bounds};
+ghost use Rattle.model.specs.State.{bases_of};
 
 use crate::places::words_in_slots;
 use model::{Bases, Sizes};
 
 // Pages that are not there have no words: so the sum of all 64 is T.
 pub fn bases_of(sizes: Sizes) -> Bases
-    requires { sizesInBounds sizes ≡ true }
-    ensures { (result ≡ basesOf sizes) × (result.total ≤ 8192) }
+    requires { sizes_in_bounds sizes ≡ true }
+    ensures { (result ≡ bases_of sizes) × (result.total ≤ 8192) }
 {
     let slots = sizes.slots;
     let widths = sizes.widths;
@@ -30,8 +30,8 @@ pub fn bases_of(sizes: Sizes) -> Bases
 
 // Whether these are the bases of the sizes.
 pub fn bases_right(sizes: Sizes, bases: Bases) -> bool
-    requires { sizesInBounds sizes ≡ true }
-    ensures { result ≡ (eqb bases.total (total sizes) && all_below (λ page. eqb (get_or bases.pages page 0) (pageBase sizes page)) 64) }
+    requires { sizes_in_bounds sizes ≡ true }
+    ensures { result ≡ (eqb bases.total (total sizes) && all_below (λ page. eqb (get_or bases.pages page 0) (page_base sizes page)) 64) }
 {
     let slots = sizes.slots;
     let widths = sizes.widths;

@@ -1,8 +1,8 @@
 // The bounds of the sizes, and the lengths that they give the lent slices.
 ghost use Rattle.std.specs.Prelude.{◌≡◌, true, cond, ◌&&◌, ℕ, ◌*◌, ◌≤◌, ◌<◌, leb, eqb, get_or};
 ghost use Rattle.model.specs.Below.{within, all_below};
-ghost use Rattle.model.specs.Sizes.{entryInBounds, countsInBounds, sizesInBounds};
-ghost use Rattle.layout.specs.Raw.{sizesOf, countsOf, lengthsAre};
+ghost use Rattle.model.specs.Sizes.{entry_in_bounds, counts_in_bounds, sizes_in_bounds};
+ghost use Rattle.layout.specs.Raw.{sizes_of, counts_of, lengths_are};
 
 use crate::anchor::RawSizes;
 use crate::disks::disk_at;
@@ -21,7 +21,7 @@ pub fn lengths_right(
     work: usize,
 ) -> bool
     requires { (disks ≤ 8) × (ring ≤ 65536) × (words ≤ 8192) }
-    ensures { result ≡ lengthsAre disks ring words pages backups logs work }
+    ensures { result ≡ lengths_are disks ring words pages backups logs work }
 {
     let all = words as usize;
     if pages != all {
@@ -46,7 +46,7 @@ fn is_within(low: u64, high: u64, n: u64) -> bool
 }
 
 pub fn counts_in_bounds(pages: u64, disks: u64, ring: u64) -> bool
-    ensures { result ≡ countsInBounds (countsOf pages disks ring) }
+    ensures { result ≡ counts_in_bounds (counts_of pages disks ring) }
 {
     if !is_within(1, 64, pages) {
         return false;
@@ -100,7 +100,7 @@ fn entry_in_bounds(used: bool, slots: u64, width: u64) -> bool
 
 // Of any numbers.
 pub fn in_bounds(raw: RawSizes) -> bool
-    ensures { result ≡ sizesInBounds (sizesOf raw) }
+    ensures { result ≡ sizes_in_bounds (sizes_of raw) }
 {
     if !counts_in_bounds(raw.pages, raw.disks, raw.ring) {
         return false;
@@ -121,7 +121,7 @@ pub fn in_bounds(raw: RawSizes) -> bool
 // The entries of pages below `end` that are out of bounds. They are counted, and not left at the first: so the loop takes many at once.
 fn used_faults<'a>(slots: &'a [u8; 64], widths: &'a [u8; 64], end: usize) -> u8
     requires { end ≤ 64 }
-    ensures { (result ≤ end) × (eqb result 0 ≡ all_below (entryInBounds (record { pages = end; disks = 0; ring = 0; slots = slots.now; widths = widths.now })) end) }
+    ensures { (result ≤ end) × (eqb result 0 ≡ all_below (entry_in_bounds (record { pages = end; disks = 0; ring = 0; slots = slots.now; widths = widths.now })) end) }
 {
     let mut faults: u8 = 0;
     let mut i: usize = 0;
@@ -134,8 +134,8 @@ fn used_faults<'a>(slots: &'a [u8; 64], widths: &'a [u8; 64], end: usize) -> u8
 
 // Those of all entries, `before` of them below `from`.
 fn all_faults<'a>(slots: &'a [u8; 64], widths: &'a [u8; 64], from: usize, before: u8) -> u8
-    requires { (from ≤ 64) × (before ≤ from) × (eqb before 0 ≡ all_below (entryInBounds (record { pages = from; disks = 0; ring = 0; slots = slots.now; widths = widths.now })) from) }
-    ensures { eqb result 0 ≡ all_below (entryInBounds (record { pages = from; disks = 0; ring = 0; slots = slots.now; widths = widths.now })) 64 }
+    requires { (from ≤ 64) × (before ≤ from) × (eqb before 0 ≡ all_below (entry_in_bounds (record { pages = from; disks = 0; ring = 0; slots = slots.now; widths = widths.now })) from) }
+    ensures { eqb result 0 ≡ all_below (entry_in_bounds (record { pages = from; disks = 0; ring = 0; slots = slots.now; widths = widths.now })) 64 }
 {
     let mut faults = before;
     let mut i = from;
@@ -148,7 +148,7 @@ fn all_faults<'a>(slots: &'a [u8; 64], widths: &'a [u8; 64], from: usize, before
 
 // The same of sizes whose entries are bytes.
 pub fn sizes_in_bounds(sizes: Sizes) -> bool
-    ensures { result ≡ sizesInBounds sizes }
+    ensures { result ≡ sizes_in_bounds sizes }
 {
     if !counts_in_bounds(sizes.pages, sizes.disks, sizes.ring) {
         return false;
@@ -175,8 +175,8 @@ fn bytes_of(words: [u64; 64]) -> [u8; 64]
 
 // The entries of sizes in bounds fit into bytes.
 pub fn narrow(raw: RawSizes) -> Sizes
-    requires { sizesInBounds (sizesOf raw) ≡ true }
-    ensures { result ≡ sizesOf raw }
+    requires { sizes_in_bounds (sizes_of raw) ≡ true }
+    ensures { result ≡ sizes_of raw }
 {
     let slots = raw.slots;
     let widths = raw.widths;

@@ -1,6 +1,6 @@
 // Where pages and slots lie in the page memory.
 ghost use Rattle.std.specs.Prelude.{◌≡◌, ◌*◌, ◌≤◌, ◌<◌, ◌^◌};
-ghost use Rattle.model.specs.Sizes.{pageWords, pageBase, slotBase, total};
+ghost use Rattle.model.specs.Sizes.{page_words, page_base, slot_base, total};
 
 use model::Sizes;
 
@@ -20,7 +20,7 @@ pub fn words_in_slots(slots: u8, width: u8) -> u16
 // The words of a page.
 pub fn page_words(sizes: Sizes, page: u64) -> u64
     requires { page < 64 }
-    ensures { (result ≡ pageWords sizes page) × (result < 65536) }
+    ensures { (result ≡ page_words sizes page) × (result < 65536) }
 {
     let slots = sizes.slots;
     let widths = sizes.widths;
@@ -32,7 +32,7 @@ pub fn page_words(sizes: Sizes, page: u64) -> u64
 // The first word of a page; of page P, the words of all pages.
 pub fn page_base(sizes: Sizes, page: u64) -> u64
     requires { page ≤ 64 }
-    ensures { (result ≡ pageBase sizes page) × (result < 2 ^ 32) }
+    ensures { (result ≡ page_base sizes page) × (result < 2 ^ 32) }
 {
     let slots = sizes.slots;
     let widths = sizes.widths;
@@ -58,7 +58,7 @@ pub fn total(sizes: Sizes) -> u64
 // The first word of a slot.
 pub fn slot_base(sizes: Sizes, page: u64, slot: u64) -> u64
     requires { (page < 64) × (slot < 65536) }
-    ensures { (result ≡ slotBase sizes page slot) × (result < 2 ^ 33) }
+    ensures { (result ≡ slot_base sizes page slot) × (result < 2 ^ 33) }
 {
     let widths = sizes.widths;
     let i = page as usize;

@@ -9,31 +9,31 @@ use native.Mathlib.Omega.{arith}
 use borrow.Author.Tests.{eq-eqb, ne_eqb}
 use Rattle.lines.specs.declared.command.Command.{Command}
 use Rattle.lines.specs.declared.partial.Partial.{Partial}
-use Rattle.lines.specs.Line.{commandOf, lineLength}
-use Rattle.lines.specs.After.{afterName, afterNumber, commandAfter, Pieces, none, piece}
+use Rattle.lines.specs.Line.{command_of, line_length}
+use Rattle.lines.specs.After.{after_name, after_number, command_after, Pieces, none, piece}
 
 -- one byte of a piece
 pub byte_of : (bytes more : List ℕ) (i : ℕ) → i < length bytes → drop i bytes ++ more ≡ get_or bytes i 0 ∷ (drop (i + 1) bytes ++ more)
 byte_of bytes more i h = rw (add-one, drop-cons bytes i 0 h)
 
 -- The command of a line is the same for every way of cutting it: read the pieces one after the other, and ask at the end.
-pub line-in-pieces : {line : List ℕ} {last : Partial} → Pieces line last → commandAfter last [] ≡ commandOf line
-line-in-pieces p = rw append-nil at (after p [])
+pub line_in_pieces : {line : List ℕ} {last : Partial} → Pieces line last → command_after last [] ≡ command_of line
+line_in_pieces p = rw append-nil at (after p [])
   where
-    after : {line : List ℕ} {last : Partial} → Pieces line last → (more : List ℕ) → commandAfter last more ≡ commandOf (line ++ more)
+    after : {line : List ℕ} {last : Partial} → Pieces line last → (more : List ℕ) → command_after last more ≡ command_of (line ++ more)
     after (none begun) more = begun more
     after (piece {line} before bytes read) more = read more ∙ after before (bytes ++ more) ∙ rw append_assoc
 
 -- the first end of a line, from an index on
 module _ (bytes : List ℕ) (i : ℕ) where
-  pub line-here : i < length bytes → get_or bytes i 0 ≡ 10 → i ≡ i + lineLength (drop i bytes)
-  unfolding lineLength
-  line-here h e = rw (drop-cons bytes i 0 h, eq-eqb _ 10 e) (omega arith)
+  pub line_here : i < length bytes → get_or bytes i 0 ≡ 10 → i ≡ i + line_length (drop i bytes)
+  unfolding line_length
+  line_here h e = rw (drop-cons bytes i 0 h, eq-eqb _ 10 e) (omega arith)
 
-  pub line_on : i < length bytes → (get_or bytes i 0 ≡ 10 → ⊥) → i + 1 + lineLength (drop (i + 1) bytes) ≡ i + lineLength (drop i bytes)
-  unfolding lineLength
+  pub line_on : i < length bytes → (get_or bytes i 0 ≡ 10 → ⊥) → i + 1 + line_length (drop (i + 1) bytes) ≡ i + line_length (drop i bytes)
+  unfolding line_length
   line_on h n = rw (drop-cons bytes i 0 h, ne_eqb _ 10 n, add-one i) (omega arith)
 
-  pub line-out : length bytes ≤ i → i ≡ i + lineLength (drop i bytes)
-  unfolding lineLength
-  line-out h = rw (drop_of_length-le bytes h) (omega arith)
+  pub line_out : length bytes ≤ i → i ≡ i + line_length (drop i bytes)
+  unfolding line_length
+  line_out h = rw (drop_of_length-le bytes h) (omega arith)

@@ -9,35 +9,35 @@ use lib.Seq.{take-suc-set}
 use borrow.Author.Tests.{lt-ltb, le-ltb, eq-eqb, ne_eqb}
 use Rattle.lines.specs.declared.command.Command.TheVariants.{Other}
 use Rattle.lines.specs.declared.partial.Partial.{Partial}
-use Rattle.lines.specs.Line.{Fields, fields, withByte, withField}
-use Rattle.lines.specs.After.{afterName, afterNumber, commandAfter}
+use Rattle.lines.specs.Line.{Fields, fields, with_byte, with_field}
+use Rattle.lines.specs.After.{after_name, after_number, command_after}
 
-pub at-space : (more : List ℕ) → fields (32 ∷ more) ≡ withField (fields more)
+pub at_space : (more : List ℕ) → fields (32 ∷ more) ≡ with_field (fields more)
 unfolding fields
-at-space more = refl
+at_space more = refl
 
-pub at_byte : (b : ℕ) (more : List ℕ) → (b ≡ 32 → ⊥) → fields (b ∷ more) ≡ withByte b (fields more)
+pub at_byte : (b : ℕ) (more : List ℕ) → (b ≡ 32 → ⊥) → fields (b ∷ more) ≡ with_byte b (fields more)
 unfolding fields
 at_byte b more h = rw (ne_eqb b 32 h)
 
 module _ (p : Partial) (more : List ℕ) where
-  pub past-hope : 4 < p.count → commandAfter p more ≡ Other
-  unfolding commandAfter
-  past-hope h = rw (lt-ltb 4 p.count h)
+  pub past_hope : 4 < p.count → command_after p more ≡ Other
+  unfolding command_after
+  past_hope h = rw (lt-ltb 4 p.count h)
 
-  pub past-name : p.count ≤ 4 → 7 < p.length → commandAfter p more ≡ Other
-  unfolding commandAfter
-  past-name c h = rw (le-ltb 4 p.count c, lt-ltb 7 p.length h)
+  pub past_name : p.count ≤ 4 → 7 < p.length → command_after p more ≡ Other
+  unfolding command_after
+  past_name c h = rw (le-ltb 4 p.count c, lt-ltb 7 p.length h)
 
-  pub in-name : p.count ≡ 0 → p.length ≤ 7 → commandAfter p more ≡ afterName (take p.length p.name) (fields more)
-  unfolding commandAfter
-  in-name c l = rw (c, le-ltb 7 p.length l)
+  pub in_name : p.count ≡ 0 → p.length ≤ 7 → command_after p more ≡ after_name (take p.length p.name) (fields more)
+  unfolding command_after
+  in_name c l = rw (c, le-ltb 7 p.length l)
 
-  pub in-number : 1 ≤ p.count → p.count ≤ 4 → p.length ≤ 7 →
-      commandAfter p more
-      ≡ afterNumber (take p.length p.name) (take (p.count - 1) p.values) p.empty p.value (fields more)
-  unfolding commandAfter
-  in-number c₁ c₄ l =
+  pub in_number : 1 ≤ p.count → p.count ≤ 4 → p.length ≤ 7 →
+      command_after p more
+      ≡ after_number (take p.length p.name) (take (p.count - 1) p.values) p.empty p.value (fields more)
+  unfolding command_after
+  in_number c₁ c₄ l =
       let n : p.count ≡ 0 → ⊥ = λ e. omega arith in
       rw (le-ltb 4 p.count c₄, le-ltb 7 p.length l, ne_eqb p.count 0 n)
 

@@ -3,12 +3,12 @@ use Rattle.std.specs.Prelude.{ℕ, ◌+◌, cond, ltb, eqb}
 use Rattle.lines.specs.declared.tally.Tally.{Tally}
 
 -- one more; a count stays at the largest word
-unfoldable pub oneMore : ℕ → ℕ
-oneMore n = cond (ltb n 18446744073709551615) (n + 1) n
+unfoldable pub one_more : ℕ → ℕ
+one_more n = cond (ltb n 18446744073709551615) (n + 1) n
 
 -- A line by its answer: 0 is taken, 16 is cut, any other number is refused.
 unfoldable pub counted : Tally → ℕ → Tally
 counted t answer =
-    cond (eqb answer 0) (record { taken = oneMore t.taken; refused = t.refused; cut = t.cut })
-    (cond (eqb answer 16) (record { taken = t.taken; refused = t.refused; cut = oneMore t.cut })
-    (record { taken = t.taken; refused = oneMore t.refused; cut = t.cut }))
+    cond (eqb answer 0) (record { taken = one_more t.taken; refused = t.refused; cut = t.cut })
+    (cond (eqb answer 16) (record { taken = t.taken; refused = t.refused; cut = one_more t.cut })
+    (record { taken = t.taken; refused = one_more t.refused; cut = t.cut }))

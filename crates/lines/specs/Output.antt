@@ -7,13 +7,13 @@ abbrev pub field : ℕ → ℕ → List ℕ → List ℕ
 field n after rest = decimal n ++ after ∷ rest
 
 -- "Each output line has line number, answer, stores, value"
-abbrev pub lineText : ℕ → ℕ → ℕ → ℕ → List ℕ
-lineText line answer stores value = field line 32 (field answer 32 (field stores 32 (field value 10 [])))
+abbrev pub line_text : ℕ → ℕ → ℕ → ℕ → List ℕ
+line_text line answer stores value = field line 32 (field answer 32 (field stores 32 (field value 10 [])))
 
 -- "prints `?` as its answer, then 0 and 0"
-abbrev pub otherText : ℕ → List ℕ
-otherText line = field line 32 (63 ∷ 32 ∷ 48 ∷ 32 ∷ 48 ∷ 10 ∷ [])
+abbrev pub other_text : ℕ → List ℕ
+other_text line = field line 32 (63 ∷ 32 ∷ 48 ∷ 32 ∷ 48 ∷ 10 ∷ [])
 
 -- the last line: the word tally, and "taken, refused and cut lines"
-abbrev pub tallyText : ℕ → ℕ → ℕ → List ℕ
-tallyText taken refused cut = (116 ∷ 97 ∷ 108 ∷ 108 ∷ 121 ∷ 32 ∷ []) ++ field taken 32 (field refused 32 (field cut 10 []))
+abbrev pub tally_text : ℕ → ℕ → ℕ → List ℕ
+tally_text taken refused cut = (116 ∷ 97 ∷ 108 ∷ 108 ∷ 121 ∷ 32 ∷ []) ++ field taken 32 (field refused 32 (field cut 10 []))

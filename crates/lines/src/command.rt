@@ -1,6 +1,6 @@
 // The commands, by name and numbers.
 ghost use Rattle.std.specs.Prelude.{◌≡◌};
-ghost use Rattle.lines.specs.Line.{same, withoutNumbers, setOf, commitOf, abortOf, getOf, formWithoutNumbers, form_of};
+ghost use Rattle.lines.specs.Line.{same, without_numbers, set_of, commit_of, abort_of, get_of, form_without_numbers, form_of};
 
 // What a line asks for. Other: a line of any other form.
 #[derive(Drop)]
@@ -49,7 +49,7 @@ fn is_same(a: &[u8], b: &[u8]) -> bool
 
 // A command that takes no numbers.
 fn without_numbers(command: Command, values: &[u64]) -> Command
-    ensures { result ≡ withoutNumbers command values.now }
+    ensures { result ≡ without_numbers command values.now }
 {
     if values.len() == 0 {
         return command;
@@ -58,7 +58,7 @@ fn without_numbers(command: Command, values: &[u64]) -> Command
 }
 
 fn set_of(values: &[u64]) -> Command
-    ensures { result ≡ setOf values.now }
+    ensures { result ≡ set_of values.now }
 {
     if values.len() == 4 {
         return Command::Set {
@@ -73,7 +73,7 @@ fn set_of(values: &[u64]) -> Command
 
 // Without an allowance it is the largest.
 fn commit_of(values: &[u64]) -> Command
-    ensures { result ≡ commitOf values.now }
+    ensures { result ≡ commit_of values.now }
 {
     if values.len() == 1 {
         return Command::Commit {
@@ -91,7 +91,7 @@ fn commit_of(values: &[u64]) -> Command
 }
 
 fn abort_of(values: &[u64]) -> Command
-    ensures { result ≡ abortOf values.now }
+    ensures { result ≡ abort_of values.now }
 {
     if values.len() == 1 {
         return Command::Abort { number: values[0] };
@@ -100,7 +100,7 @@ fn abort_of(values: &[u64]) -> Command
 }
 
 fn get_of(values: &[u64]) -> Command
-    ensures { result ≡ getOf values.now }
+    ensures { result ≡ get_of values.now }
 {
     if values.len() == 2 {
         return Command::Get {
@@ -113,7 +113,7 @@ fn get_of(values: &[u64]) -> Command
 
 // The commands of a checkpoint, and restart.
 fn form_without_numbers(name: &[u8], values: &[u64]) -> Command
-    ensures { result ≡ formWithoutNumbers name.now values.now }
+    ensures { result ≡ form_without_numbers name.now values.now }
 {
     if is_same(name, b"mark") {
         return without_numbers(Command::Mark, values);

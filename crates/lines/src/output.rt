@@ -1,6 +1,6 @@
 // Writing a line as text, from its end: what is put stands in front of what is there, and the answer is where it starts.
 ghost use Rattle.std.specs.Prelude.{◌≡◌, ◌+◌, ◌≤◌, length, drop};
-ghost use Rattle.lines.specs.Output.{field, lineText, otherText, tallyText};
+ghost use Rattle.lines.specs.Output.{field, line_text, other_text, tally_text};
 
 use text::{put_number, put_text};
 
@@ -29,7 +29,7 @@ fn put_two(out: &mut [u8], end: usize, n: u64, between: u8, m: u64, after: u8) -
 pub fn put_line(out: &mut [u8], line: u64, answer: u64, stores: u64, value: u64) -> usize
     requires { 84 ≤ length out.old }
     ensures upper_bound { result ≤ length out.old }
-    ensures out_after { drop result out.new ≡ lineText line answer stores value }
+    ensures out_after { drop result out.new ≡ line_text line answer stores value }
 {
     let end = out.len();
     let at = put_two(out, end, stores, 32, value, 10);
@@ -40,7 +40,7 @@ pub fn put_line(out: &mut [u8], line: u64, answer: u64, stores: u64, value: u64)
 pub fn put_other(out: &mut [u8], line: u64) -> usize
     requires { 84 ≤ length out.old }
     ensures upper_bound { result ≤ length out.old }
-    ensures out_after { drop result out.new ≡ otherText line }
+    ensures out_after { drop result out.new ≡ other_text line }
 {
     let end = out.len();
     let at = put_text(out, end, b"? 0 0\n");
@@ -51,7 +51,7 @@ pub fn put_other(out: &mut [u8], line: u64) -> usize
 pub fn put_tally(out: &mut [u8], taken: u64, refused: u64, cut: u64) -> usize
     requires { 84 ≤ length out.old }
     ensures upper_bound { result ≤ length out.old }
-    ensures out_after { drop result out.new ≡ tallyText taken refused cut }
+    ensures out_after { drop result out.new ≡ tally_text taken refused cut }
 {
     let end = out.len();
     let third = put_field(out, end, cut, 10);

@@ -1,7 +1,7 @@
 // Reading a line in pieces.
 ghost use Rattle.std.specs.Prelude.{◌≡◌, ℕ, ◌≤◌, List, [], ◌∷◌, ◌++◌, length};
-ghost use Rattle.lines.specs.Line.{commandOf, lineLength};
-ghost use Rattle.lines.specs.After.{commandAfter};
+ghost use Rattle.lines.specs.Line.{command_of, line_length};
+ghost use Rattle.lines.specs.After.{command_after};
 
 use crate::command::{Command, form_of};
 
@@ -19,7 +19,7 @@ pub struct Partial {
 
 // Nothing is read.
 pub fn start() -> Partial
-    ensures { (line : List ℕ) → commandAfter result line ≡ commandOf line }
+    ensures { (line : List ℕ) → command_after result line ≡ command_of line }
 {
     Partial {
         name: [0; 7],
@@ -41,7 +41,7 @@ fn hopeless(p: Partial) -> Partial
 // A byte of the name.
 fn name_byte(p: Partial, b: u8) -> Partial
     requires { (p.count ≡ 0) × (p.length ≤ 7) × (b ≡ 32 → ⊥) }
-    ensures { (more : List ℕ) → commandAfter result more ≡ commandAfter p (b ∷ more) }
+    ensures { (more : List ℕ) → command_after result more ≡ command_after p (b ∷ more) }
 {
     let at = p.length;
     if 7 <= at {
@@ -56,7 +56,7 @@ fn name_byte(p: Partial, b: u8) -> Partial
 // A space after the name.
 fn first_number(p: Partial) -> Partial
     requires { (p.count ≡ 0) × (p.length ≤ 7) }
-    ensures { (more : List ℕ) → commandAfter result more ≡ commandAfter p (32 ∷ more) }
+    ensures { (more : List ℕ) → command_after result more ≡ command_after p (32 ∷ more) }
 {
     Partial {
         count: 1,
@@ -69,7 +69,7 @@ fn first_number(p: Partial) -> Partial
 // A space after a number.
 fn next_number(p: Partial) -> Partial
     requires { (1 ≤ p.count) × (p.count ≤ 4) × (p.length ≤ 7) }
-    ensures { (more : List ℕ) → commandAfter result more ≡ commandAfter p (32 ∷ more) }
+    ensures { (more : List ℕ) → command_after result more ≡ command_after p (32 ∷ more) }
 {
     if p.empty {
         return hopeless(p);
@@ -89,7 +89,7 @@ fn next_number(p: Partial) -> Partial
 // A byte of a number.
 fn number_byte(p: Partial, b: u8) -> Partial
     requires { (1 ≤ p.count) × (p.count ≤ 4) × (p.length ≤ 7) × (b ≡ 32 → ⊥) }
-    ensures { (more : List ℕ) → commandAfter result more ≡ commandAfter p (b ∷ more) }
+    ensures { (more : List ℕ) → command_after result more ≡ command_after p (b ∷ more) }
 {
     if b < 48 {
         return hopeless(p);
@@ -110,7 +110,7 @@ fn number_byte(p: Partial, b: u8) -> Partial
 }
 
 fn step(p: Partial, b: u8) -> Partial
-    ensures { (more : List ℕ) → commandAfter result more ≡ commandAfter p (b ∷ more) }
+    ensures { (more : List ℕ) → command_after result more ≡ command_after p (b ∷ more) }
 {
     if 4 < p.count {
         return p;
@@ -132,7 +132,7 @@ fn step(p: Partial, b: u8) -> Partial
 
 // Reads a piece of a line.
 pub fn read_piece(partial: Partial, bytes: &[u8]) -> Partial
-    ensures { (more : List ℕ) → commandAfter result more ≡ commandAfter partial (bytes.now ++ more) }
+    ensures { (more : List ℕ) → command_after result more ≡ command_after partial (bytes.now ++ more) }
 {
     let mut p = partial;
     let mut i = 0;
@@ -145,7 +145,7 @@ pub fn read_piece(partial: Partial, bytes: &[u8]) -> Partial
 
 // The command of a line that is read to its end.
 pub fn command_of(partial: Partial) -> Command
-    ensures { result ≡ commandAfter partial [] }
+    ensures { result ≡ command_after partial [] }
 {
     let count = partial.count;
     let length = partial.length;
@@ -169,7 +169,7 @@ pub fn command_of(partial: Partial) -> Command
 
 // The bytes of a piece before the first end of a line, or all of them.
 pub fn line_length(bytes: &[u8]) -> usize
-    ensures value { result ≡ lineLength bytes.now }
+    ensures value { result ≡ line_length bytes.now }
     ensures upper_bound { result ≤ length bytes.now }
 {
     let mut i = 0;

@@ -1,6 +1,6 @@
 // The tally of taken, refused and cut lines.
 ghost use Rattle.std.specs.Prelude.{◌≡◌};
-ghost use Rattle.lines.specs.Counting.{oneMore, counted};
+ghost use Rattle.lines.specs.Counting.{one_more, counted};
 
 #[derive(Drop)]
 pub struct Tally {
@@ -11,7 +11,7 @@ pub struct Tally {
 
 // One more; a count stays at the largest word.
 pub fn one_more(n: u64) -> u64
-    ensures { result ≡ oneMore n }
+    ensures { result ≡ one_more n }
 {
     if n < u64::MAX { n + 1 } else { n }
 }

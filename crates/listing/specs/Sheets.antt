@@ -2,15 +2,15 @@
 use Rattle.std.specs.Prelude.{ℕ, ◌+◌, ◌<◌, ◌≡◌, List, length}
 use Rattle.model.specs.declared.Decoded.{Decoded}
 use Rattle.model.specs.declared.Decoded.TheVariants.{Change, Close, Malformed}
-use Rattle.model.specs.Listing.{Shown, shownChange, shownClose, Listed, onPages}
+use Rattle.model.specs.Listing.{Shown, shown_change, shown_close, Listed, on_pages}
 use Rattle.listing.specs.declared.pages.Sheet.{Sheet}
 use Rattle.listing.specs.Laid.{laid}
 
 -- what a line shows of it; a malformed one is not listed
-abbrev pub shownOf : Decoded → Shown
-shownOf (Change kind page slot number copy width next) = shownChange kind number page slot width
-shownOf (Close kind number next) = shownClose kind number
-shownOf Malformed = shownClose 0 0
+abbrev pub shown_of : Decoded → Shown
+shown_of (Change kind page slot number copy width next) = shown_change kind number page slot width
+shown_of (Close kind number next) = shown_close kind number
+shown_of Malformed = shown_close 0 0
 
 -- A record that can be listed: its fields have room in their columns.
 abbrev pub Fits : Decoded → Type 0
@@ -18,8 +18,8 @@ Fits (Change kind page slot number copy width next) = (page < 1000) × (slot < 1
 Fits (Close kind number next) = Unit {0}
 Fits Malformed = ⊥
 
-abbrev pub listedAs : (disk position : ℕ) → Decoded → Listed
-listedAs disk position here = record { disk = disk; position = position; content = shownOf here }
+abbrev pub listed_as : (disk position : ℕ) → Decoded → Listed
+listed_as disk position here = record { disk = disk; position = position; content = shown_of here }
 
 -- The bytes and the number of lines in the end.
 pub record Listing : Type 0 where
@@ -29,9 +29,9 @@ pub record Listing : Type 0 where
 -- with these records still to come
 unfoldable pub finished : (first : ℕ) → Sheet → List Listed → (out : List ℕ) → Listing
 finished first sheet es out =
-    record { bytes = laid first sheet.line (onPages sheet.left es) out; lines = sheet.line + length (onPages sheet.left es) }
+    record { bytes = laid first sheet.line (on_pages sheet.left es) out; lines = sheet.line + length (on_pages sheet.left es) }
 
 -- The lines of all these records, counted and laid.
 pub record LaidAll (first : ℕ) (es : List Listed) (lines : ℕ) (out after : List ℕ) : Type 0 where
-  pub count : lines ≡ length (onPages 0 es)
-  pub bytes : after ≡ laid first 0 (onPages 0 es) out
+  pub count : lines ≡ length (on_pages 0 es)
+  pub bytes : after ≡ laid first 0 (on_pages 0 es) out

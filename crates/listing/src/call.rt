@@ -1,10 +1,10 @@
 // The calls that write the log on paper into lent bytes. They read the anchor and the log disks, and of the state its stage alone.
 ghost use Rattle.std.specs.Prelude.{◌≡◌, true, length};
-ghost use Rattle.model.specs.Sizes.{logWords, sizesInBounds};
-ghost use Rattle.model.specs.Anchor.{anchorWords, sizesOn};
-ghost use Rattle.model.specs.Refusal.{verdict, answerBy};
-ghost use Rattle.model.specs.Listing.{listing, listRows, notALine, notLines, lines_from, lineAfter, linesAfter};
-ghost use Rattle.listing.specs.Call.{lastRows, Lists};
+ghost use Rattle.model.specs.Sizes.{log_words, sizes_in_bounds};
+ghost use Rattle.model.specs.Anchor.{anchor_words, sizes_on};
+ghost use Rattle.model.specs.Refusal.{verdict, answer_by};
+ghost use Rattle.model.specs.Listing.{listing, list_rows, not_aline, not_lines, lines_from, line_after, lines_after};
+ghost use Rattle.listing.specs.Call.{last_rows, Lists};
 
 use crate::pages::lay_disks;
 use frame::stages::is_shut;
@@ -34,8 +34,8 @@ fn refused(number: u64) -> Found
 
 // Rows 6, 7 and 8, and the lines where none applies. Past the last line there is nothing to write.
 fn list_on(sizes: Sizes, first: u64, anchor: &[u64], logs: &[u64], out: &mut [u8]) -> Found
-    requires { (sizes ≡ sizesOn anchor.now) × (sizesInBounds sizes ≡ true) × (length anchor.now ≡ anchorWords) × (length logs.now ≡ logWords sizes) }
-    ensures { Lists (lastRows anchor.now logs.now first) (listing anchor.now logs.now) first out.old result out.new }
+    requires { (sizes ≡ sizes_on anchor.now) × (sizes_in_bounds sizes ≡ true) × (length anchor.now ≡ anchor_words) × (length logs.now ≡ log_words sizes) }
+    ensures { Lists (last_rows anchor.now logs.now first) (listing anchor.now logs.now) first out.old result out.new }
 {
     let starts = current_starts(sizes.disks, anchor);
     let tails = tails_on(sizes, logs);
@@ -69,7 +69,7 @@ fn list(
     logs: &[u64],
     out: &mut [u8],
 ) -> Found
-    ensures { Lists (listRows stage wrong anchor.now logs.now first) (listing anchor.now logs.now) first out.old result out.new }
+    ensures { Lists (list_rows stage wrong anchor.now logs.now first) (listing anchor.now logs.now) first out.old result out.new }
 {
     if !is_shut(stage) {
         return refused(1);
@@ -90,8 +90,8 @@ fn list(
 
 // The line of a number, into 73 bytes.
 pub fn list_line(stage: Stage, number: u64, anchor: &[u64], logs: &[u64], out: &mut [u8]) -> Answer
-    ensures value { result ≡ answerBy (verdict (listRows stage (notALine (length out.old)) anchor.now logs.now number)) 0 }
-    ensures out_after { out.new ≡ lineAfter stage anchor.now logs.now number out.old }
+    ensures value { result ≡ answer_by (verdict (list_rows stage (not_aline (length out.old)) anchor.now logs.now number)) 0 }
+    ensures out_after { out.new ≡ line_after stage anchor.now logs.now number out.old }
 {
     let wrong = out.len() != 73;
     let found = list(stage, wrong, number, anchor, logs, out);
@@ -110,9 +110,9 @@ pub fn list_line(stage: Stage, number: u64, anchor: &[u64], logs: &[u64], out: &
 
 // The lines from a number on, into a whole number of lines; answers how many.
 pub fn list_lines(stage: Stage, first: u64, anchor: &[u64], logs: &[u64], out: &mut [u8]) -> Answer
-    ensures value { result ≡ answerBy (verdict (listRows stage (notLines (length out.old)) anchor.now logs.now first))
+    ensures value { result ≡ answer_by (verdict (list_rows stage (not_lines (length out.old)) anchor.now logs.now first))
         (length (lines_from anchor.now logs.now first (length out.old))) }
-    ensures out_after { out.new ≡ linesAfter stage anchor.now logs.now first out.old }
+    ensures out_after { out.new ≡ lines_after stage anchor.now logs.now first out.old }
 {
     let room = out.len() as u64 / 73;
     let wrong = out.len() % 73 != 0;

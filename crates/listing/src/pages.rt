@@ -1,19 +1,19 @@
 // The lines of a listing, counted from 0, and those that are wanted laid into the lent bytes: line `first` at the front, each other
 // behind the one before it, as far as there is room.
 ghost use Rattle.std.specs.Prelude.{◌≡◌, true, List, ◌∷◌, ◌++◌, ◌+◌, ◌-◌, ◌^◌, ◌≤◌, ◌<◌, length, get_or};
-ghost use Rattle.model.specs.Below.{joinBelow};
-ghost use Rattle.model.specs.Sizes.{logWords, sizesInBounds};
+ghost use Rattle.model.specs.Below.{join_below};
+ghost use Rattle.model.specs.Sizes.{log_words, sizes_in_bounds};
 ghost use Rattle.model.specs.Scan.{scan};
 ghost use Rattle.model.specs.Refusal.{accepted, verdict};
-ghost use Rattle.model.specs.Causes.{retainedFrom, logRows};
-ghost use Rattle.model.specs.Listing.{Listed, shownLine, heading, listedIn};
-ghost use Rattle.log.specs.Ring.{readRing, Ring, Entries, EntriesOf};
-ghost use Rattle.listing.specs.Laid.{wanted, laidLine};
-ghost use Rattle.listing.specs.Sheets.{shownOf, Fits, listedAs, finished, LaidAll};
+ghost use Rattle.model.specs.Causes.{retained_from, log_rows};
+ghost use Rattle.model.specs.Listing.{Listed, shown_line, heading, listed_in};
+ghost use Rattle.disk_log.specs.Ring.{read_ring, Ring, Entries, EntriesOf};
+ghost use Rattle.listing.specs.Laid.{wanted, laid_line};
+ghost use Rattle.listing.specs.Sheets.{shown_of, Fits, listed_as, finished, LaidAll};
 
 use crate::columns::{put_change, put_close, put_heading};
 use layout::disks::{disk_at, ring_of};
-use log::ring::{decode_ring, ring_words};
+use disk_log::ring::{decode_ring, ring_words};
 use model::{Decoded, Sizes};
 
 const LINE_BYTES: u64 = 73;
@@ -37,7 +37,7 @@ fn is_wanted(first: u64, line: u64, bytes: u64) -> bool
 
 // The heading as this line, if it is wanted.
 fn lay_heading(out: &mut [u8], first: u64, line: u64)
-    ensures { out.new ≡ laidLine first line heading out.old }
+    ensures { out.new ≡ laid_line first line heading out.old }
 {
     if !is_wanted(first, line, out.len() as u64) {
         return;
@@ -49,7 +49,7 @@ fn lay_heading(out: &mut [u8], first: u64, line: u64)
 // A record as this line, if it is wanted.
 fn lay_record(out: &mut [u8], first: u64, line: u64, disk: u64, position: u64, here: Decoded)
     requires { (disk < 10) × Fits here }
-    ensures { out.new ≡ laidLine first line (shownLine disk position (shownOf here)) out.old }
+    ensures { out.new ≡ laid_line first line (shown_line disk position (shown_of here)) out.old }
 {
     if !is_wanted(first, line, out.len() as u64) {
         return;
@@ -91,7 +91,7 @@ fn lay_next(
 ) -> Sheet
     requires { (disk < 10) × Fits here × (sheet.line < 2 ^ 63) }
     ensures out_after { (more : List Listed) → finished first result more out.new
-        ≡ finished first sheet (listedAs disk position here ∷ more) out.old }
+        ≡ finished first sheet (listed_as disk position here ∷ more) out.old }
     ensures line_bound { result.line ≤ sheet.line + 2 }
 {
     if sheet.left == 0 {
@@ -124,7 +124,7 @@ fn lay_disk(
     requires { Entries slots.now widths.now × Ring ring.now tail × (disk < 10) × (tail ≤ start + 65536) × (sheet.line ≤ 2 ^ 62) }
     ensures out_after { (s : Sizes) (more : List Listed) → EntriesOf s slots.now widths.now
         → finished first result more out.new
-        ≡ finished first sheet (listedIn disk (scan s (readRing ring.now) tail start) ++ more) out.old }
+        ≡ finished first sheet (listed_in disk (scan s (read_ring ring.now) tail start) ++ more) out.old }
     ensures line_bound { result.line ≤ sheet.line + (tail - start) }
 {
     let size = ring.len() as u64;
@@ -144,8 +144,8 @@ fn lay_disk(
 
 // The records of all disks; answers how many lines the listing has.
 pub fn lay_disks(sizes: Sizes, starts: [u64; 8], logs: &[u64], out: &mut [u8], first: u64) -> u64
-    requires { (sizesInBounds sizes ≡ true) × (length logs.now ≡ logWords sizes) × (verdict (logRows sizes (λ d. get_or starts d 0) logs.now) ≡ accepted) }
-    ensures { LaidAll first (joinBelow (λ d. listedIn d (retainedFrom sizes (λ e. get_or starts e 0) logs.now d)) sizes.disks) result out.old out.new }
+    requires { (sizes_in_bounds sizes ≡ true) × (length logs.now ≡ log_words sizes) × (verdict (log_rows sizes (λ d. get_or starts d 0) logs.now) ≡ accepted) }
+    ensures { LaidAll first (join_below (λ d. listed_in d (retained_from sizes (λ e. get_or starts e 0) logs.now d)) sizes.disks) result out.old out.new }
 {
     let disks = sizes.disks;
     let slots = sizes.slots;

@@ -7,43 +7,43 @@ use mathlib.Core.List.{List, [], ◌∷◌, ◌++◌, map}
 use lib.ListN.{replicate}
 use Rattle.model.specs.declared.Core.{Core}
 use Rattle.model.specs.Refusal.{number_of, first_of}
-use Rattle.model.specs.Transaction.{diskOf}
-use Rattle.model.specs.Call.{Call, begin, update, commit, setClasses, restartBegin, restartRun, restartEnd, newState}
+use Rattle.model.specs.Transaction.{disk_of}
+use Rattle.model.specs.Call.{Call, begin, update, commit, set_classes, restart_begin, restart_run, restart_end, new_state}
 use Rattle.model.specs.Machine.{Machine, call, result, formatted}
-use Rattle.model.specs.ClassPromise.{same, tables, AllAlike, afterAll, TakenAll, Failed, failedAt, restartsOnly, Found}
+use Rattle.model.specs.ClassPromise.{same, tables, AllAlike, after_all, TakenAll, Failed, failed_at, restarts_only, Found}
 use Rattle.model.proofs.Everything.{everything}
 use Rattle.model.proofs.Play.{unformatted}
 use Rattle.model.proofs.Positions.{plenty}
-use Rattle.model.proofs.Idle.{hallSizes}
+use Rattle.model.proofs.Idle.{hall_sizes}
 
 -- the hall's store, formatted: two disks
 unfoldable pub hall : Machine
-hall = (formatted (unformatted hallSizes) hallSizes plenty).machine
+hall = (formatted (unformatted hall_sizes) hall_sizes plenty).machine
 
 abbrev does : List Call → Core
-does calls = (afterAll (map call calls) hall).core
+does calls = (after_all (map call calls) hall).core
 
 -- Classes 0 to 9 on disk 1, the others on disk 0.
 abbrev split : List ℕ
 split = 0 ∷ 9 ∷ 2 ∷ 10 ∷ 255 ∷ 1 ∷ []
 
 abbrev restart : List Call
-restart = newState ∷ restartBegin ∷ restartRun 0 plenty ∷ restartRun 1 plenty ∷ restartRun 2 plenty ∷ restartEnd plenty ∷ []
+restart = new_state ∷ restart_begin ∷ restart_run 0 plenty ∷ restart_run 1 plenty ∷ restart_run 2 plenty ∷ restart_end plenty ∷ []
 
-pub classes-computed : map (diskOf (does (setClasses split ∷ begin 0 ∷ begin 9 ∷ begin 10 ∷ begin 255 ∷ []))) (1 ∷ 2 ∷ 3 ∷ 4 ∷ []) ≡ 1 ∷ 1 ∷ 0 ∷ 0 ∷ []
-unfolding everything unformatted hallSizes hall afterAll
-classes-computed = refl
+pub classes_computed : map (disk_of (does (set_classes split ∷ begin 0 ∷ begin 9 ∷ begin 10 ∷ begin 255 ∷ []))) (1 ∷ 2 ∷ 3 ∷ 4 ∷ []) ≡ 1 ∷ 1 ∷ 0 ∷ 0 ∷ []
+unfolding everything unformatted hall_sizes hall after_all
+classes_computed = refl
 
 -- a restart leaves no table: its first begin gets the first disk again, whatever its class
-pub restarted-computed : diskOf (does (setClasses split ∷ begin 0 ∷ restart ++ begin 0 ∷ [])) 1 ≡ 0
-unfolding everything unformatted hallSizes hall afterAll
-restarted-computed = refl
+pub restarted_computed : disk_of (does (set_classes split ∷ begin 0 ∷ restart ++ begin 0 ∷ [])) 1 ≡ 0
+unfolding everything unformatted hall_sizes hall after_all
+restarted_computed = refl
 
 -- How a table is refused, and the value returned.
 abbrev answer : List ℕ → List ℕ
-answer lines = number_of (result hall (setClasses lines)).answer ∷ first_of (result hall (setClasses lines)).answer ∷ []
+answer lines = number_of (result hall (set_classes lines)).answer ∷ first_of (result hall (set_classes lines)).answer ∷ []
 
-pub refusals-computed : map answer
+pub refusals_computed : map answer
     -- no line, seventeen, and no whole one
     ([] ∷ replicate 51 1 ∷ (0 ∷ 255 ∷ 1 ∷ 1 ∷ [])
     -- low above high, in the second line; high above 255; an empty set; a third disk of two
@@ -52,38 +52,38 @@ pub refusals-computed : map answer
     ∷ (0 ∷ 254 ∷ 3 ∷ []) ∷ (0 ∷ 255 ∷ 1 ∷ 7 ∷ 7 ∷ 2 ∷ []) ∷ (0 ∷ 199 ∷ 1 ∷ 7 ∷ 7 ∷ 2 ∷ 201 ∷ 255 ∷ 1 ∷ []) ∷ split ∷ [])
     ≡ (5 ∷ 0 ∷ []) ∷ (5 ∷ 0 ∷ []) ∷ (5 ∷ 0 ∷ []) ∷ (17 ∷ 1 ∷ []) ∷ (17 ∷ 0 ∷ []) ∷ (17 ∷ 0 ∷ []) ∷ (17 ∷ 0 ∷ []) ∷ (18 ∷ 255 ∷ [])
     ∷ (19 ∷ 7 ∷ []) ∷ (18 ∷ 200 ∷ []) ∷ (0 ∷ 0 ∷ []) ∷ []
-unfolding everything unformatted hallSizes hall
-refusals-computed = refl
+unfolding everything unformatted hall_sizes hall
+refusals_computed = refl
 
 -- The premises of TwoTables are met: every class on disk 0, or every class on disk 1.
 abbrev under : (set : ℕ) → List Call
-under set = setClasses (0 ∷ 255 ∷ set ∷ []) ∷ begin 5 ∷ update 1 0 0 (2 ∷ []) plenty ∷ commit 1 plenty ∷ begin 5 ∷ []
+under set = set_classes (0 ∷ 255 ∷ set ∷ []) ∷ begin 5 ∷ update 1 0 0 (2 ∷ []) plenty ∷ commit 1 plenty ∷ begin 5 ∷ []
 
 pub alike : AllAlike (under 1) (under 2)
 unfolding AllAlike
 alike = (tables _ _, (same _, (same _, (same _, (same _, tt)))))
 
-pub two-disks : diskOf (does (under 1)) 2 ∷ diskOf (does (under 2)) 2 ∷ [] ≡ 0 ∷ 1 ∷ []
-unfolding everything unformatted hallSizes hall afterAll
-two-disks = refl
+pub two_disks_lem : disk_of (does (under 1)) 2 ∷ disk_of (does (under 2)) 2 ∷ [] ≡ 0 ∷ 1 ∷ []
+unfolding everything unformatted hall_sizes hall after_all
+two_disks_lem = refl
 
-unfoldable pub one-fails : Failed hall (under 1)
-unfolding everything unformatted hallSizes hall afterAll TakenAll
-one-fails = record { allowed = refl; taken = (refl, (refl, (refl, (refl, (refl, tt))))); failing = newState; may = refl; fails = inl refl }
+unfoldable pub one_fails : Failed hall (under 1)
+unfolding everything unformatted hall_sizes hall after_all TakenAll
+one_fails = record { allowed = refl; taken = (refl, (refl, (refl, (refl, (refl, tt))))); failing = new_state; may = refl; fails = inl refl }
 
-unfoldable pub other-fails : Failed hall (under 2)
-unfolding everything unformatted hallSizes hall afterAll TakenAll
-other-fails = record { allowed = refl; taken = (refl, (refl, (refl, (refl, (refl, tt))))); failing = newState; may = refl; fails = inl refl }
+unfoldable pub other_fails : Failed hall (under 2)
+unfolding everything unformatted hall_sizes hall after_all TakenAll
+other_fails = record { allowed = refl; taken = (refl, (refl, (refl, (refl, (refl, tt))))); failing = new_state; may = refl; fails = inl refl }
 
 -- Restarts find the committed value, from whichever disk.
 abbrev found : List ℕ
 found = 2 ∷ replicate 7 0
 
-pub one_found : Found (failedAt one-fails) found
-unfolding everything unformatted hallSizes hall afterAll one-fails restartsOnly
+pub one_found : Found (failed_at one_fails) found
+unfolding everything unformatted hall_sizes hall after_all one_fails restarts_only
 one_found =
     record {
-      restarts = map call (restartBegin ∷ restartRun 0 plenty ∷ restartRun 1 plenty ∷ restartRun 2 plenty ∷ []);
+      restarts = map call (restart_begin ∷ restart_run 0 plenty ∷ restart_run 1 plenty ∷ restart_run 2 plenty ∷ []);
       only = refl;
       allowed = refl;
       budget = plenty;
@@ -92,12 +92,12 @@ one_found =
     }
 
 -- the sources in another order, after a restart that is cut in its end
-pub other-found : Found (failedAt other-fails) found
-unfolding everything unformatted hallSizes hall afterAll other-fails restartsOnly
-other-found =
+pub other_found : Found (failed_at other_fails) found
+unfolding everything unformatted hall_sizes hall after_all other_fails restarts_only
+other_found =
     record {
-      restarts = map call (restartBegin ∷ restartRun 0 plenty ∷ restartRun 1 plenty ∷ restartRun 2 plenty ∷ restartEnd 3
-          ∷ restartBegin ∷ restartRun 2 plenty ∷ restartRun 1 plenty ∷ restartRun 0 plenty ∷ []);
+      restarts = map call (restart_begin ∷ restart_run 0 plenty ∷ restart_run 1 plenty ∷ restart_run 2 plenty ∷ restart_end 3
+          ∷ restart_begin ∷ restart_run 2 plenty ∷ restart_run 1 plenty ∷ restart_run 0 plenty ∷ []);
       only = refl;
       allowed = refl;
       budget = plenty;

@@ -8,47 +8,47 @@ use Rattle.model.specs.declared.Sizes.{Sizes}
 use Rattle.model.specs.declared.Decoded.{Decoded}
 use Rattle.model.specs.declared.Decoded.TheVariants.{Change, Close, Malformed}
 use Rattle.model.specs.Word.{OfBits}
-use Rattle.model.specs.Sizes.{ringWord}
-use Rattle.model.specs.Anchor.{sizesOn, startOn}
+use Rattle.model.specs.Sizes.{ring_word}
+use Rattle.model.specs.Anchor.{sizes_on, start_on}
 use Rattle.model.specs.Record.{Record}
-use Rattle.model.specs.Decode.{read_log, decodeAt}
+use Rattle.model.specs.Decode.{read_log, decode_at}
 use Rattle.model.specs.Scan.{Scan, end, bad, item}
 use Rattle.model.specs.State.{limit}
-use Rattle.model.specs.Causes.{tailIn, retainedFrom}
-use Rattle.model.specs.Listing.{shown, Listed, listedIn, listedOn}
-use Rattle.model.specs.ListingLaws.{ClearShown, Clear, Listable, ListedClear, numberShown, ListedNumbers}
-use Rattle.model.proofs.Booleans.{cond-all}
-use Rattle.model.proofs.Members.{Every, every-nil, every-cons, every-join}
+use Rattle.model.specs.Causes.{tail_in, retained_from}
+use Rattle.model.specs.Listing.{shown, Listed, listed_in, listed_on}
+use Rattle.model.specs.ListingLaws.{ClearShown, Clear, Listable, ListedClear, number_shown, ListedNumbers}
+use Rattle.model.proofs.Booleans.{cond_all}
+use Rattle.model.proofs.Members.{Every, every_nil, every_cons, every_join}
 use Rattle.model.proofs.Bounds.{Bounded, bounded}
-use Rattle.model.proofs.Decode.{Found, found, decoded-all}
-use Rattle.model.proofs.Reading.{Decodes, Reads, scan-reads}
-use Rattle.model.proofs.Checked.{rows-checked}
-use Rattle.model.proofs.Restart.Gain.{length-span}
+use Rattle.model.proofs.Decode.{Found, found, decoded_all}
+use Rattle.model.proofs.Reading.{Decodes, Reads, scan_reads}
+use Rattle.model.proofs.Checked.{rows_checked}
+use Rattle.model.proofs.Restart.Gain.{length_span}
 
 -- A log that is read with sizes in bounds up to a stop gives clear records before that stop.
 module _ (s : Sizes) (b : Bounded s) (read : ℕ → ℕ) (stop : ℕ) where
-  clear-record : (p : ℕ) (d : Decoded) (r : Record) (next : ℕ) → Found s stop p d → Decodes read p d r next → ClearShown (shown r)
-  clear-record p (Change kind page slot number copy width to) r next f h =
+  clear_record : (p : ℕ) (d : Decoded) (r : Record) (next : ℕ) → Found s stop p d → Decodes read p d r next → ClearShown (shown r)
+  clear_record p (Change kind page slot number copy width to) r next f h =
       rw h.0 (record {
-        kind-lt = f.kind-lt;
-        page-lt = f.page-lt;
+        kind_lt = f.kind_lt;
+        page_lt = f.page_lt;
         slot_lt = f.slot_lt;
-        width-le = omega (arith, length-span read (p + 3) width, (b.used page f.page-in).width-max);
+        width_le = omega (arith, length_span read (p + 3) width, (b.used page f.page_in).width_max);
       })
-  clear-record p (Close kind number to) r next f h = rw h.0 (record { kind-ge = f.kind-ge; kind-lt = f.kind-lt })
-  clear-record p Malformed r next f h = absurd h
+  clear_record p (Close kind number to) r next f h = rw h.0 (record { kind_ge = f.kind_ge; kind_lt = f.kind_lt })
+  clear_record p Malformed r next f h = absurd h
 
   clear_reads : (disk p : ℕ) (sc : Scan) → disk < s.disks → stop ≤ limit → Reads s read stop p sc
-      → Every (λ (e : Listed). Clear e × (e.disk < s.disks)) (listedIn disk sc)
-  unfolding listedIn
-  clear_reads disk p end l low h = every-nil _
-  clear_reads disk p (bad q) l low h = every-nil _
+      → Every (λ (e : Listed). Clear e × (e.disk < s.disks)) (listed_in disk sc)
+  unfolding listed_in
+  clear_reads disk p end l low h = every_nil _
+  clear_reads disk p (bad q) l low h = every_nil _
   clear_reads disk p (item q r rest) l low h =
-      every-cons (λ (e : Listed). Clear e × (e.disk < s.disks)) _ (listedIn disk rest) (
+      every_cons (λ (e : Listed). Clear e × (e.disk < s.disks)) _ (listed_in disk rest) (
         record {
-          disk-lt = omega (arith, b.disks-max);
-          position-lt = omega (arith, h.0, h.1);
-          content-clear = clear-record p (decodeAt s read stop p) r h.2.0 (found s read stop p) h.2.2;
+          disk_lt = omega (arith, b.disks_max);
+          position_lt = omega (arith, h.0, h.1);
+          content_clear = clear_record p (decode_at s read stop p) r h.2.0 (found s read stop p) h.2.2;
         },
         l,
       )
@@ -60,54 +60,54 @@ Numbered n (Change kind page slot number copy width next) = number ≡ n
 Numbered n (Close kind number next) = number ≡ n
 Numbered n Malformed = Unit {0}
 
-numbered : (s : Sizes) (read : ℕ → ℕ) (stop p : ℕ) → Numbered (read (p + 1)) (decodeAt s read stop p)
-unfolding decodeAt
+numbered : (s : Sizes) (read : ℕ → ℕ) (stop p : ℕ) → Numbered (read (p + 1)) (decode_at s read stop p)
+unfolding decode_at
 numbered s read stop p =
-    decoded-all (λ (d : Decoded). Numbered (read (p + 1)) d) s stop p (read p) (read (p + 1)) (read (p + 2)) tt (λ k f m. refl) (λ k l f z. refl)
+    decoded_all (λ (d : Decoded). Numbered (read (p + 1)) d) s stop p (read p) (read (p + 1)) (read (p + 2)) tt (λ k f m. refl) (λ k l f z. refl)
 
 abbrev Small : Listed → Type 0
-Small e = numberShown e.content < 2 ^ 64
+Small e = number_shown e.content < 2 ^ 64
 
 -- So the numbers of a log of words are words.
 module _ (s : Sizes) (read : ℕ → ℕ) (words : (p : ℕ) → read p < 2 ^ 64) (stop : ℕ) where
-  small-record : (p : ℕ) (d : Decoded) (r : Record) (next : ℕ) → Numbered (read (p + 1)) d → Decodes read p d r next → numberShown (shown r) < 2 ^ 64
-  small-record p (Change kind page slot number copy width to) r next e h = rw h.0 (omega (arith, e, words (p + 1)))
-  small-record p (Close kind number to) r next e h = rw h.0 (omega (arith, e, words (p + 1)))
-  small-record p Malformed r next e h = absurd h
+  small_record : (p : ℕ) (d : Decoded) (r : Record) (next : ℕ) → Numbered (read (p + 1)) d → Decodes read p d r next → number_shown (shown r) < 2 ^ 64
+  small_record p (Change kind page slot number copy width to) r next e h = rw h.0 (omega (arith, e, words (p + 1)))
+  small_record p (Close kind number to) r next e h = rw h.0 (omega (arith, e, words (p + 1)))
+  small_record p Malformed r next e h = absurd h
 
-  small-reads : (disk p : ℕ) (sc : Scan) → Reads s read stop p sc → Every Small (listedIn disk sc)
-  unfolding listedIn
-  small-reads disk p end h = every-nil Small
-  small-reads disk p (bad q) h = every-nil Small
-  small-reads disk p (item q r rest) h =
-      every-cons Small _ (listedIn disk rest) (small-record p (decodeAt s read stop p) r h.2.0 (numbered s read stop p) h.2.2)
-      (small-reads disk h.2.0 rest h.2.3)
+  small_reads : (disk p : ℕ) (sc : Scan) → Reads s read stop p sc → Every Small (listed_in disk sc)
+  unfolding listed_in
+  small_reads disk p end h = every_nil Small
+  small_reads disk p (bad q) h = every_nil Small
+  small_reads disk p (item q r rest) h =
+      every_cons Small _ (listed_in disk rest) (small_record p (decode_at s read stop p) r h.2.0 (numbered s read stop p) h.2.2)
+      (small_reads disk h.2.0 rest h.2.3)
 
-read-words : (s : Sizes) (logs : List ℕ) (disk tail : ℕ) → OfBits 64 logs → (p : ℕ) → read_log s logs disk tail [] p < 2 ^ 64
+read_words_lem : (s : Sizes) (logs : List ℕ) (disk tail : ℕ) → OfBits 64 logs → (p : ℕ) → read_log s logs disk tail [] p < 2 ^ 64
 unfolding OfBits read_log
-read-words s logs disk tail words p = cond-all (λ (w : ℕ). w < 2 ^ 64) (ltb p tail) (λ _. words (ringWord s disk p)) (λ _. omega arith)
+read_words_lem s logs disk tail words p = cond_all (λ (w : ℕ). w < 2 ^ 64) (ltb p tail) (λ _. words (ring_word s disk p)) (λ _. omega arith)
 
-pub listed-clear : ListedClear
-unfolding ListedClear listedOn retainedFrom
-listed-clear anchor logs h =
-    let s : Sizes = sizesOn anchor in
-    let c = (rows-checked h.others anchor logs h.passed).0 in
-    every-join (λ (e : Listed). Clear e × (e.disk < s.disks)) (λ disk. listedIn disk (retainedFrom s (startOn anchor) logs disk)) s.disks
+pub listed_clear : ListedClear
+unfolding ListedClear listed_on retained_from
+listed_clear anchor logs h =
+    let s : Sizes = sizes_on anchor in
+    let c = (rows_checked h.others anchor logs h.passed).0 in
+    every_join (λ (e : Listed). Clear e × (e.disk < s.disks)) (λ disk. listed_in disk (retained_from s (start_on anchor) logs disk)) s.disks
     (λ disk l.
-    let tail : ℕ = tailIn s logs disk in
-    clear_reads s (bounded s c.bounds) (read_log s logs disk tail []) tail disk (startOn anchor disk) _ l
-    (c.whole.tails disk l).2 (scan-reads s (read_log s logs disk tail []) tail (startOn anchor disk)))
+    let tail : ℕ = tail_in s logs disk in
+    clear_reads s (bounded s c.bounds) (read_log s logs disk tail []) tail disk (start_on anchor disk) _ l
+    (c.whole.tails disk l).2 (scan_reads s (read_log s logs disk tail []) tail (start_on anchor disk)))
 
-pub clear-on : (anchor logs : List ℕ) → Listable anchor logs → Every Clear (listedOn anchor logs)
+pub clear_on : (anchor logs : List ℕ) → Listable anchor logs → Every Clear (listed_on anchor logs)
 unfolding ListedClear
-clear-on anchor logs h e m = (listed-clear anchor logs h e m).0
+clear_on anchor logs h e m = (listed_clear anchor logs h e m).0
 
-pub listed-numbers : ListedNumbers
-unfolding ListedNumbers listedOn retainedFrom
-listed-numbers anchor logs words =
-    let s : Sizes = sizesOn anchor in
-    every-join Small (λ disk. listedIn disk (retainedFrom s (startOn anchor) logs disk)) s.disks
+pub listed_numbers : ListedNumbers
+unfolding ListedNumbers listed_on retained_from
+listed_numbers anchor logs words =
+    let s : Sizes = sizes_on anchor in
+    every_join Small (λ disk. listed_in disk (retained_from s (start_on anchor) logs disk)) s.disks
     (λ disk l.
-    let tail : ℕ = tailIn s logs disk in
-    small-reads s (read_log s logs disk tail []) (read-words s logs disk tail words) tail disk (startOn anchor disk) _
-    (scan-reads s (read_log s logs disk tail []) tail (startOn anchor disk)))
+    let tail : ℕ = tail_in s logs disk in
+    small_reads s (read_log s logs disk tail []) (read_words_lem s logs disk tail words) tail disk (start_on anchor disk) _
+    (scan_reads s (read_log s logs disk tail []) tail (start_on anchor disk)))

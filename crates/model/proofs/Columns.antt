@@ -8,10 +8,10 @@ use mathlib.Core.Bool.{cond}
 use lib.ListN.{length, get_or, take, drop, replicate, length-append}
 use lib.Seq.{take_at, drop_at, drop-drop}
 use Rattle.model.specs.Word.{part}
-use Rattle.model.specs.Text.{lastDigits, decimal, padded}
-use Rattle.model.specs.Listing.{gap, inColumns, lineBytes, heading, kindName, Shown, shownChange, shownClose, Listed, line_of}
-use Rattle.model.specs.ListingLaws.{numberShown, ClearShown, Clear, Columns, ColumnsOf, LineColumns, HeadingColumns, LineTells}
-use Rattle.model.proofs.Text.{length-padded, digits-most, digits-below, said, said-padded}
+use Rattle.model.specs.Text.{last_digits, decimal, padded}
+use Rattle.model.specs.Listing.{gap, in_columns, line_bytes, heading, kind_name, Shown, shown_change, shown_close, Listed, line_of}
+use Rattle.model.specs.ListingLaws.{number_shown, ClearShown, Clear, Columns, ColumnsOf, LineColumns, HeadingColumns, LineTells}
+use Rattle.model.proofs.Text.{length_padded, digits_most, digits_below, said, said_padded}
 
 -- What stands at a place is its part, and behind it stands the rest.
 stands : (line field rest : List ℕ) (at n : ℕ) → drop at line ≡ field ++ rest → length field ≡ n
@@ -21,26 +21,26 @@ stands line field rest at n e l = (ap (take n) e ∙ take_at field rest n l, sym
 
 -- Seven texts that are no longer than their columns.
 pub record Fits (disk position kind transaction page slot width : List ℕ) : Type 0 where
-  pub disk-fits : length disk ≤ 1
-  pub position-fits : length position ≤ 20
+  pub disk_fits : length disk ≤ 1
+  pub position_fits : length position ≤ 20
   pub kind_fits : length kind ≤ 12
-  pub transaction-fits : length transaction ≤ 20
-  pub page-fits : length page ≤ 3
-  pub slot-fits : length slot ≤ 4
+  pub transaction_fits : length transaction ≤ 20
+  pub page_fits : length page ≤ 3
+  pub slot_fits_lem : length slot ≤ 4
   pub width_fits : length width ≤ 3
 
-pub columns-stand : (disk position kind transaction page slot width : List ℕ) → Fits disk position kind transaction page slot width
-    → Columns (inColumns disk position kind transaction page slot width) disk position kind transaction page slot width
-unfolding inColumns
-columns-stand disk position kind transaction page slot width f =
-    let d = length-padded 1 disk f.disk-fits in
-    let p = length-padded 20 position f.position-fits in
-    let k = length-padded 12 kind f.kind_fits in
-    let t = length-padded 20 transaction f.transaction-fits in
-    let g = length-padded 3 page f.page-fits in
-    let s = length-padded 4 slot f.slot-fits in
-    let w = length-padded 3 width f.width_fits in
-    let line = inColumns disk position kind transaction page slot width in
+pub columns_stand : (disk position kind transaction page slot width : List ℕ) → Fits disk position kind transaction page slot width
+    → Columns (in_columns disk position kind transaction page slot width) disk position kind transaction page slot width
+unfolding in_columns
+columns_stand disk position kind transaction page slot width f =
+    let d = length_padded 1 disk f.disk_fits in
+    let p = length_padded 20 position f.position_fits in
+    let k = length_padded 12 kind f.kind_fits in
+    let t = length_padded 20 transaction f.transaction_fits in
+    let g = length_padded 3 page f.page_fits in
+    let s = length_padded 4 slot f.slot_fits_lem in
+    let w = length_padded 3 width f.width_fits in
+    let line = in_columns disk position kind transaction page slot width in
     let a = stands line (padded 1 disk) _ 0 1 refl d in
     let b = stands line gap _ 1 3 a.1 refl in
     let c = stands line (padded 20 position) _ 4 20 b.1 p in
@@ -53,145 +53,145 @@ columns-stand disk position kind transaction page slot width f =
     let n = stands line (padded 3 width) _ 69 3 m.1 w in
     record {
       long = simp (length-append, d, p, k, t, g, s, w);
-      disk-at = a.0;
-      gap-behind-disk = b.0;
+      disk_at_lem = a.0;
+      gap_behind_disk = b.0;
       position_at = c.0;
-      gap-behind-position = e.0;
+      gap_behind_position = e.0;
       kind_at = h.0;
-      gap-behind-kind = i.0;
-      transaction-at = j.0;
-      page-at = l.0;
+      gap_behind_kind = i.0;
+      transaction_at = j.0;
+      page_at_lem = l.0;
       slot_at = m.0;
-      width-at = n.0;
+      width_at = n.0;
       ends = (stands line (10 ∷ []) [] 72 1 n.1 refl).0;
     }
 
 -- The four kinds, one by one.
-each-kind : (P : ℕ → Type 0) → P 0 → P 1 → P 2 → P 3 → (kind : ℕ) → kind < 4 → P kind
-each-kind P a b c d zero h = a
-each-kind P a b c d (suc zero) h = b
-each-kind P a b c d (suc (suc zero)) h = c
-each-kind P a b c d (suc (suc (suc zero))) h = d
-each-kind P a b c d (suc (suc (suc (suc n)))) h = absurd (omega arith)
+each_kind : (P : ℕ → Type 0) → P 0 → P 1 → P 2 → P 3 → (kind : ℕ) → kind < 4 → P kind
+each_kind P a b c d zero h = a
+each_kind P a b c d (suc zero) h = b
+each_kind P a b c d (suc (suc zero)) h = c
+each_kind P a b c d (suc (suc (suc zero))) h = d
+each_kind P a b c d (suc (suc (suc (suc n)))) h = absurd (omega arith)
 
-kind-fit : (kind : ℕ) → kind < 4 → length (kindName kind) ≤ 12
-unfolding kindName
-kind-fit = each-kind (λ (kind : ℕ). length (kindName kind) ≤ 12) (omega arith) (omega arith) (omega arith) (omega arith)
+kind_fit : (kind : ℕ) → kind < 4 → length (kind_name kind) ≤ 12
+unfolding kind_name
+kind_fit = each_kind (λ (kind : ℕ). length (kind_name kind) ≤ 12) (omega arith) (omega arith) (omega arith) (omega arith)
 
 -- A name's letter before the last tells its kind: t, o, i or r.
-abbrev kindSaid : List ℕ → ℕ
-kindSaid field = cond (eqb (get_or field 10 0) 116) 0 (cond (eqb (get_or field 10 0) 111) 1 (cond (eqb (get_or field 10 0) 105) 2 3))
+abbrev kind_said : List ℕ → ℕ
+kind_said field = cond (eqb (get_or field 10 0) 116) 0 (cond (eqb (get_or field 10 0) 111) 1 (cond (eqb (get_or field 10 0) 105) 2 3))
 
-kind-said : (kind : ℕ) → kind < 4 → kindSaid (padded 12 (kindName kind)) ≡ kind
-unfolding kindName padded
-kind-said = each-kind (λ (kind : ℕ). kindSaid (padded 12 (kindName kind)) ≡ kind) refl refl refl refl
+kind_said_lem : (kind : ℕ) → kind < 4 → kind_said (padded 12 (kind_name kind)) ≡ kind
+unfolding kind_name padded
+kind_said_lem = each_kind (λ (kind : ℕ). kind_said (padded 12 (kind_name kind)) ≡ kind) refl refl refl refl
 
 -- The line of a record.
-pub line-columns : LineColumns
+pub line_columns : LineColumns
 unfolding LineColumns line_of
-line-columns e c = go e.content c.content-clear
+line_columns e c = go e.content c.content_clear
   where
     go : (s : Shown) → ClearShown s → ColumnsOf (line_of (record { disk = e.disk; position = e.position; content = s })) e.disk e.position s
-    go (shownChange kind number page slot width) h =
-        columns-stand (decimal e.disk) (decimal e.position) (kindName kind) (decimal number) (decimal page) (decimal slot) (decimal width)
+    go (shown_change kind number page slot width) h =
+        columns_stand (decimal e.disk) (decimal e.position) (kind_name kind) (decimal number) (decimal page) (decimal slot) (decimal width)
         (record {
-          disk-fits = digits-below 20 0 e.disk (omega arith) (omega arith);
-          position-fits = digits-most 20 e.position;
-          kind_fits = kind-fit kind (omega arith);
-          transaction-fits = digits-most 20 number;
-          page-fits = digits-below 20 2 page (omega arith) (omega arith);
-          slot-fits = digits-below 20 3 slot (omega arith) (omega arith);
-          width_fits = digits-below 20 2 width (omega arith) (omega arith);
+          disk_fits = digits_below 20 0 e.disk (omega arith) (omega arith);
+          position_fits = digits_most 20 e.position;
+          kind_fits = kind_fit kind (omega arith);
+          transaction_fits = digits_most 20 number;
+          page_fits = digits_below 20 2 page (omega arith) (omega arith);
+          slot_fits_lem = digits_below 20 3 slot (omega arith) (omega arith);
+          width_fits = digits_below 20 2 width (omega arith) (omega arith);
         })
-    go (shownClose kind number) h =
-        columns-stand (decimal e.disk) (decimal e.position) (kindName kind) (decimal number) [] [] []
+    go (shown_close kind number) h =
+        columns_stand (decimal e.disk) (decimal e.position) (kind_name kind) (decimal number) [] [] []
         (record {
-          disk-fits = digits-below 20 0 e.disk (omega arith) (omega arith);
-          position-fits = digits-most 20 e.position;
-          kind_fits = kind-fit kind (omega arith);
-          transaction-fits = digits-most 20 number;
-          page-fits = omega arith;
-          slot-fits = omega arith;
+          disk_fits = digits_below 20 0 e.disk (omega arith) (omega arith);
+          position_fits = digits_most 20 e.position;
+          kind_fits = kind_fit kind (omega arith);
+          transaction_fits = digits_most 20 number;
+          page_fits = omega arith;
+          slot_fits_lem = omega arith;
           width_fits = omega arith;
         })
 
-pub heading-columns : HeadingColumns
+pub heading_columns : HeadingColumns
 unfolding HeadingColumns heading
-heading-columns =
-    columns-stand _ _ _ _ _ _ _
+heading_columns =
+    columns_stand _ _ _ _ _ _ _
     (record {
-      disk-fits = omega arith;
-      position-fits = omega arith;
+      disk_fits = omega arith;
+      position_fits = omega arith;
       kind_fits = omega arith;
-      transaction-fits = omega arith;
-      page-fits = omega arith;
-      slot-fits = omega arith;
+      transaction_fits = omega arith;
+      page_fits = omega arith;
+      slot_fits_lem = omega arith;
       width_fits = omega arith;
     })
 
-pub heading-length : length heading ≡ lineBytes
+pub heading_length : length heading ≡ line_bytes
 unfolding HeadingColumns
-heading-length = heading-columns.long
+heading_length = heading_columns.long
 
-pub line-length : (e : Listed) → Clear e → length (line_of e) ≡ lineBytes
+pub line_length_lem : (e : Listed) → Clear e → length (line_of e) ≡ line_bytes
 unfolding LineColumns
-line-length e c = go e.content (line-columns e c)
+line_length_lem e c = go e.content (line_columns e c)
   where
-    go : (s : Shown) → ColumnsOf (line_of e) e.disk e.position s → length (line_of e) ≡ lineBytes
-    go (shownChange kind number page slot width) h = h.long
-    go (shownClose kind number) h = h.long
+    go : (s : Shown) → ColumnsOf (line_of e) e.disk e.position s → length (line_of e) ≡ line_bytes
+    go (shown_change kind number page slot width) h = h.long
+    go (shown_close kind number) h = h.long
 
 -- Equal fields say equal numbers.
 same_number : (columns m n : ℕ) → m < 10 ^ 20 → n < 10 ^ 20 → padded columns (decimal m) ≡ padded columns (decimal n) → m ≡ n
-same_number columns m n h l e = sym (said-padded columns m h) ∙ ap (said 0) e ∙ said-padded columns n l
+same_number columns m n h l e = sym (said_padded columns m h) ∙ ap (said 0) e ∙ said_padded columns n l
 
-same_kind : (k l : ℕ) → k < 4 → l < 4 → padded 12 (kindName k) ≡ padded 12 (kindName l) → k ≡ l
-same_kind k l h m e = sym (kind-said k h) ∙ ap kindSaid e ∙ kind-said l m
+same_kind : (k l : ℕ) → k < 4 → l < 4 → padded 12 (kind_name k) ≡ padded 12 (kind_name l) → k ≡ l
+same_kind k l h m e = sym (kind_said_lem k h) ∙ ap kind_said e ∙ kind_said_lem l m
 
 -- A line tells its record.
-pub line-tells : LineTells
+pub line_tells : LineTells
 unfolding LineTells LineColumns
-line-tells e f c h small low same =
-    go e.content c.content-clear small f.content h.content-clear low (line-columns e c)
-    (subst (λ (line : List ℕ). ColumnsOf line f.disk f.position f.content) (sym same) (line-columns f h))
+line_tells e f c h small low same =
+    go e.content c.content_clear small f.content h.content_clear low (line_columns e c)
+    (subst (λ (line : List ℕ). ColumnsOf line f.disk f.position f.content) (sym same) (line_columns f h))
   where
-    go : (s : Shown) → ClearShown s → numberShown s < 2 ^ 64 → (u : Shown) → ClearShown u → numberShown u < 2 ^ 64
+    go : (s : Shown) → ClearShown s → number_shown s < 2 ^ 64 → (u : Shown) → ClearShown u → number_shown u < 2 ^ 64
         → ColumnsOf (line_of e) e.disk e.position s → ColumnsOf (line_of e) f.disk f.position u
         → ◌≡◌ {A = Listed} (record { disk = e.disk; position = e.position; content = s }) (record { disk = f.disk; position = f.position; content = u })
-    go (shownChange k n g s w) a i (shownChange k' n' g' s' w') b j x y =
+    go (shown_change k n g s w) a i (shown_change k' n' g' s' w') b j x y =
         rw (
-          same_number 1 e.disk f.disk (omega arith) (omega arith) (sym x.disk-at ∙ y.disk-at),
+          same_number 1 e.disk f.disk (omega arith) (omega arith) (sym x.disk_at_lem ∙ y.disk_at_lem),
           same_number 20 e.position f.position (omega arith) (omega arith) (sym x.position_at ∙ y.position_at),
           same_kind k k' (omega arith) (omega arith) (sym x.kind_at ∙ y.kind_at),
-          same_number 20 n n' (omega arith) (omega arith) (sym x.transaction-at ∙ y.transaction-at),
-          same_number 3 g g' (omega arith) (omega arith) (sym x.page-at ∙ y.page-at),
+          same_number 20 n n' (omega arith) (omega arith) (sym x.transaction_at ∙ y.transaction_at),
+          same_number 3 g g' (omega arith) (omega arith) (sym x.page_at_lem ∙ y.page_at_lem),
           same_number 4 s s' (omega arith) (omega arith) (sym x.slot_at ∙ y.slot_at),
-          same_number 3 w w' (omega arith) (omega arith) (sym x.width-at ∙ y.width-at),
+          same_number 3 w w' (omega arith) (omega arith) (sym x.width_at ∙ y.width_at),
         )
-    go (shownClose k n) a i (shownClose k' n') b j x y =
+    go (shown_close k n) a i (shown_close k' n') b j x y =
         rw (
-          same_number 1 e.disk f.disk (omega arith) (omega arith) (sym x.disk-at ∙ y.disk-at),
+          same_number 1 e.disk f.disk (omega arith) (omega arith) (sym x.disk_at_lem ∙ y.disk_at_lem),
           same_number 20 e.position f.position (omega arith) (omega arith) (sym x.position_at ∙ y.position_at),
           same_kind k k' (omega arith) (omega arith) (sym x.kind_at ∙ y.kind_at),
-          same_number 20 n n' (omega arith) (omega arith) (sym x.transaction-at ∙ y.transaction-at),
+          same_number 20 n n' (omega arith) (omega arith) (sym x.transaction_at ∙ y.transaction_at),
         )
     -- a change and a closing record have other kinds
-    go (shownChange k n g s w) a i (shownClose k' n') b j x y =
+    go (shown_change k n g s w) a i (shown_close k' n') b j x y =
         absurd (omega (arith, same_kind k k' (omega arith) (omega arith) (sym x.kind_at ∙ y.kind_at)))
-    go (shownClose k n) a i (shownChange k' n' g' s' w') b j x y =
+    go (shown_close k n) a i (shown_change k' n' g' s' w') b j x y =
         absurd (omega (arith, same_kind k k' (omega arith) (omega arith) (sym x.kind_at ∙ y.kind_at)))
 
 -- Two lines, byte by byte: an update at position 128, and an abort with the largest numbers that there are.
-pub lines-computed :
-    (line_of (record { disk = 3; position = 128; content = shownChange 0 7 12 5 32 })
+pub lines_computed :
+    (line_of (record { disk = 3; position = 128; content = shown_change 0 7 12 5 32 })
     ≡ 51 ∷ replicate 20 32 ++ (49 ∷ 50 ∷ 56 ∷ replicate 9 32) ++ (117 ∷ 112 ∷ 100 ∷ 97 ∷ 116 ∷ 101 ∷ replicate 22 32)
     ++ (55 ∷ 32 ∷ 49 ∷ 50 ∷ 32 ∷ 32 ∷ 32 ∷ 53 ∷ 32 ∷ 51 ∷ 50 ∷ 10 ∷ []))
-    × (line_of (record { disk = 7; position = 2 ^ 62 - 1; content = shownClose 3 (2 ^ 64 - 1) })
+    × (line_of (record { disk = 7; position = 2 ^ 62 - 1; content = shown_close 3 (2 ^ 64 - 1) })
     -- 4611686018427387903 and 18446744073709551615
     ≡ 55 ∷ 32 ∷ 32 ∷ 32 ∷ 32
     ∷ 52 ∷ 54 ∷ 49 ∷ 49 ∷ 54 ∷ 56 ∷ 54 ∷ 48 ∷ 49 ∷ 56 ∷ 52 ∷ 50 ∷ 55 ∷ 51 ∷ 56 ∷ 55 ∷ 57 ∷ 48 ∷ 51
     ∷ replicate 10 32 ++ (97 ∷ 98 ∷ 111 ∷ 114 ∷ 116 ∷ 32 ∷ 32 ∷ 32
     ∷ 49 ∷ 56 ∷ 52 ∷ 52 ∷ 54 ∷ 55 ∷ 52 ∷ 52 ∷ 48 ∷ 55 ∷ 51 ∷ 55 ∷ 48 ∷ 57 ∷ 53 ∷ 53 ∷ 49 ∷ 54 ∷ 49 ∷ 53
     ∷ replicate 10 32 ++ (10 ∷ [])))
-unfolding line_of inColumns kindName lastDigits padded
-lines-computed = (refl, refl)
+unfolding line_of in_columns kind_name last_digits padded
+lines_computed = (refl, refl)

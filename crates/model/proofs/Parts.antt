@@ -10,40 +10,40 @@ use lib.Dec.{leb, ltb}
 use lib.ListN.{length, get_or, take, drop, set, length-append, length-take, length-drop, length-set}
 use lib.Seq.{sets, sets-eq, length-take-le, take-add, take_at, drop_at, take-set-le, drop-set-lt, drop-set-add, get_or-set_same, get_or-set_other, get_or-take, get_or-drop, ext_get_or}
 use borrow.Author.Tests.{leb-true, leb-false, ltb-true, ltb-false, le-leb, lt-leb, lt-ltb, le-ltb}
-use Rattle.model.specs.Below.{listBelow}
+use Rattle.model.specs.Below.{list_below}
 use Rattle.model.specs.Word.{part}
-use Rattle.model.proofs.Below.{length-list, getD-list}
-use Rattle.model.proofs.Booleans.{true-false, both}
+use Rattle.model.proofs.Below.{length_list, get_d_list}
+use Rattle.model.proofs.Booleans.{true_false, both}
 use Rattle.model.proofs.Ledger.Entry.{spanning}
 
 -- The test of a span.
 module _ (at n i : ℕ) where
-  pub spanning-true : spanning at n i ≡ true → (at ≤ i) × (i < at + n)
+  pub spanning_true : spanning at n i ≡ true → (at ≤ i) × (i < at + n)
   unfolding spanning
-  spanning-true e =
+  spanning_true e =
       let t = both (leb at i) (ltb i (at + n)) e in
       (leb-true at i t.0, ltb-true i (at + n) t.1)
 
-  pub spanning-false : spanning at n i ≡ false → (i < at) ⊎ (at + n ≤ i)
+  pub spanning_false : spanning at n i ≡ false → (i < at) ⊎ (at + n ≤ i)
   unfolding spanning
-  spanning-false = go (leb at i) (ltb i (at + n)) refl refl
+  spanning_false = go (leb at i) (ltb i (at + n)) refl refl
     where
       go : (a b : Bool) → leb at i ≡ a → ltb i (at + n) ≡ b → a && b ≡ false → (i < at) ⊎ (at + n ≤ i)
-      go true true p q z = true-false refl z
+      go true true p q z = true_false refl z
       go true false p q z = inr (ltb-false i (at + n) q)
       go false b p q z = inl (leb-false at i p)
 
-  pub spanning-in : at ≤ i → i < at + n → spanning at n i ≡ true
+  pub spanning_in : at ≤ i → i < at + n → spanning at n i ≡ true
   unfolding spanning
-  spanning-in h l = rw (le-leb at i h, lt-ltb i (at + n) l)
+  spanning_in h l = rw (le-leb at i h, lt-ltb i (at + n) l)
 
-  pub spanning-before : i < at → spanning at n i ≡ false
+  pub spanning_before : i < at → spanning at n i ≡ false
   unfolding spanning
-  spanning-before h = rw (lt-leb at i h)
+  spanning_before h = rw (lt-leb at i h)
 
-  pub spanning-after : at + n ≤ i → spanning at n i ≡ false
+  pub spanning_after : at + n ≤ i → spanning at n i ≡ false
   unfolding spanning
-  spanning-after h = rw (le-leb at i (omega arith), le-ltb i (at + n) h)
+  spanning_after h = rw (le-leb at i (omega arith), le-ltb i (at + n) h)
 
 -- a part that lies within its list has all its words
 pub length_part : (at n : ℕ) (l : List ℕ) → at + n ≤ length l → length (part at n l) ≡ n
@@ -55,12 +55,12 @@ unfolding part
 get_d_part at n l i h = rw (get_or-take, get_or-drop)
 
 -- the first words of a list, one by one
-pub take-list : (n : ℕ) (l : List ℕ) → n ≤ length l → take n l ≡ listBelow (λ i. get_or l i 0) n
-take-list n l h =
-    ext_get_or 0 (take n l) (listBelow (λ i. get_or l i 0) n) (length-take-le n l h ∙ sym (length-list (λ i. get_or l i 0) n))
+pub take_list : (n : ℕ) (l : List ℕ) → n ≤ length l → take n l ≡ list_below (λ i. get_or l i 0) n
+take_list n l h =
+    ext_get_or 0 (take n l) (list_below (λ i. get_or l i 0) n) (length-take-le n l h ∙ sym (length_list (λ i. get_or l i 0) n))
     (λ i f.
     let g : i < n = omega (arith, length-take-le n l h) in
-    rw (get_or-take, getD-list (λ i. get_or l i 0) n i 0 g))
+    rw (get_or-take, get_d_list (λ i. get_or l i 0) n i 0 g))
 
 -- A run of words set: a word before it, behind it, outside it, and within it.
 pub get_d_sets_before : (l : List ℕ) (i : ℕ) (vs : List ℕ) (j : ℕ) → j < i → get_or (sets l i vs) j 0 ≡ get_or l j 0
@@ -68,57 +68,57 @@ get_d_sets_before l i [] j h = refl
 get_d_sets_before l i (v ∷ vs) j h =
     get_d_sets_before (set l i v) (suc i) vs j (omega arith) ∙ get_or-set_other l i j v 0 (omega arith)
 
-pub getD-sets-behind : (l : List ℕ) (i : ℕ) (vs : List ℕ) (j : ℕ) → i + length vs ≤ j → get_or (sets l i vs) j 0 ≡ get_or l j 0
-getD-sets-behind l i [] j h = refl
-getD-sets-behind l i (v ∷ vs) j h =
-    getD-sets-behind (set l i v) (suc i) vs j (omega arith) ∙ get_or-set_other l i j v 0 (omega arith)
+pub get_d_sets_behind : (l : List ℕ) (i : ℕ) (vs : List ℕ) (j : ℕ) → i + length vs ≤ j → get_or (sets l i vs) j 0 ≡ get_or l j 0
+get_d_sets_behind l i [] j h = refl
+get_d_sets_behind l i (v ∷ vs) j h =
+    get_d_sets_behind (set l i v) (suc i) vs j (omega arith) ∙ get_or-set_other l i j v 0 (omega arith)
 
-pub getD-sets-outside : (l : List ℕ) (i : ℕ) (vs : List ℕ) (j : ℕ) → spanning i (length vs) j ≡ false → get_or (sets l i vs) j 0 ≡ get_or l j 0
-getD-sets-outside l i vs j e = go (spanning-false i (length vs) j e)
+pub get_d_sets_outside : (l : List ℕ) (i : ℕ) (vs : List ℕ) (j : ℕ) → spanning i (length vs) j ≡ false → get_or (sets l i vs) j 0 ≡ get_or l j 0
+get_d_sets_outside l i vs j e = go (spanning_false i (length vs) j e)
   where
     go : (j < i) ⊎ (i + length vs ≤ j) → get_or (sets l i vs) j 0 ≡ get_or l j 0
     go (inl h) = get_d_sets_before l i vs j h
-    go (inr h) = getD-sets-behind l i vs j h
+    go (inr h) = get_d_sets_behind l i vs j h
 
-pub getD-sets-inside : (l : List ℕ) (i : ℕ) (vs : List ℕ) (k : ℕ) → i + length vs ≤ length l → k < length vs
+pub get_d_sets_inside : (l : List ℕ) (i : ℕ) (vs : List ℕ) (k : ℕ) → i + length vs ≤ length l → k < length vs
     → get_or (sets l i vs) (i + k) 0 ≡ get_or vs k 0
-getD-sets-inside l i [] k h j = absurd (omega arith)
-getD-sets-inside l i (x ∷ vs) zero h j =
+get_d_sets_inside l i [] k h j = absurd (omega arith)
+get_d_sets_inside l i (x ∷ vs) zero h j =
     rw add-zero (get_d_sets_before (set l i x) (suc i) vs i (omega arith) ∙ get_or-set_same l i x 0 (omega arith))
-getD-sets-inside l i (x ∷ vs) (suc k) h j =
+get_d_sets_inside l i (x ∷ vs) (suc k) h j =
     let e : i + suc k ≡ suc i + k = omega arith in
-    rw e (getD-sets-inside (set l i x) (suc i) vs k (rw length-set (omega arith)) (omega arith))
+    rw e (get_d_sets_inside (set l i x) (suc i) vs k (rw length-set (omega arith)) (omega arith))
 
-pub getD-sets-in : (l : List ℕ) (i : ℕ) (vs : List ℕ) (j : ℕ) → i + length vs ≤ length l → i ≤ j → j < i + length vs
+pub get_d_sets_in : (l : List ℕ) (i : ℕ) (vs : List ℕ) (j : ℕ) → i + length vs ≤ length l → i ≤ j → j < i + length vs
     → get_or (sets l i vs) j 0 ≡ get_or vs (j - i) 0
-getD-sets-in l i vs j fits h k =
-    ap (λ (x : ℕ). get_or (sets l i vs) x 0) (omega arith) ∙ getD-sets-inside l i vs (j - i) fits (omega arith)
+get_d_sets_in l i vs j fits h k =
+    ap (λ (x : ℕ). get_or (sets l i vs) x 0) (omega arith) ∙ get_d_sets_inside l i vs (j - i) fits (omega arith)
 
 -- A part after a run of words is set: the run is behind it, before it, or its end.
 module _ (at n : ℕ) where
-  pub part-set-behind : (l : List ℕ) (i v : ℕ) → at + n ≤ i → part at n (set l i v) ≡ part at n l
+  pub part_set_behind : (l : List ℕ) (i v : ℕ) → at + n ≤ i → part at n (set l i v) ≡ part at n l
   unfolding part
-  part-set-behind l i v h =
+  part_set_behind l i v h =
       let e : i ≡ at + (i - at) = omega arith in
       rw (e, drop-set-add at l (i - at) v) (take-set-le n (drop at l) (i - at) v (omega arith))
 
   -- a part that ends before the run
-  pub part-sets-before : (l : List ℕ) (i : ℕ) (vs : List ℕ) → at + n ≤ i → part at n (sets l i vs) ≡ part at n l
-  part-sets-before l i [] h = refl
-  part-sets-before l i (v ∷ vs) h = part-sets-before (set l i v) (suc i) vs (omega arith) ∙ part-set-behind l i v h
+  pub part_sets_before : (l : List ℕ) (i : ℕ) (vs : List ℕ) → at + n ≤ i → part at n (sets l i vs) ≡ part at n l
+  part_sets_before l i [] h = refl
+  part_sets_before l i (v ∷ vs) h = part_sets_before (set l i v) (suc i) vs (omega arith) ∙ part_set_behind l i v h
 
   -- a part that begins behind it
-  pub part-sets-behind : (l : List ℕ) (i : ℕ) (vs : List ℕ) → i + length vs ≤ at → part at n (sets l i vs) ≡ part at n l
+  pub part_sets_behind : (l : List ℕ) (i : ℕ) (vs : List ℕ) → i + length vs ≤ at → part at n (sets l i vs) ≡ part at n l
   unfolding part
-  part-sets-behind l i [] h = refl
-  part-sets-behind l i (v ∷ vs) h =
-      part-sets-behind (set l i v) (suc i) vs (omega arith) ∙ ap (take n) (drop-set-lt at l i v (omega arith))
+  part_sets_behind l i [] h = refl
+  part_sets_behind l i (v ∷ vs) h =
+      part_sets_behind (set l i v) (suc i) vs (omega arith) ∙ ap (take n) (drop-set-lt at l i v (omega arith))
 
   -- a part, and then the run
-  pub part-sets-end : (l vs : List ℕ) → at + n + length vs ≤ length l
+  pub part_sets_end : (l vs : List ℕ) → at + n + length vs ≤ length l
       → part at (n + length vs) (sets l (at + n) vs) ≡ part at n l ++ vs
   unfolding part
-  part-sets-end l vs h =
+  part_sets_end l vs h =
       rw (
         sets-eq vs l (at + n) h,
         take-add at n l,
@@ -130,9 +130,9 @@ module _ (at n : ℕ) where
       (take_at (take n (drop at l) ++ vs) _ (n + length vs) (rw (length-append, length-take, length-drop) (omega arith)))
 
 -- a part depends on its own words alone
-pub part-cong : (at n : ℕ) (l m : List ℕ) → at + n ≤ length l → at + n ≤ length m
+pub part_cong : (at n : ℕ) (l m : List ℕ) → at + n ≤ length l → at + n ≤ length m
     → ((i : ℕ) → at ≤ i → i < at + n → get_or l i 0 ≡ get_or m i 0) → part at n l ≡ part at n m
-part-cong at n l m h k same =
+part_cong at n l m h k same =
     ext_get_or 0 (part at n l) (part at n m) (length_part at n l h ∙ sym (length_part at n m k))
     (λ i f.
     let g : i < n = omega (arith, length_part at n l h) in

@@ -5,13 +5,13 @@ use lib.ListN.{get_or, replicate}
 use Rattle.model.specs.declared.Sizes.{Sizes}
 use Rattle.model.specs.declared.Core.{Core}
 use Rattle.model.specs.declared.Answer.{Answer}
-use Rattle.model.specs.Sizes.{total, logWords}
+use Rattle.model.specs.Sizes.{total, log_words}
 use Rattle.model.specs.World.{World}
-use Rattle.model.specs.Memory.{workWords}
-use Rattle.model.specs.State.{newCore}
+use Rattle.model.specs.Memory.{work_words}
+use Rattle.model.specs.State.{new_core}
 use Rattle.model.specs.Refusal.{Result, number_of}
 use Rattle.model.specs.Restart.{remaining}
-use Rattle.model.specs.Call.{Call, restartBegin, restartStep, restartEnd, newState, result_of}
+use Rattle.model.specs.Call.{Call, restart_begin, restart_step, restart_end, new_state, result_of}
 use Rattle.model.specs.Machine.{Machine}
 
 -- A step of a script, so that a variant of a call can stand where the call does.
@@ -44,14 +44,14 @@ numbers fs m = shows number_of fs m
 unfoldable pub unformatted : Sizes → Machine
 unformatted s =
     record {
-      core = newCore;
+      core = new_core;
       world =
           record {
             anchor = replicate 148 7;
             pages = replicate (total s) 7;
             backups = replicate (2 * total s) 7;
-            logs = replicate (logWords s) 7;
-            work = replicate (workWords s (total s)) 7;
+            logs = replicate (log_words s) 7;
+            work = replicate (work_words s (total s)) 7;
           };
     }
 
@@ -62,10 +62,10 @@ drained (suc n) step source m =
     elim (remaining m.core source) [ zero ↦ m | suc k ↦ drained n step source (play (step source ∷ []) m) ]
 
 -- a restart from a shut state, as hall's restart line makes it: each log to its end, then the backup, then the end
-unfoldable pub restartBy : (ℕ → Step) → ℕ → Machine → Machine
-restartBy step budget m =
-    let begun : Machine = play (does newState ∷ does restartBegin ∷ []) m in
-    play (does (restartEnd budget) ∷ []) (sources (begun.core.sizes.disks + 1) 0 begun)
+unfoldable pub restart_by : (ℕ → Step) → ℕ → Machine → Machine
+restart_by step budget m =
+    let begun : Machine = play (does new_state ∷ does restart_begin ∷ []) m in
+    play (does (restart_end budget) ∷ []) (sources (begun.core.sizes.disks + 1) 0 begun)
   where
     sources : ℕ → ℕ → Machine → Machine
     sources zero source m = m
@@ -73,4 +73,4 @@ restartBy step budget m =
 
 -- the word of the page memory that a restart gives
 unfoldable pub gives : ℕ → Machine → ℕ
-gives i m = get_or (restartBy (λ source. does (restartStep source)) 1000 m).world.pages i 99
+gives i m = get_or (restart_by (λ source. does (restart_step source)) 1000 m).world.pages i 99

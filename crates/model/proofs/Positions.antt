@@ -5,13 +5,13 @@ use mathlib.Core.List.{List, [], ◌∷◌, ◌++◌}
 use lib.ListN.{get_or, replicate}
 use Rattle.model.specs.declared.Sizes.{Sizes}
 use Rattle.model.specs.World.{World}
-use Rattle.model.specs.Memory.{bufferAt}
-use Rattle.model.specs.State.{newCore}
+use Rattle.model.specs.Memory.{buffer_at}
+use Rattle.model.specs.State.{new_core}
 use Rattle.model.specs.Refusal.{number_of, stores_of}
-use Rattle.model.specs.Call.{format, begin, update, commit, abort, checkpointBegin, checkpointStep, checkpointEnd, restartBegin, result_of}
+use Rattle.model.specs.Call.{format, begin, update, commit, abort, checkpoint_begin, checkpoint_step, checkpoint_end, restart_begin, result_of}
 use Rattle.model.specs.Machine.{Machine}
 use Rattle.model.proofs.Everything.{everything}
-use Rattle.model.proofs.Play.{Step, does, play, numbers, answers, unformatted, drained, restartBy, gives}
+use Rattle.model.proofs.Play.{Step, does, play, numbers, answers, unformatted, drained, restart_by, gives}
 
 -- more stores than any call here makes
 abbrev pub plenty : ℕ
@@ -25,21 +25,21 @@ unfoldable pub fresh : Machine
 fresh = play (does (format (small 1) plenty) ∷ []) (unformatted (small 1))
 
 -- "slot 0 committed as 2"
-unfoldable pub setUp : Machine
-setUp = play (does (begin 0) ∷ does (update 1 0 0 (2 ∷ []) plenty) ∷ does (commit 1 plenty) ∷ []) fresh
+unfoldable pub set_up : Machine
+set_up = play (does (begin 0) ∷ does (update 1 0 0 (2 ∷ []) plenty) ∷ does (commit 1 plenty) ∷ []) fresh
 
 -- a second transaction that sets the slot to 12
 unfoldable pub twelve : List Step
 twelve = does (begin 0) ∷ does (update 2 0 0 (12 ∷ []) plenty) ∷ []
 
 abbrev pub mark : Step
-mark = does checkpointBegin
+mark = does checkpoint_begin
 
 abbrev pub copy : Step
-copy = does (checkpointStep plenty)
+copy = does (checkpoint_step plenty)
 
 abbrev pub finish : ℕ → Step
-finish budget = does (checkpointEnd budget)
+finish budget = does (checkpoint_end budget)
 
 -- updates of one transaction
 unfoldable pub updates : ℕ → List Step
@@ -64,24 +64,24 @@ tail_at t =
 unfoldable first : List ℕ
 first =
     -- P1 format makes 152 stores
-    stores_of (result_of (format (small 1) plenty) newCore (unformatted (small 1)).world).answer
+    stores_of (result_of (format (small 1) plenty) new_core (unformatted (small 1)).world).answer
     -- P2 update to 12 logs 14; word 0 is 65,536
-    ∷ get_or (play twelve setUp).world.work (bufferAt 0 + 3) 0
-    ∷ get_or (play twelve setUp).world.work (bufferAt 0) 0
+    ∷ get_or (play twelve set_up).world.work (buffer_at 0 + 3) 0
+    ∷ get_or (play twelve set_up).world.work (buffer_at 0) 0
     -- P3 commit cut at 6: restart gives 2. P4 allowance 7: gives 12.
-    ∷ gives 0 (play (twelve ++ does (commit 2 6) ∷ []) setUp)
-    ∷ gives 0 (play (twelve ++ does (commit 2 7) ∷ []) setUp)
+    ∷ gives 0 (play (twelve ++ does (commit 2 6) ∷ []) set_up)
+    ∷ gives 0 (play (twelve ++ does (commit 2 7) ∷ []) set_up)
     ∷ []
 
 unfoldable second : List ℕ
 second =
     -- P5 update to 12, mark, abort, then copy and close: gives 2
-    gives 0 (play (twelve ++ mark ∷ does (abort 2 plenty) ∷ copy ∷ finish plenty ∷ []) setUp)
+    gives 0 (play (twelve ++ mark ∷ does (abort 2 plenty) ∷ copy ∷ finish plenty ∷ []) set_up)
     -- P6 update to 12, mark, copy and close, cut: gives 2
-    ∷ gives 0 (play (twelve ++ mark ∷ copy ∷ finish plenty ∷ []) setUp)
+    ∷ gives 0 (play (twelve ++ mark ∷ copy ∷ finish plenty ∷ []) set_up)
     -- P7 page copied, then update to 12 and commit, then close: gives 12. P8 the same, close cut before its last store: gives 12.
-    ∷ gives 0 (play (mark ∷ copy ∷ twelve ++ does (commit 2 plenty) ∷ finish plenty ∷ []) setUp)
-    ∷ gives 0 (play (mark ∷ copy ∷ twelve ++ does (commit 2 plenty) ∷ finish 1 ∷ []) setUp)
+    ∷ gives 0 (play (mark ∷ copy ∷ twelve ++ does (commit 2 plenty) ∷ finish plenty ∷ []) set_up)
+    ∷ gives 0 (play (mark ∷ copy ∷ twelve ++ does (commit 2 plenty) ∷ finish 1 ∷ []) set_up)
     ∷ []
 
 unfoldable third : List ℕ
@@ -92,25 +92,25 @@ third =
     ++ answers [] (format (small 32) plenty) (unformatted (small 32))
     ∷ answers [] (format (small 33) plenty) (unformatted (small 33))
     -- P12 tail = start + 128 passes check 6, 129 answers 6
-    ∷ number_of (result_of restartBegin newCore (tail_at 128)).answer
-    ∷ number_of (result_of restartBegin newCore (tail_at 129)).answer
+    ∷ number_of (result_of restart_begin new_core (tail_at 128)).answer
+    ∷ number_of (result_of restart_begin new_core (tail_at 129)).answer
     ∷ []
 
-first-is : first ≡ 152 ∷ 14 ∷ 65536 ∷ 2 ∷ 12 ∷ []
-unfolding everything first small fresh setUp twelve does play unformatted drained restartBy gives
-first-is = refl
+first_is : first ≡ 152 ∷ 14 ∷ 65536 ∷ 2 ∷ 12 ∷ []
+unfolding everything first small fresh set_up twelve does play unformatted drained restart_by gives
+first_is = refl
 
 second_is : second ≡ 2 ∷ 2 ∷ 12 ∷ 12 ∷ []
-unfolding everything second small fresh setUp twelve does play unformatted drained restartBy gives
+unfolding everything second small fresh set_up twelve does play unformatted drained restart_by gives
 second_is = refl
 
-third-is : third ≡ replicate 15 0 ++ 14 ∷ 0 ∷ 4 ∷ 0 ∷ 6 ∷ []
+third_is : third ≡ replicate 15 0 ++ 14 ∷ 0 ∷ 4 ∷ 0 ∷ 6 ∷ []
 unfolding everything third small fresh updates tail_at does play numbers answers unformatted
-third-is = refl
+third_is = refl
 
 pub positions : List ℕ
 positions = first ++ (second ++ third)
 
-pub positions-from-play : positions ≡ 152 ∷ 14 ∷ 65536 ∷ 2 ∷ 12 ∷ 2 ∷ 2 ∷ 12 ∷ 12 ∷ [] ++ replicate 15 0 ++ 14 ∷ 0 ∷ 4 ∷ 0 ∷ 6 ∷ []
+pub positions_from_play : positions ≡ 152 ∷ 14 ∷ 65536 ∷ 2 ∷ 12 ∷ 2 ∷ 2 ∷ 12 ∷ 12 ∷ [] ++ replicate 15 0 ++ 14 ∷ 0 ∷ 4 ∷ 0 ∷ 6 ∷ []
 unfolding positions
-positions-from-play = rw (first-is, second_is, third-is)
+positions_from_play = rw (first_is, second_is, third_is)

@@ -1,4 +1,4 @@
--- The power-loss theorem.
+-- The power_loss theorem.
 use mathlib.Core.Path.{◌≡◌, refl, sym, ap, ◌∙◌}
 use mathlib.Core.List.{List, [], ◌∷◌}
 use mathlib.Core.Bool.{true, ◌&&◌, and-eq-true_iff}
@@ -12,107 +12,107 @@ use Rattle.model.specs.declared.Answer.{Answer}
 use Rattle.model.specs.declared.Answer.TheVariants.{Finished, Refused, Interrupted}
 use Rattle.model.specs.World.{World}
 use Rattle.model.specs.State.{sound}
-use Rattle.model.specs.Anchor.{sizesOn, startOn}
-use Rattle.model.specs.Causes.{whenShut, whenReplaying, whenServing}
-use Rattle.model.specs.Restart.{position_of, restartBeginTask, restartEndRows}
-use Rattle.model.specs.Call.{Call, format, restartBegin, restartEnd, result_of}
-use Rattle.model.specs.Reference.{Reference, taken, outcomeOf, hear, heardOf, words_in}
-use Rattle.model.specs.Machine.{Machine, Event, call, lent, scramble, result, outcome, is_refused, allowed, after, referred, Run, follow, allowedAll, formatted}
+use Rattle.model.specs.Anchor.{sizes_on, start_on}
+use Rattle.model.specs.Causes.{when_shut, when_replaying, when_serving}
+use Rattle.model.specs.Restart.{position_of, restart_begin_task, restart_end_rows}
+use Rattle.model.specs.Call.{Call, format, restart_begin, restart_end, result_of}
+use Rattle.model.specs.Reference.{Reference, taken, outcome_of, hear, heard_of, words_in}
+use Rattle.model.specs.Machine.{Machine, Event, call, lent, scramble, result, outcome, is_refused, allowed, after, referred, Run, follow, allowed_all, formatted}
 use Rattle.model.specs.Promise.{Always, PowerLoss, RestartAccepted, Table}
 use Rattle.model.specs.LogPromise.{LogOf, LogKept, StateTrue, NeverMalformed, BackupSteps}
-use Rattle.model.specs.History.{Told, nothingTold, told, history}
-use Rattle.model.proofs.Booleans.{true-false}
-use Rattle.model.proofs.Restart.Taken.{taken-call}
-use Rattle.model.proofs.Restart.Progress.{begin-progress}
-use Rattle.model.proofs.Restart.Records.{begun-positions}
-use Rattle.model.proofs.Restart.BackupStep.{backup-step}
-use Rattle.model.proofs.Restart.End.{end-gives}
-use Rattle.model.proofs.Store.Format.{format-serves}
-use Rattle.model.proofs.Store.Holding.{Holding, shut, replaying, serving, holding-kept, served, stopped, replayed}
+use Rattle.model.specs.History.{Told, nothing_told, told, history}
+use Rattle.model.proofs.Booleans.{true_false}
+use Rattle.model.proofs.Restart.Taken.{taken_call}
+use Rattle.model.proofs.Restart.Progress.{begin_progress}
+use Rattle.model.proofs.Restart.Records.{begun_positions}
+use Rattle.model.proofs.Restart.BackupStep.{backup_step_lem}
+use Rattle.model.proofs.Restart.End.{end_gives}
+use Rattle.model.proofs.Store.Format.{format_serves}
+use Rattle.model.proofs.Store.Holding.{Holding, shut, replaying, serving, holding_kept, served, stopped, replayed}
 use Rattle.model.proofs.Store.Step.{step_call, row_one}
-use Rattle.model.proofs.Store.Steady.{kept-devices}
-use Rattle.model.proofs.Store.Checks.{shut-stage, restart-begin-answers, never-seven}
+use Rattle.model.proofs.Store.Steady.{kept_devices}
+use Rattle.model.proofs.Store.Checks.{shut_stage, restart_begin_answers, never_seven}
 use Rattle.model.proofs.Store.PlainTable.{plain}
 use Rattle.model.proofs.Store.Crash.{stored}
 use Rattle.model.proofs.Store.Buffered.{buffered}
 use Rattle.model.proofs.Store.Truth.{truth}
-use Rattle.model.proofs.Store.AbortRows.{abort-never-bad}
+use Rattle.model.proofs.Store.AbortRows.{abort_never_bad}
 use Rattle.model.proofs.Sound.Test.{Passing}
-use Rattle.model.proofs.Sound.Lists.{event-passes, formatted-passes}
+use Rattle.model.proofs.Sound.Lists.{event_passes, formatted_passes}
 
 -- what the reference hears of a refused call changes nothing
-pub heard-refused : (k : Call) (c : Core) (w : World) (a : Answer) (r : Reference) → is_refused (outcomeOf a) ≡ true
-    → hear (heardOf k c w a) r ≡ r
+pub heard_refused : (k : Call) (c : Core) (w : World) (a : Answer) (r : Reference) → is_refused (outcome_of a) ≡ true
+    → hear (heard_of k c w a) r ≡ r
 unfolding hear
-heard-refused k c w (Finished n v) r e = true-false e refl
-heard-refused k c w (Refused n x y) r e = refl
-heard-refused k c w (Interrupted n) r e = true-false e refl
+heard_refused k c w (Finished n v) r e = true_false e refl
+heard_refused k c w (Refused n x y) r e = refl
+heard_refused k c w (Interrupted n) r e = true_false e refl
 
 -- every allowed event keeps what holds
-pub step-event : (e : Event) (puts : Told) (m : Machine) (r : Reference) → Holding puts m r → sound m.core ≡ true → allowed m e ≡ true
+pub step_event : (e : Event) (puts : Told) (m : Machine) (r : Reference) → Holding puts m r → sound m.core ≡ true → allowed m e ≡ true
     → Holding (told (record { machine = m; reference = r }) e puts) (after m e) (referred m e r)
-step-event (call k) puts m r h s a = step_call k puts m r h s a
-step-event (lent k w) puts m r h s a = rw (heard-refused k m.core w (result_of k m.core w).answer r a) h
-step-event (scramble pages work) puts m r h s a =
+step_event (call k) puts m r h s a = step_call k puts m r h s a
+step_event (lent k w) puts m r h s a = rw (heard_refused k m.core w (result_of k m.core w).answer r a) h
+step_event (scramble pages work) puts m r h s a =
     let one = eqb (length pages) (length m.world.pages) in
     let two = eqb (length work) (length m.world.work) in
-    let both = (and-eq-true_iff (whenShut m.core.stage && one) two).0 a in
-    let stage = (and-eq-true_iff (whenShut m.core.stage) one).0 both.0 in
+    let both = (and-eq-true_iff (when_shut m.core.stage && one) two).0 a in
+    let stage = (and-eq-true_iff (when_shut m.core.stage) one).0 both.0 in
     let k = stopped h stage.0 in
-    shut (shut-stage m.core.stage stage.0)
-    (kept-devices (record { anchor = refl; backups = refl; logs = refl })
+    shut (shut_stage m.core.stage stage.0)
+    (kept_devices (record { anchor = refl; backups = refl; logs = refl })
     (record { anchor = refl; pages = eqb-true _ _ stage.1; backups = refl; logs = refl; work = eqb-true _ _ both.1 })
     k.0)
     k.1
 
 -- and so does every list of them
-pub follow-holds : (events : List Event) (puts : Told) (x : Run) → Holding puts x.machine x.reference
-    → Passing x.machine.core → allowedAll events x.machine ≡ true
+pub follow_holds : (events : List Event) (puts : Told) (x : Run) → Holding puts x.machine x.reference
+    → Passing x.machine.core → allowed_all events x.machine ≡ true
     → Holding (history events x puts) (follow events x).machine (follow events x).reference
-unfolding follow allowedAll history
-follow-holds [] puts x h p a = h
-follow-holds (e ∷ es) puts x h p a =
-    let both = (and-eq-true_iff (allowed x.machine e) (allowedAll es (after x.machine e))).0 a in
-    follow-holds es (told x e puts) (record { machine = after x.machine e; reference = referred x.machine e x.reference })
-    (step-event e puts x.machine x.reference h p.1 both.0) (event-passes x.machine e p) both.1
+unfolding follow allowed_all history
+follow_holds [] puts x h p a = h
+follow_holds (e ∷ es) puts x h p a =
+    let both = (and-eq-true_iff (allowed x.machine e) (allowed_all es (after x.machine e))).0 a in
+    follow_holds es (told x e puts) (record { machine = after x.machine e; reference = referred x.machine e x.reference })
+    (step_event e puts x.machine x.reference h p.1 both.0) (event_passes x.machine e p) both.1
 
 -- it holds after a format
-pub format-holds : (m : Machine) (s : Sizes) (budget : ℕ) → outcome m (format s budget) ≡ taken
-    → Holding nothingTold (formatted m s budget).machine (formatted m s budget).reference
+pub format_holds : (m : Machine) (s : Sizes) (budget : ℕ) → outcome m (format s budget) ≡ taken
+    → Holding nothing_told (formatted m s budget).machine (formatted m s budget).reference
 unfolding formatted result outcome
-format-holds m s budget e =
-    let t = taken-call (format s budget) m.core m.world e in
-    rw (t.core, t.world) (serving (format-serves m.core m.world s t.accepted))
+format_holds m s budget e =
+    let t = taken_call (format s budget) m.core m.world e in
+    rw (t.core, t.world) (serving (format_serves m.core m.world s t.accepted))
 
 -- so it holds of every machine and reference that a list of allowed events reaches
 pub holds_after : (m : Machine) (s : Sizes) (budget : ℕ) → outcome m (format s budget) ≡ taken → (es : List Event)
-    → allowedAll es (formatted m s budget).machine ≡ true
-    → Holding (history es (formatted m s budget) nothingTold) (follow es (formatted m s budget)).machine (follow es (formatted m s budget)).reference
+    → allowed_all es (formatted m s budget).machine ≡ true
+    → Holding (history es (formatted m s budget) nothing_told) (follow es (formatted m s budget)).machine (follow es (formatted m s budget)).reference
 holds_after m s budget formats es a =
-    follow-holds es nothingTold (formatted m s budget) (format-holds m s budget formats) (formatted-passes m s budget formats) a
+    follow_holds es nothing_told (formatted m s budget) (format_holds m s budget formats) (formatted_passes m s budget formats) a
 
 pub always : (P : Machine → Reference → Type 0) → ((puts : Told) (m : Machine) (r : Reference) → Holding puts m r → P m r) → Always P
 unfolding Always
 always P f m s budget formats events a = f _ _ _ (holds_after m s budget formats events a)
 
 -- a restart end that is taken leaves the committed contents
-pub end_leaves : (puts : Told) (m : Machine) (r : Reference) → Holding puts m r → (budget : ℕ) → outcome m (restartEnd budget) ≡ taken
-    → (result m (restartEnd budget)).world.pages ≡ words_in r.committed
-unfolding result outcome restartEndRows
+pub end_leaves : (puts : Told) (m : Machine) (r : Reference) → Holding puts m r → (budget : ℕ) → outcome m (restart_end budget) ≡ taken
+    → (result m (restart_end budget)).world.pages ≡ words_in r.committed
+unfolding result outcome restart_end_rows
 end_leaves puts m r h budget o =
-    let t = taken-call (restartEnd budget) m.core m.world o in
-    let k = replayed h (row_one whenReplaying _ m.core _ t.accepted) in
-    (end-gives m.core m.world budget k.progress o).0 ∙ k.kept.image
+    let t = taken_call (restart_end budget) m.core m.world o in
+    let k = replayed h (row_one when_replaying _ m.core _ t.accepted) in
+    (end_gives m.core m.world budget k.progress o).0 ∙ k.kept.image
 
--- The power-loss theorem: see specs/Promise.antt.
-pub power-loss : PowerLoss
+-- The power_loss theorem: see specs/Promise.antt.
+pub power_loss : PowerLoss
 unfolding PowerLoss
-power-loss = always _ end_leaves
+power_loss = always _ end_leaves
 
 -- A restart begin of a shut store is refused for its number only.
-pub restart-accepted : RestartAccepted
+pub restart_accepted : RestartAccepted
 unfolding RestartAccepted result
-restart-accepted = always _ (λ puts m r h e. restart-begin-answers m.core m.world e (holding-kept h).restartable)
+restart_accepted = always _ (λ puts m r h e. restart_begin_answers m.core m.world e (holding_kept h).restartable)
 
 -- The page memory is a plain table of slots.
 pub table : Table
@@ -120,63 +120,63 @@ unfolding Table
 table = always _ (λ puts m r h e. plain m r (served h e))
 
 -- a restart begins at the starts
-begins : (m : Machine) (d : ℕ) → d < (sizesOn m.world.anchor).disks → outcome m restartBegin ≡ taken
-    → position_of (result m restartBegin).core d ≡ startOn m.world.anchor d
+begins : (m : Machine) (d : ℕ) → d < (sizes_on m.world.anchor).disks → outcome m restart_begin ≡ taken
+    → position_of (result m restart_begin).core d ≡ start_on m.world.anchor d
 unfolding outcome result
 begins m d below o =
-    let t = taken-call restartBegin m.core m.world o in
-    let p = rw (t.core, t.world) at (begin-progress m.core m.world o) in
+    let t = taken_call restart_begin m.core m.world o in
+    let p = rw (t.core, t.world) at (begin_progress m.core m.world o) in
     rw t.core
-    (begun-positions m.world d ∙ p.0.starts d (rw (p.0.sizes, p.1.anchor) below) ∙ ap (λ (a : List ℕ). startOn a d) p.1.anchor)
+    (begun_positions m.world d ∙ p.0.starts d (rw (p.0.sizes, p.1.anchor) below) ∙ ap (λ (a : List ℕ). start_on a d) p.1.anchor)
 
 -- Each disk's words are the records that the calls put there, and the readers find these and no others.
-log-holds : {puts : Told} {m : Machine} {r : Reference} → Holding puts m r → (d : ℕ) → d < (sizesOn m.world.anchor).disks → LogOf m puts d
+log_holds : {puts : Told} {m : Machine} {r : Reference} → Holding puts m r → (d : ℕ) → d < (sizes_on m.world.anchor).disks → LogOf m puts d
 unfolding stored
-log-holds {m = m} (shut s k n) d below =
+log_holds {m = m} (shut s k n) d below =
     record {
       stored = k.logs d below;
-      serving = λ e. true-false (sym (ap whenServing s) ∙ e) refl;
+      serving = λ e. true_false (sym (ap when_serving s) ∙ e) refl;
       begins = begins m d below;
-      replaying = λ e. true-false (sym (ap whenShut e) ∙ ap whenShut s) refl;
+      replaying = λ e. true_false (sym (ap when_shut e) ∙ ap when_shut s) refl;
     }
-log-holds {m = m} (replaying p k l n) d below =
+log_holds {m = m} (replaying p k l n) d below =
     record {
       stored = (l d below).stored;
-      serving = λ e. true-false (sym (ap whenServing p.stage) ∙ e) refl;
+      serving = λ e. true_false (sym (ap when_serving p.stage) ∙ e) refl;
       begins = begins m d below;
       replaying = λ e. (l d below).steps;
     }
-log-holds {puts} {m} {r} (serving g) d below =
+log_holds {puts} {m} {r} (serving g) d below =
     let inside = rw g.serving.safe.devices.sizes at below in
     record {
       stored = stored g.serving.safe d inside puts (g.serving.told d inside);
       serving = λ e. buffered g.serving d inside;
       begins = begins m d below;
-      replaying = λ e. true-false (sym (ap whenServing e) ∙ g.serving.stage) refl;
+      replaying = λ e. true_false (sym (ap when_serving e) ∙ g.serving.stage) refl;
     }
 
-pub log-kept : LogKept
+pub log_kept : LogKept
 unfolding LogKept
-log-kept m s budget formats events a = log-holds (holds_after m s budget formats events a)
+log_kept m s budget formats events a = log_holds (holds_after m s budget formats events a)
 
 -- A backup step takes the next page.
-pub backup-steps : BackupSteps
-unfolding BackupSteps outcome result restartBeginTask
-backup-steps =
+pub backup_steps : BackupSteps
+unfolding BackupSteps outcome result restart_begin_task
+backup_steps =
     always _ (λ puts m r h. (
-      λ o. rw (taken-call restartBegin m.core m.world o).core,
-      λ e left. backup-step m.core m.world (replayed h (ap whenReplaying e)).progress left,
+      λ o. rw (taken_call restart_begin m.core m.world o).core,
+      λ e left. backup_step_lem m.core m.world (replayed h (ap when_replaying e)).progress left,
     ))
 
 -- What the state says is true.
-pub state-true : StateTrue
+pub state_true : StateTrue
 unfolding StateTrue
-state-true = always _ (λ puts m r h e. truth m r (served h e))
+state_true = always _ (λ puts m r h e. truth m r (served h e))
 
 -- No call finds a malformed record.
-pub never-malformed : NeverMalformed
+pub never_malformed : NeverMalformed
 unfolding NeverMalformed result
-never-malformed =
+never_malformed =
     always _ (λ puts m r h k.
-    never-seven k m.core m.world (λ e. (holding-kept h).restartable) (λ e. (replayed h (ap whenReplaying e)).progress)
-    (λ e. abort-never-bad (served h e)))
+    never_seven k m.core m.world (λ e. (holding_kept h).restartable) (λ e. (replayed h (ap when_replaying e)).progress)
+    (λ e. abort_never_bad (served h e)))

@@ -9,9 +9,9 @@ use lib.ListN.{length, get_or, get_or-append}
 use lib.Dec.{ltb}
 use borrow.Author.Tests.{lt-ltb, le-ltb, ltb-true, ltb-false}
 use Rattle.model.specs.declared.Sizes.{Sizes}
-use Rattle.model.specs.Sizes.{ringWord}
+use Rattle.model.specs.Sizes.{ring_word}
 use Rattle.model.specs.Decode.{read_log, span}
-use Rattle.model.proofs.Booleans.{cond-cong}
+use Rattle.model.proofs.Booleans.{cond_cong}
 
 -- the words stand at position p and onward
 abbrev pub Holds : (ℕ → ℕ) → ℕ → List ℕ → Type 0
@@ -33,10 +33,10 @@ holds_at read p (x ∷ xs) h q l m = go (dec_lt p q) (λ k. holds_at read (p + 1
         let z : q ≡ p = omega arith in
         rw (e, z) h.0
 
-pub holds-from : (read : ℕ → ℕ) (p : ℕ) (xs : List ℕ)
+pub holds_from : (read : ℕ → ℕ) (p : ℕ) (xs : List ℕ)
     → ((q : ℕ) → p ≤ q → q < p + length xs → read q ≡ get_or xs (q - p) 0) → Holds read p xs
-holds-from read p [] f = tt
-holds-from read p (x ∷ xs) f = (here, holds-from read (p + 1) xs later)
+holds_from read p [] f = tt
+holds_from read p (x ∷ xs) f = (here, holds_from read (p + 1) xs later)
   where
     here : read p ≡ x
     here =
@@ -57,61 +57,61 @@ holds_agree read other p (x ∷ xs) same h = (
   holds_agree read other (p + 1) xs (λ q l m. same q (omega arith) (omega arith)) h.1,
 )
 
-pub holds-append : (read : ℕ → ℕ) (p : ℕ) (a b : List ℕ) → Holds read p (a ++ b) → Holds read p a × Holds read (p + length a) b
-holds-append read p [] b h = (tt, rw add-zero h)
-holds-append read p (x ∷ a) b h =
-    let t = holds-append read (p + 1) a b h.1 in
+pub holds_append : (read : ℕ → ℕ) (p : ℕ) (a b : List ℕ) → Holds read p (a ++ b) → Holds read p a × Holds read (p + length a) b
+holds_append read p [] b h = (tt, rw add-zero h)
+holds_append read p (x ∷ a) b h =
+    let t = holds_append read (p + 1) a b h.1 in
     let e : p + 1 + length a ≡ p + suc (length a) = omega arith in
     ((h.0, t.0), rw e at t.1)
 
-pub append-holds : (read : ℕ → ℕ) (p : ℕ) (a b : List ℕ) → Holds read p a → Holds read (p + length a) b → Holds read p (a ++ b)
-append-holds read p [] b h l = rw add-zero at l
-append-holds read p (x ∷ a) b h l =
+pub append_holds : (read : ℕ → ℕ) (p : ℕ) (a b : List ℕ) → Holds read p a → Holds read (p + length a) b → Holds read p (a ++ b)
+append_holds read p [] b h l = rw add-zero at l
+append_holds read p (x ∷ a) b h l =
     let e : p + 1 + length a ≡ p + suc (length a) = omega arith in
-    (h.0, append-holds read (p + 1) a b h.1 (rw e l))
+    (h.0, append_holds read (p + 1) a b h.1 (rw e l))
 
 -- the span of the words that a reader holds is those words
-pub span-holds : (read : ℕ → ℕ) (p : ℕ) (xs : List ℕ) → Holds read p xs → span read p (length xs) ≡ xs
+pub span_holds : (read : ℕ → ℕ) (p : ℕ) (xs : List ℕ) → Holds read p xs → span read p (length xs) ≡ xs
 unfolding span
-span-holds read p [] h = refl
-span-holds read p (x ∷ xs) h = cc (h.0, span-holds read (p + 1) xs h.1)
+span_holds read p [] h = refl
+span_holds read p (x ∷ xs) h = cc (h.0, span_holds read (p + 1) xs h.1)
 
 -- two readers that agree give the same span
-pub span-cong : (read other : ℕ → ℕ) (p n : ℕ) → ((q : ℕ) → p ≤ q → q < p + n → read q ≡ other q)
+pub span_cong : (read other : ℕ → ℕ) (p n : ℕ) → ((q : ℕ) → p ≤ q → q < p + n → read q ≡ other q)
     → span read p n ≡ span other p n
 unfolding span
-span-cong read other p zero same = refl
-span-cong read other p (suc n) same =
-    cc (same p (omega arith) (omega arith), span-cong read other (p + 1) n (λ q h l. same q (omega arith) (omega arith)))
+span_cong read other p zero same = refl
+span_cong read other p (suc n) same =
+    cc (same p (omega arith) (omega arith), span_cong read other (p + 1) n (λ q h l. same q (omega arith) (omega arith)))
 
 -- a log below its tail is the ring, from its tail on the buffer
 module _ (s : Sizes) (logs : List ℕ) (disk tail : ℕ) (buffer : List ℕ) where
-  pub read-ring : (q : ℕ) → q < tail → read_log s logs disk tail buffer q ≡ get_or logs (ringWord s disk q) 0
+  pub read_ring_lem : (q : ℕ) → q < tail → read_log s logs disk tail buffer q ≡ get_or logs (ring_word s disk q) 0
   unfolding read_log
-  read-ring q h = simp (lt-ltb q tail h)
+  read_ring_lem q h = simp (lt-ltb q tail h)
 
-  pub read-buffer : (q : ℕ) → tail ≤ q → read_log s logs disk tail buffer q ≡ get_or buffer (q - tail) 0
+  pub read_buffer : (q : ℕ) → tail ≤ q → read_log s logs disk tail buffer q ≡ get_or buffer (q - tail) 0
   unfolding read_log
-  read-buffer q h = simp (le-ltb q tail h)
+  read_buffer q h = simp (le-ltb q tail h)
 
   -- more words in the buffer leave what was read before them
-  pub read-append : (more : List ℕ) (q : ℕ) → q < tail + length buffer
+  pub read_append : (more : List ℕ) (q : ℕ) → q < tail + length buffer
       → read_log s logs disk tail (buffer ++ more) q ≡ read_log s logs disk tail buffer q
   unfolding read_log
-  read-append more q h =
-      cond-cong (ltb q tail) (λ _. refl)
+  read_append more q h =
+      cond_cong (ltb q tail) (λ _. refl)
       (λ e. get_or-append buffer more 0 (q - tail) (omega (arith, ltb-false q tail e)))
 
   -- logs whose ring has the same word at a position read the same there
-  pub read_same : (others : List ℕ) (q : ℕ) → (q < tail → get_or others (ringWord s disk q) 0 ≡ get_or logs (ringWord s disk q) 0)
+  pub read_same : (others : List ℕ) (q : ℕ) → (q < tail → get_or others (ring_word s disk q) 0 ≡ get_or logs (ring_word s disk q) 0)
       → read_log s others disk tail buffer q ≡ read_log s logs disk tail buffer q
   unfolding read_log
-  read_same others q same = cond-cong (ltb q tail) (λ e. same (ltb-true q tail e)) (λ _. refl)
+  read_same others q same = cond_cong (ltb q tail) (λ e. same (ltb-true q tail e)) (λ _. refl)
 
   -- a log holds the ring's words, then the buffer's
-  pub read-holds : (p : ℕ) (xs : List ℕ) → tail ≡ p + length xs → Holds (λ q. get_or logs (ringWord s disk q) 0) p xs
+  pub read_holds : (p : ℕ) (xs : List ℕ) → tail ≡ p + length xs → Holds (λ q. get_or logs (ring_word s disk q) 0) p xs
       → Holds (read_log s logs disk tail buffer) p (xs ++ buffer)
-  read-holds p xs e h =
-      append-holds (read_log s logs disk tail buffer) p xs buffer
-      (holds_agree _ _ p xs (λ q l m. read-ring q (omega arith)) h)
-      (rw (← e) (holds-from _ tail buffer (λ q l m. read-buffer q l)))
+  read_holds p xs e h =
+      append_holds (read_log s logs disk tail buffer) p xs buffer
+      (holds_agree _ _ p xs (λ q l m. read_ring_lem q (omega arith)) h)
+      (rw (← e) (holds_from _ tail buffer (λ q l m. read_buffer q l)))

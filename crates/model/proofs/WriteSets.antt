@@ -7,131 +7,131 @@ use Prim.Native.Nat.{ℕ}
 use native.Mathlib.Decide.{ℕ_discrete}
 use lib.Dec.{eqb}
 use borrow.Author.Tests.{eq-eqb, ne_eqb}
-use Rattle.model.specs.Reference.{Write, WriteSet, writes_of, added, removed, hasSet}
+use Rattle.model.specs.Reference.{Write, WriteSet, writes_of, added, removed, has_set}
 
 -- no transaction has two
 abbrev pub Distinct : List WriteSet → Type 0
 Distinct [] = Unit {0}
-Distinct (x ∷ xs) = (hasSet x.number xs ≡ false) × Distinct xs
+Distinct (x ∷ xs) = (has_set x.number xs ≡ false) × Distinct xs
 
 -- the empty set of a new transaction
-abbrev pub emptySet : ℕ → WriteSet
-emptySet n = record { number = n; writes = [] }
+abbrev pub empty_set : ℕ → WriteSet
+empty_set n = record { number = n; writes = [] }
 
 -- two numbers are the same or not
 cases : {P : Type 0} (a b : ℕ) → (a ≡ b → P) → (a ≢ b → P) → P
 cases a b same other = elim (ℕ_discrete a b) [ yes e ↦ same e | no e ↦ other e ]
 
-ne-sym : {a b : ℕ} → a ≢ b → b ≢ a
-ne-sym other e = other (sym e)
+ne_sym : {a b : ℕ} → a ≢ b → b ≢ a
+ne_sym other e = other (sym e)
 
 -- a transaction without a set has no writes
-pub writes-none : (n : ℕ) (sets : List WriteSet) → hasSet n sets ≡ false → writes_of n sets ≡ []
-unfolding hasSet writes_of
-writes-none n [] none = refl
-writes-none n (x ∷ xs) none =
+pub writes_none : (n : ℕ) (sets : List WriteSet) → has_set n sets ≡ false → writes_of n sets ≡ []
+unfolding has_set writes_of
+writes_none n [] none = refl
+writes_none n (x ∷ xs) none =
     cases x.number n (λ same. absurd (true≢false (rw (eq-eqb x.number n same) at none)))
-    (λ other. rw (ne_eqb x.number n other) (writes-none n xs (rw (ne_eqb x.number n other) at none)))
+    (λ other. rw (ne_eqb x.number n other) (writes_none n xs (rw (ne_eqb x.number n other) at none)))
 
 -- An empty set in front.
 module _ (n : ℕ) (sets : List WriteSet) where
-  pub writes-front : writes_of n (emptySet n ∷ sets) ≡ []
+  pub writes_front : writes_of n (empty_set n ∷ sets) ≡ []
   unfolding writes_of
-  writes-front = rw (eq-eqb n n refl)
+  writes_front = rw (eq-eqb n n refl)
 
-  pub writes-front-other : (m : ℕ) → m ≢ n → writes_of m (emptySet n ∷ sets) ≡ writes_of m sets
+  pub writes_front_other : (m : ℕ) → m ≢ n → writes_of m (empty_set n ∷ sets) ≡ writes_of m sets
   unfolding writes_of
-  writes-front-other m other = rw (ne_eqb n m (ne-sym other))
+  writes_front_other m other = rw (ne_eqb n m (ne_sym other))
 
-  pub has-front : hasSet n (emptySet n ∷ sets) ≡ true
-  unfolding hasSet
-  has-front = rw (eq-eqb n n refl)
+  pub has_front : has_set n (empty_set n ∷ sets) ≡ true
+  unfolding has_set
+  has_front = rw (eq-eqb n n refl)
 
-  pub has-front-other : (m : ℕ) → m ≢ n → hasSet m (emptySet n ∷ sets) ≡ hasSet m sets
-  unfolding hasSet
-  has-front-other m other = rw (ne_eqb n m (ne-sym other))
+  pub has_front_other : (m : ℕ) → m ≢ n → has_set m (empty_set n ∷ sets) ≡ has_set m sets
+  unfolding has_set
+  has_front_other m other = rw (ne_eqb n m (ne_sym other))
 
-  pub distinct-front : hasSet n sets ≡ false → Distinct sets → Distinct (emptySet n ∷ sets)
-  distinct-front fresh distinct = (fresh, distinct)
+  pub distinct_front : has_set n sets ≡ false → Distinct sets → Distinct (empty_set n ∷ sets)
+  distinct_front fresh distinct = (fresh, distinct)
 
 -- A write added to a set.
 module _ (n : ℕ) (e : Write) where
-  pub writes-added : (sets : List WriteSet) → hasSet n sets ≡ true → writes_of n (added n e sets) ≡ writes_of n sets ++ e ∷ []
-  unfolding hasSet writes_of added
-  writes-added [] has = absurd (true≢false (sym has))
-  writes-added (x ∷ xs) has =
+  pub writes_added : (sets : List WriteSet) → has_set n sets ≡ true → writes_of n (added n e sets) ≡ writes_of n sets ++ e ∷ []
+  unfolding has_set writes_of added
+  writes_added [] has = absurd (true≢false (sym has))
+  writes_added (x ∷ xs) has =
       cases x.number n (λ same. rw (eq-eqb x.number n same, eq-eqb n n refl))
-      (λ other. simp (ne_eqb x.number n other) (writes-added xs (rw (ne_eqb x.number n other) at has)))
+      (λ other. simp (ne_eqb x.number n other) (writes_added xs (rw (ne_eqb x.number n other) at has)))
 
-  pub writes-added-other : (sets : List WriteSet) (m : ℕ) → m ≢ n → writes_of m (added n e sets) ≡ writes_of m sets
+  pub writes_added_other : (sets : List WriteSet) (m : ℕ) → m ≢ n → writes_of m (added n e sets) ≡ writes_of m sets
   unfolding writes_of added
-  writes-added-other [] m h = refl
-  writes-added-other (x ∷ xs) m h =
-      cases x.number n (λ same. rw (eq-eqb x.number n same, same, ne_eqb n m (ne-sym h)))
-      (λ other. rw (ne_eqb x.number n other, writes-added-other xs m h))
+  writes_added_other [] m h = refl
+  writes_added_other (x ∷ xs) m h =
+      cases x.number n (λ same. rw (eq-eqb x.number n same, same, ne_eqb n m (ne_sym h)))
+      (λ other. rw (ne_eqb x.number n other, writes_added_other xs m h))
 
   -- who has a set does not change
-  pub has-added : (sets : List WriteSet) (m : ℕ) → hasSet m (added n e sets) ≡ hasSet m sets
-  unfolding hasSet added
-  has-added [] m = refl
-  has-added (x ∷ xs) m =
+  pub has_added : (sets : List WriteSet) (m : ℕ) → has_set m (added n e sets) ≡ has_set m sets
+  unfolding has_set added
+  has_added [] m = refl
+  has_added (x ∷ xs) m =
       cases x.number n (λ same. rw (eq-eqb x.number n same, same))
-      (λ other. rw (ne_eqb x.number n other, has-added xs m))
+      (λ other. rw (ne_eqb x.number n other, has_added xs m))
 
-  pub distinct-added : (sets : List WriteSet) → Distinct sets → Distinct (added n e sets)
+  pub distinct_added : (sets : List WriteSet) → Distinct sets → Distinct (added n e sets)
   unfolding added
-  distinct-added [] distinct = distinct
-  distinct-added (x ∷ xs) distinct =
+  distinct_added [] distinct = distinct
+  distinct_added (x ∷ xs) distinct =
       cases x.number n (λ same. rw (eq-eqb x.number n same) (rw same at distinct.0, distinct.1))
-      (λ other. rw (ne_eqb x.number n other) (has-added xs x.number ∙ distinct.0, distinct-added xs distinct.1))
+      (λ other. rw (ne_eqb x.number n other) (has_added xs x.number ∙ distinct.0, distinct_added xs distinct.1))
 
 -- A set removed.
 module _ (n : ℕ) where
-  pub writes-removed-other : (sets : List WriteSet) (m : ℕ) → m ≢ n → writes_of m (removed n sets) ≡ writes_of m sets
+  pub writes_removed_other : (sets : List WriteSet) (m : ℕ) → m ≢ n → writes_of m (removed n sets) ≡ writes_of m sets
   unfolding writes_of removed
-  writes-removed-other [] m h = refl
-  writes-removed-other (x ∷ xs) m h =
-      cases x.number n (λ same. rw (eq-eqb x.number n same, same, ne_eqb n m (ne-sym h)))
-      (λ other. rw (ne_eqb x.number n other, writes-removed-other xs m h))
+  writes_removed_other [] m h = refl
+  writes_removed_other (x ∷ xs) m h =
+      cases x.number n (λ same. rw (eq-eqb x.number n same, same, ne_eqb n m (ne_sym h)))
+      (λ other. rw (ne_eqb x.number n other, writes_removed_other xs m h))
 
-  pub has-removed-other : (sets : List WriteSet) (m : ℕ) → m ≢ n → hasSet m (removed n sets) ≡ hasSet m sets
-  unfolding hasSet removed
-  has-removed-other [] m h = refl
-  has-removed-other (x ∷ xs) m h =
-      cases x.number n (λ same. rw (eq-eqb x.number n same, same, ne_eqb n m (ne-sym h)))
-      (λ other. rw (ne_eqb x.number n other, has-removed-other xs m h))
+  pub has_removed_other : (sets : List WriteSet) (m : ℕ) → m ≢ n → has_set m (removed n sets) ≡ has_set m sets
+  unfolding has_set removed
+  has_removed_other [] m h = refl
+  has_removed_other (x ∷ xs) m h =
+      cases x.number n (λ same. rw (eq-eqb x.number n same, same, ne_eqb n m (ne_sym h)))
+      (λ other. rw (ne_eqb x.number n other, has_removed_other xs m h))
 
-  pub has-removed : (sets : List WriteSet) → Distinct sets → hasSet n (removed n sets) ≡ false
-  unfolding hasSet removed
-  has-removed [] distinct = refl
-  has-removed (x ∷ xs) distinct =
+  pub has_removed : (sets : List WriteSet) → Distinct sets → has_set n (removed n sets) ≡ false
+  unfolding has_set removed
+  has_removed [] distinct = refl
+  has_removed (x ∷ xs) distinct =
       cases x.number n (λ same. rw (eq-eqb x.number n same) (rw same at distinct.0))
-      (λ other. simp (ne_eqb x.number n other) (has-removed xs distinct.1))
+      (λ other. simp (ne_eqb x.number n other) (has_removed xs distinct.1))
 
-  pub distinct-removed : (sets : List WriteSet) → Distinct sets → Distinct (removed n sets)
+  pub distinct_removed : (sets : List WriteSet) → Distinct sets → Distinct (removed n sets)
   unfolding removed
-  distinct-removed [] distinct = distinct
-  distinct-removed (x ∷ xs) distinct =
+  distinct_removed [] distinct = distinct
+  distinct_removed (x ∷ xs) distinct =
       cases x.number n (λ same. rw (eq-eqb x.number n same) distinct.1)
-      (λ other. rw (ne_eqb x.number n other) (has-removed-other xs x.number other ∙ distinct.0, distinct-removed xs distinct.1))
+      (λ other. rw (ne_eqb x.number n other) (has_removed_other xs x.number other ∙ distinct.0, distinct_removed xs distinct.1))
 
 -- The same for any transaction at once, in the form of the ledger's steps.
-pub front-writes : (n : ℕ) (sets : List WriteSet) (m : ℕ) → writes_of m (emptySet n ∷ sets) ≡ cond (eqb m n) [] (writes_of m sets)
-front-writes n sets m =
-    cases m n (λ same. rw (eq-eqb m n same, same) (writes-front n sets)) (λ other. rw (ne_eqb m n other) (writes-front-other n sets m other))
+pub front_writes : (n : ℕ) (sets : List WriteSet) (m : ℕ) → writes_of m (empty_set n ∷ sets) ≡ cond (eqb m n) [] (writes_of m sets)
+front_writes n sets m =
+    cases m n (λ same. rw (eq-eqb m n same, same) (writes_front n sets)) (λ other. rw (ne_eqb m n other) (writes_front_other n sets m other))
 
-pub front-has : (n : ℕ) (sets : List WriteSet) (m : ℕ) → hasSet m (emptySet n ∷ sets) ≡ hasSet m sets || eqb m n
-front-has n sets m =
-    cases m n (λ same. rw (eq-eqb m n same, or-true, same) (has-front n sets))
-    (λ other. rw (ne_eqb m n other, or-false) (has-front-other n sets m other))
+pub front_has : (n : ℕ) (sets : List WriteSet) (m : ℕ) → has_set m (empty_set n ∷ sets) ≡ has_set m sets || eqb m n
+front_has n sets m =
+    cases m n (λ same. rw (eq-eqb m n same, or-true, same) (has_front n sets))
+    (λ other. rw (ne_eqb m n other, or-false) (has_front_other n sets m other))
 
-pub added-writes : (n : ℕ) (e : Write) (sets : List WriteSet) → hasSet n sets ≡ true → (m : ℕ)
+pub added_writes : (n : ℕ) (e : Write) (sets : List WriteSet) → has_set n sets ≡ true → (m : ℕ)
     → writes_of m (added n e sets) ≡ cond (eqb m n) (writes_of m sets ++ e ∷ []) (writes_of m sets)
-added-writes n e sets has m =
-    cases m n (λ same. rw (eq-eqb m n same, same) (writes-added n e sets has))
-    (λ other. rw (ne_eqb m n other) (writes-added-other n e sets m other))
+added_writes n e sets has m =
+    cases m n (λ same. rw (eq-eqb m n same, same) (writes_added n e sets has))
+    (λ other. rw (ne_eqb m n other) (writes_added_other n e sets m other))
 
-pub removed-has : (n : ℕ) (sets : List WriteSet) → Distinct sets → (m : ℕ) → hasSet m (removed n sets) ≡ hasSet m sets && not (eqb m n)
-removed-has n sets distinct m =
-    cases m n (λ same. rw (eq-eqb m n same, and-false, same) (has-removed n sets distinct))
-    (λ other. rw (ne_eqb m n other, and-true) (has-removed-other n sets m other))
+pub removed_has : (n : ℕ) (sets : List WriteSet) → Distinct sets → (m : ℕ) → has_set m (removed n sets) ≡ has_set m sets && not (eqb m n)
+removed_has n sets distinct m =
+    cases m n (λ same. rw (eq-eqb m n same, and-false, same) (has_removed n sets distinct))
+    (λ other. rw (ne_eqb m n other, and-true) (has_removed_other n sets m other))

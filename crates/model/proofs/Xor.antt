@@ -8,28 +8,28 @@ use lib.Arith.{bin_ind, digits_mod}
 use lib.ListN.{length, get_or, replicate}
 use Rattle.model.specs.Word.{◌⊕◌, xors}
 
-differ-assoc : (x y z : ℕ) → x < 2 → y < 2 → z < 2 → differ (differ x y) z ≡ differ x (differ y z)
-differ-assoc zero y z p q r = refl
-differ-assoc (suc zero) zero z p q r = refl
-differ-assoc (suc zero) (suc zero) zero p q r = refl
-differ-assoc (suc zero) (suc zero) (suc zero) p q r = refl
-differ-assoc (suc zero) (suc zero) (suc (suc z)) p q r = absurd (omega arith)
-differ-assoc (suc zero) (suc (suc y)) z p q r = absurd (omega arith)
-differ-assoc (suc (suc x)) y z p q r = absurd (omega arith)
+differ_assoc : (x y z : ℕ) → x < 2 → y < 2 → z < 2 → differ (differ x y) z ≡ differ x (differ y z)
+differ_assoc zero y z p q r = refl
+differ_assoc (suc zero) zero z p q r = refl
+differ_assoc (suc zero) (suc zero) zero p q r = refl
+differ_assoc (suc zero) (suc zero) (suc zero) p q r = refl
+differ_assoc (suc zero) (suc zero) (suc (suc z)) p q r = absurd (omega arith)
+differ_assoc (suc zero) (suc (suc y)) z p q r = absurd (omega arith)
+differ_assoc (suc (suc x)) y z p q r = absurd (omega arith)
 
-differ-lt : (x y : ℕ) → x < 2 → y < 2 → differ x y < 2
-differ-lt zero y p q = q
-differ-lt (suc x) zero p q = p
-differ-lt (suc zero) (suc y) p q = omega arith
-differ-lt (suc (suc x)) (suc y) p q = absurd (omega arith)
+differ_lt : (x y : ℕ) → x < 2 → y < 2 → differ x y < 2
+differ_lt zero y p q = q
+differ_lt (suc x) zero p q = p
+differ_lt (suc zero) (suc y) p q = omega arith
+differ_lt (suc (suc x)) (suc y) p q = absurd (omega arith)
 
-pub bit-lt : (a : ℕ) → a % 2 < 2
-bit-lt a = omega arith
+pub bit_lt : (a : ℕ) → a % 2 < 2
+bit_lt a = omega arith
 
 pub xor_low : (a b : ℕ) → bit_xor a b % 2 ≡ differ (a % 2) (b % 2)
 xor_low a b =
     ap (λ (x : ℕ). x % 2) (xor_step a b)
-    ∙ digits_mod (bit_xor (a / 2) (b / 2)) (differ-lt (a % 2) (b % 2) (bit-lt a) (bit-lt b))
+    ∙ digits_mod (bit_xor (a / 2) (b / 2)) (differ_lt (a % 2) (b % 2) (bit_lt a) (bit_lt b))
 
 xor_assoc : (a b c : ℕ) → bit_xor (bit_xor a b) c ≡ bit_xor a (bit_xor b c)
 xor_assoc =
@@ -40,7 +40,7 @@ xor_assoc =
     ∙ ap₂ (λ (x y : ℕ). x * 2 + y)
     (ap (λ (x : ℕ). bit_xor x (c / 2)) (xor_shr n b 1) ∙ ih (b / 2) (c / 2) ∙ ap (λ (x : ℕ). bit_xor (n / 2) x) (sym (xor_shr b c 1)))
     (ap (λ (x : ℕ). differ x (c % 2)) (xor_low n b)
-    ∙ differ-assoc (n % 2) (b % 2) (c % 2) (bit-lt n) (bit-lt b) (bit-lt c)
+    ∙ differ_assoc (n % 2) (b % 2) (c % 2) (bit_lt n) (bit_lt b) (bit_lt c)
     ∙ ap (λ (x : ℕ). differ (n % 2) x) (sym (xor_low b c)))
     ∙ sym (xor_step n (bit_xor b c)))
 
@@ -87,69 +87,69 @@ pub ⊕-move : (a b c : ℕ) → a ⊕ b ≡ c → b ≡ a ⊕ c
 -- Lists, word by word.
 
 -- as many words as the shorter list has
-pub length-xors : (a b : List ℕ) → length (xors a b) ≡ min (length a) (length b)
+pub length_xors : (a b : List ℕ) → length (xors a b) ≡ min (length a) (length b)
 unfolding xors
-length-xors [] b = omega arith
-length-xors (x ∷ a) [] = omega arith
-length-xors (x ∷ a) (y ∷ b) = omega (arith, length-xors a b)
+length_xors [] b = omega arith
+length_xors (x ∷ a) [] = omega arith
+length_xors (x ∷ a) (y ∷ b) = omega (arith, length_xors a b)
 
-pub length-xors-same : (a b : List ℕ) → length a ≡ length b → length (xors a b) ≡ length a
-length-xors-same a b e = omega (arith, length-xors a b)
+pub length_xors_same : (a b : List ℕ) → length a ≡ length b → length (xors a b) ≡ length a
+length_xors_same a b e = omega (arith, length_xors a b)
 
 -- word i is the exclusive or of the two words i
-pub getD-xors : (a b : List ℕ) (i : ℕ) → i < length a → i < length b → get_or (xors a b) i 0 ≡ get_or a i 0 ⊕ get_or b i 0
+pub get_d_xors : (a b : List ℕ) (i : ℕ) → i < length a → i < length b → get_or (xors a b) i 0 ≡ get_or a i 0 ⊕ get_or b i 0
 unfolding xors
-getD-xors [] b i h l = absurd (omega arith)
-getD-xors (x ∷ a) [] i h l = absurd (omega arith)
-getD-xors (x ∷ a) (y ∷ b) zero h l = refl
-getD-xors (x ∷ a) (y ∷ b) (suc i) h l = getD-xors a b i (omega arith) (omega arith)
+get_d_xors [] b i h l = absurd (omega arith)
+get_d_xors (x ∷ a) [] i h l = absurd (omega arith)
+get_d_xors (x ∷ a) (y ∷ b) zero h l = refl
+get_d_xors (x ∷ a) (y ∷ b) (suc i) h l = get_d_xors a b i (omega arith) (omega arith)
 
 -- for lists of one length this holds at every index: past their end all three have 0
-pub getD-xors-same : (a b : List ℕ) → length a ≡ length b → (i : ℕ) → get_or (xors a b) i 0 ≡ get_or a i 0 ⊕ get_or b i 0
+pub get_d_xors_same : (a b : List ℕ) → length a ≡ length b → (i : ℕ) → get_or (xors a b) i 0 ≡ get_or a i 0 ⊕ get_or b i 0
 unfolding xors
-getD-xors-same [] [] e i = sym (⊕-zero-r 0)
-getD-xors-same [] (y ∷ b) e i = absurd (omega arith)
-getD-xors-same (x ∷ a) [] e i = absurd (omega arith)
-getD-xors-same (x ∷ a) (y ∷ b) e zero = refl
-getD-xors-same (x ∷ a) (y ∷ b) e (suc i) = getD-xors-same a b (omega arith) i
+get_d_xors_same [] [] e i = sym (⊕-zero-r 0)
+get_d_xors_same [] (y ∷ b) e i = absurd (omega arith)
+get_d_xors_same (x ∷ a) [] e i = absurd (omega arith)
+get_d_xors_same (x ∷ a) (y ∷ b) e zero = refl
+get_d_xors_same (x ∷ a) (y ∷ b) e (suc i) = get_d_xors_same a b (omega arith) i
 
-pub xors-comm : (a b : List ℕ) → xors a b ≡ xors b a
+pub xors_comm : (a b : List ℕ) → xors a b ≡ xors b a
 unfolding xors
-xors-comm [] [] = refl
-xors-comm [] (y ∷ b) = refl
-xors-comm (x ∷ a) [] = refl
-xors-comm (x ∷ a) (y ∷ b) = cc (⊕-comm x y, xors-comm a b)
+xors_comm [] [] = refl
+xors_comm [] (y ∷ b) = refl
+xors_comm (x ∷ a) [] = refl
+xors_comm (x ∷ a) (y ∷ b) = cc (⊕-comm x y, xors_comm a b)
 
-pub xors-assoc : (a b c : List ℕ) → xors (xors a b) c ≡ xors a (xors b c)
+pub xors_assoc : (a b c : List ℕ) → xors (xors a b) c ≡ xors a (xors b c)
 unfolding xors
-xors-assoc [] b c = refl
-xors-assoc (x ∷ a) [] c = refl
-xors-assoc (x ∷ a) (y ∷ b) [] = refl
-xors-assoc (x ∷ a) (y ∷ b) (z ∷ c) = cc (⊕-assoc x y z, xors-assoc a b c)
+xors_assoc [] b c = refl
+xors_assoc (x ∷ a) [] c = refl
+xors_assoc (x ∷ a) (y ∷ b) [] = refl
+xors_assoc (x ∷ a) (y ∷ b) (z ∷ c) = cc (⊕-assoc x y z, xors_assoc a b c)
 
-pub xors-left-comm : (a b c : List ℕ) → xors a (xors b c) ≡ xors b (xors a c)
-xors-left-comm a b c = sym (xors-assoc a b c) ∙ ap (λ (l : List ℕ). xors l c) (xors-comm a b) ∙ xors-assoc b a c
+pub xors_left_comm : (a b c : List ℕ) → xors a (xors b c) ≡ xors b (xors a c)
+xors_left_comm a b c = sym (xors_assoc a b c) ∙ ap (λ (l : List ℕ). xors l c) (xors_comm a b) ∙ xors_assoc b a c
 
 -- a list with itself leaves zeros
-pub xors-self : (a : List ℕ) → xors a a ≡ replicate (length a) 0
+pub xors_self : (a : List ℕ) → xors a a ≡ replicate (length a) 0
 unfolding xors
-xors-self [] = refl
-xors-self (x ∷ a) = cc (⊕-self x, xors-self a)
+xors_self [] = refl
+xors_self (x ∷ a) = cc (⊕-self x, xors_self a)
 
 -- zeros change nothing
-pub xors-zeros : (a : List ℕ) → xors a (replicate (length a) 0) ≡ a
+pub xors_zeros : (a : List ℕ) → xors a (replicate (length a) 0) ≡ a
 unfolding xors
-xors-zeros [] = refl
-xors-zeros (x ∷ a) = cc (⊕-zero-r x, xors-zeros a)
+xors_zeros [] = refl
+xors_zeros (x ∷ a) = cc (⊕-zero-r x, xors_zeros a)
 
 -- redo: the difference put into the value before gives the value after (000, definitions 1 and 2)
-pub xors-redo : (a b : List ℕ) → length a ≡ length b → xors a (xors a b) ≡ b
+pub xors_redo : (a b : List ℕ) → length a ≡ length b → xors a (xors a b) ≡ b
 unfolding xors
-xors-redo [] [] e = refl
-xors-redo [] (y ∷ b) e = absurd (omega arith)
-xors-redo (x ∷ a) [] e = absurd (omega arith)
-xors-redo (x ∷ a) (y ∷ b) e = cc (⊕-self-left x y, xors-redo a b (omega arith))
+xors_redo [] [] e = refl
+xors_redo [] (y ∷ b) e = absurd (omega arith)
+xors_redo (x ∷ a) [] e = absurd (omega arith)
+xors_redo (x ∷ a) (y ∷ b) e = cc (⊕-self-left x y, xors_redo a b (omega arith))
 
 -- undo: the difference put into the value after gives the value before
-pub xors-undo : (a b : List ℕ) → length a ≡ length b → xors (xors a b) b ≡ a
-xors-undo a b e = xors-comm (xors a b) b ∙ ap (xors b) (xors-comm a b) ∙ xors-redo b a (sym e)
+pub xors_undo : (a b : List ℕ) → length a ≡ length b → xors (xors a b) b ≡ a
+xors_undo a b e = xors_comm (xors a b) b ∙ ap (xors b) (xors_comm a b) ∙ xors_redo b a (sym e)

@@ -5,12 +5,12 @@ use Rattle.model.specs.declared.RecordSize.{RecordSize}
 use Rattle.model.specs.declared.RecordSize.TheVariants.{Words, NoKind}
 use Rattle.model.specs.declared.Decoded.{Decoded}
 use Rattle.model.specs.declared.Decoded.TheVariants.{Change, Close, Malformed}
-use Rattle.model.specs.Sizes.{slotsIn, width_in, ringWord}
-use Rattle.model.specs.Record.{Record, change, close, encode, recordSize}
+use Rattle.model.specs.Sizes.{slots_in, width_in, ring_word}
+use Rattle.model.specs.Record.{Record, change, close, encode, record_size}
 
 -- A log is read through a function from position to word: below the tail the ring's word, from the tail on the buffer's.
 unfoldable pub read_log : Sizes → List ℕ → ℕ → ℕ → List ℕ → ℕ → ℕ
-read_log s logs disk tail buffer p = cond (ltb p tail) (get_or logs (ringWord s disk p) 0) (get_or buffer (p - tail) 0)
+read_log s logs disk tail buffer p = cond (ltb p tail) (get_or logs (ring_word s disk p) 0) (get_or buffer (p - tail) 0)
 
 -- the n words from position p on
 unfoldable pub span : (ℕ → ℕ) → ℕ → ℕ → List ℕ
@@ -18,52 +18,52 @@ span read p zero = []
 span read p (suc n) = read p ∷ span read (p + 1) n
 
 -- the fields of word 0
-abbrev pub kindField : ℕ → ℕ
-kindField w = w % 8
+abbrev pub kind_field : ℕ → ℕ
+kind_field w = w % 8
 
-abbrev pub pageField : ℕ → ℕ
-pageField w = w / 8 % 64
+abbrev pub page_field : ℕ → ℕ
+page_field w = w / 8 % 64
 
-abbrev pub slotField : ℕ → ℕ
-slotField w = w / 512 % 128
+abbrev pub slot_field : ℕ → ℕ
+slot_field w = w / 512 % 128
 
-abbrev pub widthField : ℕ → ℕ
-widthField w = w / 65536
+abbrev pub width_field : ℕ → ℕ
+width_field w = w / 65536
 
 -- "page, slot or length not the page's"
 unfoldable pub misplaced : Sizes → ℕ → Bool
 misplaced s w =
-    leb s.pages (pageField w) || leb (slotsIn s (pageField w)) (slotField w)
-    || not (eqb (widthField w) (width_in s (pageField w)))
+    leb s.pages (page_field w) || leb (slots_in s (page_field w)) (slot_field w)
+    || not (eqb (width_field w) (width_in s (page_field w)))
 
 -- a change by its first three words, with "page, slot or length not the page's"
-abbrev pub decodedChange : Sizes → ℕ → ℕ → ℕ → ℕ → Decoded
-decodedChange s w number copy next =
+abbrev pub decoded_change : Sizes → ℕ → ℕ → ℕ → ℕ → Decoded
+decoded_change s w number copy next =
     cond (misplaced s w) Malformed
-    (Change (kindField w) (pageField w) (slotField w) number copy (widthField w) next)
+    (Change (kind_field w) (page_field w) (slot_field w) number copy (width_field w) next)
 
 -- a closing record by its two words, with "set fields in a close"
-abbrev pub decodedClose : ℕ → ℕ → ℕ → Decoded
-decodedClose w number next = cond (eqb (w / 8) 0) (Close (kindField w) number next) Malformed
+abbrev pub decoded_close : ℕ → ℕ → ℕ → Decoded
+decoded_close w number next = cond (eqb (w / 8) 0) (Close (kind_field w) number next) Malformed
 
 -- a record of this size, whose first three words are w, number and copy, at position p of a log that ends at `end`
-abbrev pub decodeSized : Sizes → ℕ → ℕ → ℕ → ℕ → ℕ → RecordSize → Decoded
+abbrev pub decode_sized : Sizes → ℕ → ℕ → ℕ → ℕ → ℕ → RecordSize → Decoded
 -- "kind above 3"
-decodeSized s end p w number copy NoKind = Malformed
-decodeSized s end p w number copy (Words n) =
+decode_sized s end p w number copy NoKind = Malformed
+decode_sized s end p w number copy (Words n) =
     -- "end past the tail"
     cond (ltb end (p + n)) Malformed
     -- "number 0"
     (cond (eqb number 0) Malformed
-    (cond (ltb (kindField w) 2) (decodedChange s w number copy (p + n)) (decodedClose w number (p + n))))
+    (cond (ltb (kind_field w) 2) (decoded_change s w number copy (p + n)) (decoded_close w number (p + n))))
 
--- a record by its first three words (round-trip in proofs/RoundTrip.antt: what was encoded is decoded; decoding-kept in
+-- a record by its first three words (round-trip in proofs/RoundTrip.antt: what was encoded is decoded; decoding_kept in
 -- proofs/RecordSizes.antt: as it was before S-6)
 unfoldable pub decode_words : Sizes → ℕ → ℕ → ℕ → ℕ → ℕ → Decoded
-decode_words s end p w number copy = decodeSized s end p w number copy (recordSize (kindField w) (widthField w))
+decode_words s end p w number copy = decode_sized s end p w number copy (record_size (kind_field w) (width_field w))
 
-unfoldable pub decodeAt : Sizes → (ℕ → ℕ) → ℕ → ℕ → Decoded
-decodeAt s read end p = decode_words s end p (read p) (read (p + 1)) (read (p + 2))
+unfoldable pub decode_at : Sizes → (ℕ → ℕ) → ℕ → ℕ → Decoded
+decode_at s read end p = decode_words s end p (read p) (read (p + 1)) (read (p + 2))
 
 -- what it says of a record that stands whole at p
 abbrev pub decoded : ℕ → Record → Decoded

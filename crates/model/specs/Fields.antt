@@ -1,6 +1,6 @@
 -- The lists of the head by name, and words put into them: what a call that works on single words of the head leaves there.
 use Rattle.std.specs.Prelude.{ℕ, ◌+◌, List, [], ◌∷◌, set}
-use Rattle.model.specs.View.{headSlots, headWidths, headBases, headFills, headSums, headPositions, headPage, headNumbers, headDisks, headFirsts, headReserved}
+use Rattle.model.specs.View.{head_slots, head_widths, head_bases, head_fills, head_sums, head_positions, head_page, head_numbers, head_disks, head_firsts, head_reserved}
 
 pub data Field : Type 0 where
   slots : Field
@@ -17,17 +17,17 @@ pub data Field : Type 0 where
 
 -- where each begins
 abbrev pub field_at : Field → ℕ
-field_at slots = headSlots
-field_at widths = headWidths
-field_at bases = headBases
-field_at fills = headFills
-field_at sums = headSums
-field_at positions = headPositions
-field_at page = headPage
-field_at numbers = headNumbers
-field_at disks = headDisks
-field_at firsts = headFirsts
-field_at reserved = headReserved
+field_at slots = head_slots
+field_at widths = head_widths
+field_at bases = head_bases
+field_at fills = head_fills
+field_at sums = head_sums
+field_at positions = head_positions
+field_at page = head_page
+field_at numbers = head_numbers
+field_at disks = head_disks
+field_at firsts = head_firsts
+field_at reserved = head_reserved
 
 -- A word put into one of them.
 pub record Put : Type 0 where
@@ -39,9 +39,9 @@ abbrev pub put : Field → (index word : ℕ) → Put
 put field index word = record { field = field; index = index; word = word }
 
 -- the work memory after such words
-unfoldable pub putWords : List Put → (work : List ℕ) → List ℕ
-putWords [] work = work
-putWords (p ∷ ps) work = putWords ps (set work (field_at p.field + p.index) p.word)
+unfoldable pub put_words : List Put → (work : List ℕ) → List ℕ
+put_words [] work = work
+put_words (p ∷ ps) work = put_words ps (set work (field_at p.field + p.index) p.word)
 
 -- A place of the table filled, and the words reserved on its disk; a place freed; the words buffered on a disk.
 abbrev pub entering : (place number disk first words sum : ℕ) → List Put

@@ -4,16 +4,16 @@
 -- which begin's definition gives. From what was put, and from the open write sets, it is told where each log starts.
 use Rattle.std.specs.Prelude.{ℕ, ◌+◌, min, List, [], ◌∷◌, ◌++◌, map, cond, eqb, length, get_or}
 use Rattle.model.specs.declared.Core.{Core}
-use Rattle.model.specs.Below.{sumOver}
-use Rattle.model.specs.Word.{xors, onesOver}
-use Rattle.model.specs.Record.{Record, change, close, diffOf, updateKind, compensationKind, commitKind, abortKind, encodeAll}
-use Rattle.model.specs.Scan.{Update, placed, updatesIn, oldest}
+use Rattle.model.specs.Below.{sum_over}
+use Rattle.model.specs.Word.{xors, ones_over}
+use Rattle.model.specs.Record.{Record, change, close, diff_of, update_kind, compensation_kind, commit_kind, abort_kind, encode_all}
+use Rattle.model.specs.Scan.{Update, placed, updates_in, oldest}
 use Rattle.model.specs.World.{World}
 use Rattle.model.specs.Memory.{copy_of}
-use Rattle.model.specs.Causes.{tailOn}
-use Rattle.model.specs.Transaction.{diskOf}
-use Rattle.model.specs.Call.{Call, format, begin, update, look, commit, abort, setClasses, checkpointBegin, checkpointStep, checkpointEnd, restartBegin, restartStep, restartRun, restartEnd, newState}
-use Rattle.model.specs.Reference.{Reference, Outcome, taken, refused, interrupted, slotIndex, plainTable, WriteSet}
+use Rattle.model.specs.Causes.{tail_on}
+use Rattle.model.specs.Transaction.{disk_of}
+use Rattle.model.specs.Call.{Call, format, begin, update, look, commit, abort, set_classes, checkpoint_begin, checkpoint_step, checkpoint_end, restart_begin, restart_step, restart_run, restart_end, new_state}
+use Rattle.model.specs.Reference.{Reference, Outcome, taken, refused, interrupted, slot_index, plain_table, WriteSet}
 use Rattle.model.specs.Machine.{Event, call, lent, scramble, outcome, after, referred, Run}
 
 pub record Put : Type 0 where
@@ -28,115 +28,115 @@ pub record Told : Type 0 where
   pub starts : ℕ → ℕ
 
 -- logs that begin at `base`, where nothing was put yet
-abbrev pub emptyFrom : (ℕ → ℕ) → Told
-emptyFrom base = record { base = base; puts = []; marks = base; starts = base }
+abbrev pub empty_from : (ℕ → ℕ) → Told
+empty_from base = record { base = base; puts = []; marks = base; starts = base }
 
 -- "each tail 0"
-unfoldable pub nothingTold : Told
-nothingTold = emptyFrom (λ disk. 0)
+unfoldable pub nothing_told : Told
+nothing_told = empty_from (λ disk. 0)
 
 abbrev pub also : Told → List Put → Told
 also t more = record { base = t.base; puts = t.puts ++ more; marks = t.marks; starts = t.starts }
 
 -- the records put on one disk
-unfoldable pub recordsOn : ℕ → List Put → List Record
-recordsOn disk [] = []
-recordsOn disk (p ∷ ps) = cond (eqb p.disk disk) (p.content ∷ recordsOn disk ps) (recordsOn disk ps)
+unfoldable pub records_on : ℕ → List Put → List Record
+records_on disk [] = []
+records_on disk (p ∷ ps) = cond (eqb p.disk disk) (p.content ∷ records_on disk ps) (records_on disk ps)
 
 -- "The difference is before XOR after (000, definition 1)": before is the slot's value in the plain table of slots
-unfoldable pub updatePut : Run → ℕ → ℕ → ℕ → List ℕ → Record
-updatePut x number page slot value =
+unfoldable pub update_put : Run → ℕ → ℕ → ℕ → List ℕ → Record
+update_put x number page slot value =
     let r : Reference = x.reference in
-    let before : List ℕ = get_or (plainTable r) (slotIndex r.sizes page slot) [] in
-    change updateKind page slot number (copy_of x.machine.core.sizes x.machine.world.work page) (xors before value)
+    let before : List ℕ = get_or (plain_table r) (slot_index r.sizes page slot) [] in
+    change update_kind page slot number (copy_of x.machine.core.sizes x.machine.world.work page) (xors before value)
 
 -- the updates put under a number on a disk, newest first
-unfoldable pub updatesPut : Told → ℕ → ℕ → List Update
-updatesPut t disk number = updatesIn number (placed (t.base disk) (recordsOn disk t.puts))
+unfoldable pub updates_put : Told → ℕ → ℕ → List Update
+updates_put t disk number = updates_in number (placed (t.base disk) (records_on disk t.puts))
 
 -- a compensation "with the same difference and the page's present copy number"
 unfoldable pub compensation : Core → World → ℕ → Update → Record
 compensation c w number u =
-    change compensationKind u.page u.slot number (copy_of c.sizes w.work u.page) u.diff
+    change compensation_kind u.page u.slot number (copy_of c.sizes w.work u.page) u.diff
 
 -- how many bits are 1 over the differences of records
-unfoldable pub onesPut : List Put → ℕ
-onesPut puts = sumOver (λ p. onesOver (diffOf p.content)) puts
+unfoldable pub ones_put : List Put → ℕ
+ones_put puts = sum_over (λ p. ones_over (diff_of p.content)) puts
 
 -- a record of a transaction, on its disk
-abbrev pub putUnder : Run → ℕ → Record → Put
-putUnder x number r = record { disk = diskOf x.machine.core number; content = r }
+abbrev pub put_under : Run → ℕ → Record → Put
+put_under x number r = record { disk = disk_of x.machine.core number; content = r }
 
 -- the records of an accepted call; of a cut one, those that it would have put
-abbrev pub putBy : Call → Run → Told → List Put
-putBy (update number page slot value budget) x t = putUnder x number (updatePut x number page slot value) ∷ []
-putBy (commit number budget) x t = putUnder x number (close commitKind number) ∷ []
-putBy (abort number budget) x t =
-    map (λ u. putUnder x number (compensation x.machine.core x.machine.world number u))
-    (updatesPut t (diskOf x.machine.core number) number)
-    ++ putUnder x number (close abortKind number) ∷ []
-putBy (format s budget) x t = []
-putBy (begin class) x t = []
-putBy (look q) x t = []
-putBy (setClasses lines) x t = []
-putBy checkpointBegin x t = []
-putBy (checkpointStep budget) x t = []
-putBy (checkpointEnd budget) x t = []
-putBy restartBegin x t = []
-putBy (restartStep source) x t = []
-putBy (restartRun source most) x t = []
-putBy (restartEnd budget) x t = []
-putBy newState x t = []
+abbrev pub put_by : Call → Run → Told → List Put
+put_by (update number page slot value budget) x t = put_under x number (update_put x number page slot value) ∷ []
+put_by (commit number budget) x t = put_under x number (close commit_kind number) ∷ []
+put_by (abort number budget) x t =
+    map (λ u. put_under x number (compensation x.machine.core x.machine.world number u))
+    (updates_put t (disk_of x.machine.core number) number)
+    ++ put_under x number (close abort_kind number) ∷ []
+put_by (format s budget) x t = []
+put_by (begin class) x t = []
+put_by (look q) x t = []
+put_by (set_classes lines) x t = []
+put_by checkpoint_begin x t = []
+put_by (checkpoint_step budget) x t = []
+put_by (checkpoint_end budget) x t = []
+put_by restart_begin x t = []
+put_by (restart_step source) x t = []
+put_by (restart_run source most) x t = []
+put_by (restart_end budget) x t = []
+put_by new_state x t = []
 
 -- Checkpoint begin: "each disk's end (tail plus buffered) is remembered". The end lies behind the words of all that was put.
-unfoldable pub endPut : Told → ℕ → ℕ
-endPut t disk = t.base disk + length (encodeAll (recordsOn disk t.puts))
+unfoldable pub end_put : Told → ℕ → ℕ
+end_put t disk = t.base disk + length (encode_all (records_on disk t.puts))
 
 abbrev pub marked : Told → Told
-marked t = record { base = t.base; puts = t.puts; marks = endPut t; starts = t.starts }
+marked t = record { base = t.base; puts = t.puts; marks = end_put t; starts = t.starts }
 
 -- a position, or that of the oldest update, if that is smaller
-abbrev pub orOldest : ℕ → List Update → ℕ
-orOldest p [] = p
-orOldest p (u ∷ us) = min p (oldest (u ∷ us))
+abbrev pub or_oldest : ℕ → List Update → ℕ
+or_oldest p [] = p
+or_oldest p (u ∷ us) = min p (oldest (u ∷ us))
 
 -- Checkpoint end: "A start is the remembered end, or the first record of a transaction of that disk still open, if that is smaller."
 -- The open transactions are those with a write set; one that has put no update on the disk has no record there.
-unfoldable pub startPut : Told → List WriteSet → ℕ → ℕ
-startPut t [] disk = t.marks disk
-startPut t (x ∷ xs) disk = orOldest (startPut t xs disk) (updatesPut t disk x.number)
+unfoldable pub start_put : Told → List WriteSet → ℕ → ℕ
+start_put t [] disk = t.marks disk
+start_put t (x ∷ xs) disk = or_oldest (start_put t xs disk) (updates_put t disk x.number)
 
-abbrev pub startedFrom : (ℕ → ℕ) → Told → Told
-startedFrom starts t = record { base = t.base; puts = t.puts; marks = t.marks; starts = starts }
+abbrev pub started_from : (ℕ → ℕ) → Told → Told
+started_from starts t = record { base = t.base; puts = t.puts; marks = t.marks; starts = starts }
 
 -- What a taken call does to that. A format, and a restart end, "all pages to backup (c + 1) mod 2; each tail into row (c + 1) mod 2;
 -- c := c + 1", leave the logs empty: what was put before is told no more, and each log begins at its tail. A checkpoint's begin sets the
 -- marks, its end the starts; an end that is cut has not stored c, and the old starts stand.
-abbrev pub startsAfter : Call → Run → Told → Told
-startsAfter (restartEnd budget) x t = emptyFrom (tailOn x.machine.core.sizes x.machine.world)
-startsAfter (format s budget) x t = nothingTold
-startsAfter newState x t = t
-startsAfter (begin class) x t = t
-startsAfter (update number page slot value budget) x t = t
-startsAfter (look q) x t = t
-startsAfter (commit number budget) x t = t
-startsAfter (abort number budget) x t = t
-startsAfter (setClasses lines) x t = t
-startsAfter checkpointBegin x t = marked t
-startsAfter (checkpointStep budget) x t = t
-startsAfter (checkpointEnd budget) x t = startedFrom (startPut t x.reference.writeSets) t
-startsAfter restartBegin x t = t
-startsAfter (restartStep source) x t = t
-startsAfter (restartRun source most) x t = t
+abbrev pub starts_after : Call → Run → Told → Told
+starts_after (restart_end budget) x t = empty_from (tail_on x.machine.core.sizes x.machine.world)
+starts_after (format s budget) x t = nothing_told
+starts_after new_state x t = t
+starts_after (begin class) x t = t
+starts_after (update number page slot value budget) x t = t
+starts_after (look q) x t = t
+starts_after (commit number budget) x t = t
+starts_after (abort number budget) x t = t
+starts_after (set_classes lines) x t = t
+starts_after checkpoint_begin x t = marked t
+starts_after (checkpoint_step budget) x t = t
+starts_after (checkpoint_end budget) x t = started_from (start_put t x.reference.write_sets) t
+starts_after restart_begin x t = t
+starts_after (restart_step source) x t = t
+starts_after (restart_run source most) x t = t
 
 -- a cut call's records are told too: some of them may have been stored, the rest are lost with the buffers
-abbrev pub toldBy : Outcome → Call → Run → Told → Told
-toldBy taken k x t = also (startsAfter k x t) (putBy k x t)
-toldBy refused k x t = t
-toldBy interrupted k x t = also t (putBy k x t)
+abbrev pub told_by : Outcome → Call → Run → Told → Told
+told_by taken k x t = also (starts_after k x t) (put_by k x t)
+told_by refused k x t = t
+told_by interrupted k x t = also t (put_by k x t)
 
 abbrev pub told : Run → Event → Told → Told
-told x (call k) t = toldBy (outcome x.machine k) k x t
+told x (call k) t = told_by (outcome x.machine k) k x t
 told x (lent k w) t = t
 told x (scramble pages work) t = t
 

@@ -5,51 +5,51 @@ use mathlib.Core.List.{List, [], ◌∷◌, Memᴰ, map}
 use Rattle.model.specs.declared.Sizes.{Sizes}
 use Rattle.model.specs.Word.{part, OfBits}
 use Rattle.model.specs.Text.{decimal, padded}
-use Rattle.model.specs.Anchor.{sizesOn}
+use Rattle.model.specs.Anchor.{sizes_on}
 use Rattle.model.specs.State.{limit}
 use Rattle.model.specs.Refusal.{verdict, accepted}
-use Rattle.model.specs.Restart.{imageRows}
-use Rattle.model.specs.Listing.{gap, lineBytes, heading, kindName, Shown, shownChange, shownClose, Listed, line_of, listedOn, onPages, listing}
+use Rattle.model.specs.Restart.{image_rows}
+use Rattle.model.specs.Listing.{gap, line_bytes, heading, kind_name, Shown, shown_change, shown_close, Listed, line_of, listed_on, on_pages, listing}
 
 -- What the checks of an image leave of a record: a kind of its own, a page and a slot that there can be.
 pub record ClearChange (kind page slot width : ℕ) : Type 0 where
-  pub kind-lt : kind < 2
-  pub page-lt : page < 64
+  pub kind_lt : kind < 2
+  pub page_lt : page < 64
   pub slot_lt : slot < 128
-  pub width-le : width ≤ 32
+  pub width_le : width ≤ 32
 
 pub record ClearClose (kind : ℕ) : Type 0 where
-  pub kind-ge : 2 ≤ kind
-  pub kind-lt : kind < 4
+  pub kind_ge : 2 ≤ kind
+  pub kind_lt : kind < 4
 
 abbrev pub ClearShown : Shown → Type 0
-ClearShown (shownChange kind number page slot width) = ClearChange kind page slot width
-ClearShown (shownClose kind number) = ClearClose kind
+ClearShown (shown_change kind number page slot width) = ClearChange kind page slot width
+ClearShown (shown_close kind number) = ClearClose kind
 
 pub record Clear (e : Listed) : Type 0 where
-  pub disk-lt : e.disk < 8
-  pub position-lt : e.position < limit
-  pub content-clear : ClearShown e.content
+  pub disk_lt : e.disk < 8
+  pub position_lt : e.position < limit
+  pub content_clear : ClearShown e.content
 
 -- An image that a listing is made of: its checks are passed, whatever is lent beside it.
 pub record Listable (anchor logs : List ℕ) : Type 0 where
   pub others : Sizes → Bool
-  pub passed : verdict (imageRows others anchor logs) ≡ accepted
+  pub passed : verdict (image_rows others anchor logs) ≡ accepted
 
 -- So every record that is listed is clear, and its disk is one of the image's.
 unfoldable pub ListedClear : Type 0
 ListedClear =
-    (anchor logs : List ℕ) → Listable anchor logs → (e : Listed) → Memᴰ e (listedOn anchor logs)
-    → Clear e × (e.disk < (sizesOn anchor).disks)
+    (anchor logs : List ℕ) → Listable anchor logs → (e : Listed) → Memᴰ e (listed_on anchor logs)
+    → Clear e × (e.disk < (sizes_on anchor).disks)
 
 -- A transaction's number is a word of the log: where all words have 64 bits, as the code's have, it has twenty digits at most.
-abbrev pub numberShown : Shown → ℕ
-numberShown (shownChange kind number page slot width) = number
-numberShown (shownClose kind number) = number
+abbrev pub number_shown : Shown → ℕ
+number_shown (shown_change kind number page slot width) = number
+number_shown (shown_close kind number) = number
 
 unfoldable pub ListedNumbers : Type 0
 ListedNumbers =
-    (anchor logs : List ℕ) → OfBits 64 logs → (e : Listed) → Memᴰ e (listedOn anchor logs) → numberShown e.content < 2 ^ 64
+    (anchor logs : List ℕ) → OfBits 64 logs → (e : Listed) → Memᴰ e (listed_on anchor logs) → number_shown e.content < 2 ^ 64
 
 -- "Records come by disk, then by position.": each record comes before all that follow it in the list.
 abbrev pub Before : Listed → Listed → Type 0
@@ -60,29 +60,29 @@ InOrder [] = Unit {0}
 InOrder (e ∷ es) = ((f : Listed) → Memᴰ f es → Before e f) × InOrder es
 
 unfoldable pub ListedInOrder : Type 0
-ListedInOrder = (anchor logs : List ℕ) → InOrder (listedOn anchor logs)
+ListedInOrder = (anchor logs : List ℕ) → InOrder (listed_on anchor logs)
 
 -- Seven texts, each right-aligned in its own columns, three gaps, and a byte 10: 73 bytes in all.
 pub record Columns (line disk position kind transaction page slot width : List ℕ) : Type 0 where
-  pub long : length line ≡ lineBytes
-  pub disk-at : part 0 1 line ≡ padded 1 disk
-  pub gap-behind-disk : part 1 3 line ≡ gap
+  pub long : length line ≡ line_bytes
+  pub disk_at_lem : part 0 1 line ≡ padded 1 disk
+  pub gap_behind_disk : part 1 3 line ≡ gap
   pub position_at : part 4 20 line ≡ padded 20 position
-  pub gap-behind-position : part 24 3 line ≡ gap
+  pub gap_behind_position : part 24 3 line ≡ gap
   pub kind_at : part 27 12 line ≡ padded 12 kind
-  pub gap-behind-kind : part 39 3 line ≡ gap
-  pub transaction-at : part 42 20 line ≡ padded 20 transaction
-  pub page-at : part 62 3 line ≡ padded 3 page
+  pub gap_behind_kind : part 39 3 line ≡ gap
+  pub transaction_at : part 42 20 line ≡ padded 20 transaction
+  pub page_at_lem : part 62 3 line ≡ padded 3 page
   pub slot_at : part 65 4 line ≡ padded 4 slot
-  pub width-at : part 69 3 line ≡ padded 3 width
+  pub width_at : part 69 3 line ≡ padded 3 width
   pub ends : part 72 1 line ≡ 10 ∷ []
 
 -- what stands in the columns of a record's line; a closing record leaves three of them blank
 abbrev pub ColumnsOf : (line : List ℕ) → (disk position : ℕ) → Shown → Type 0
-ColumnsOf line disk position (shownChange kind number page slot width) =
-    Columns line (decimal disk) (decimal position) (kindName kind) (decimal number) (decimal page) (decimal slot) (decimal width)
-ColumnsOf line disk position (shownClose kind number) =
-    Columns line (decimal disk) (decimal position) (kindName kind) (decimal number) [] [] []
+ColumnsOf line disk position (shown_change kind number page slot width) =
+    Columns line (decimal disk) (decimal position) (kind_name kind) (decimal number) (decimal page) (decimal slot) (decimal width)
+ColumnsOf line disk position (shown_close kind number) =
+    Columns line (decimal disk) (decimal position) (kind_name kind) (decimal number) [] [] []
 
 -- "Each line has exactly 72 columns", no text runs into the next, and a byte 10 follows. (A number of more than twenty digits would be cut to
 -- its last twenty: ListedNumbers says that there is none.)
@@ -103,7 +103,7 @@ HeadingColumns =
 -- Every line of a listing is the heading, or the line of a record that is listed, which stands in its columns.
 pub record LineOfRecord (anchor logs line : List ℕ) : Type 0 where
   pub listed : Listed
-  pub among : Memᴰ listed (listedOn anchor logs)
+  pub among : Memᴰ listed (listed_on anchor logs)
   pub same : line ≡ line_of listed
   pub stands : ColumnsOf line listed.disk listed.position listed.content
 
@@ -114,30 +114,30 @@ LinesStand =
 
 -- So each has 73 bytes, headings included.
 unfoldable pub LinesLong : Type 0
-LinesLong = (anchor logs : List ℕ) → Listable anchor logs → (line : List ℕ) → Memᴰ line (listing anchor logs) → length line ≡ lineBytes
+LinesLong = (anchor logs : List ℕ) → Listable anchor logs → (line : List ℕ) → Memᴰ line (listing anchor logs) → length line ≡ line_bytes
 
 -- A line tells its record: disk, position, kind, transaction, page, slot and length.
 unfoldable pub LineTells : Type 0
 LineTells =
-    (e f : Listed) → Clear e → Clear f → numberShown e.content < 2 ^ 64 → numberShown f.content < 2 ^ 64
+    (e f : Listed) → Clear e → Clear f → number_shown e.content < 2 ^ 64 → number_shown f.content < 2 ^ 64
     → line_of e ≡ line_of f → e ≡ f
 
 -- A listing tells all its records, in their order: images with equal listings have the same.
 unfoldable pub ListingTells : Type 0
 ListingTells =
     (anchor logs anchor' logs' : List ℕ) → Listable anchor logs → Listable anchor' logs' → OfBits 64 logs → OfBits 64 logs'
-    → listing anchor logs ≡ listing anchor' logs' → listedOn anchor logs ≡ listedOn anchor' logs'
+    → listing anchor logs ≡ listing anchor' logs' → listed_on anchor logs ≡ listed_on anchor' logs'
 
 -- "Sixty lines make a page, after a heading line.": a line for each record, and a heading for each sixty or fewer.
 unfoldable pub LineCount : Type 0
-LineCount = (es : List Listed) → length (onPages 0 es) ≡ length es + (length es + 59) / 60
+LineCount = (es : List Listed) → length (on_pages 0 es) ≡ length es + (length es + 59) / 60
 
 -- Line n of a listing stands on page n / 61, and there at n % 61. At 0 it is the heading, and else it shows the record at n % 61 - 1 of the
 -- page's sixty, which is there. (A number past the last line names no record, and both sides of `below` are empty.)
 pub record LineAt (es : List Listed) (n : ℕ) : Type 0 where
-  pub top : n < length (onPages 0 es) → n % 61 ≡ 0 → get_or (onPages 0 es) n [] ≡ heading
-  pub there : n < length (onPages 0 es) → (n % 61 ≡ 0 → ⊥) → 60 * (n / 61) + n % 61 - 1 < length es
-  pub below : (n % 61 ≡ 0 → ⊥) → get_or (onPages 0 es) n [] ≡ get_or (map line_of es) (60 * (n / 61) + n % 61 - 1) []
+  pub top : n < length (on_pages 0 es) → n % 61 ≡ 0 → get_or (on_pages 0 es) n [] ≡ heading
+  pub there : n < length (on_pages 0 es) → (n % 61 ≡ 0 → ⊥) → 60 * (n / 61) + n % 61 - 1 < length es
+  pub below : (n % 61 ≡ 0 → ⊥) → get_or (on_pages 0 es) n [] ≡ get_or (map line_of es) (60 * (n / 61) + n % 61 - 1) []
 
 unfoldable pub LinesAt : Type 0
 LinesAt = (es : List Listed) (n : ℕ) → LineAt es n
@@ -145,7 +145,7 @@ LinesAt = (es : List Listed) (n : ℕ) → LineAt es n
 -- Lines written from number `first` on, `count` of them, into bytes that held `before`: as many as there are and as there is room for, the
 -- i-th of them at byte 73 × i, and the bytes behind them as they were.
 pub record Written (lines : List (List ℕ)) (first count : ℕ) (before after : List ℕ) : Type 0 where
-  pub many : count ≡ min (length before / lineBytes) (length lines - first)
+  pub many : count ≡ min (length before / line_bytes) (length lines - first)
   pub as_long : length after ≡ length before
-  pub each : (i : ℕ) → i < count → part (lineBytes * i) lineBytes after ≡ get_or lines (first + i) []
-  pub rest : drop (lineBytes * count) after ≡ drop (lineBytes * count) before
+  pub each : (i : ℕ) → i < count → part (line_bytes * i) line_bytes after ≡ get_or lines (first + i) []
+  pub rest : drop (line_bytes * count) after ≡ drop (line_bytes * count) before

@@ -4,9 +4,9 @@ use Rattle.model.specs.declared.Sizes.{Sizes}
 use Rattle.model.specs.declared.Core.{Core}
 use Rattle.model.specs.World.{World}
 use Rattle.model.specs.Refusal.{Result}
-use Rattle.model.specs.Causes.{whenShut}
-use Rattle.model.specs.Call.{Call, format, begin, update, look, commit, abort, setClasses, checkpointBegin, checkpointStep, checkpointEnd, restartBegin, restartStep, restartRun, restartEnd, newState, result_of}
-use Rattle.model.specs.Reference.{Outcome, taken, refused, interrupted, outcomeOf, Reference, blank, heardOf, hear}
+use Rattle.model.specs.Causes.{when_shut}
+use Rattle.model.specs.Call.{Call, format, begin, update, look, commit, abort, set_classes, checkpoint_begin, checkpoint_step, checkpoint_end, restart_begin, restart_step, restart_run, restart_end, new_state, result_of}
+use Rattle.model.specs.Reference.{Outcome, taken, refused, interrupted, outcome_of, Reference, blank, heard_of, hear}
 
 -- The state, and the devices and memory that go with it.
 pub record Machine : Type 0 where
@@ -15,7 +15,7 @@ pub record Machine : Type 0 where
 
 -- "Each call gets the devices, the state and the pages as the last one left or returned them, save that a refused call may be
 -- lent slices of other lengths. ... only in stage shut the pages may hold anything, as lost power leaves them."
--- A power failure inside a call is that call's budget; between two calls it is newState.
+-- A power failure inside a call is that call's budget; between two calls it is new_state.
 pub data Event : Type 0 where
   -- a call on the machine's own slices
   call : Call → Event
@@ -28,7 +28,7 @@ unfoldable pub result : Machine → Call → Result
 result m k = result_of k m.core m.world
 
 unfoldable pub outcome : Machine → Call → Outcome
-outcome m k = outcomeOf (result m k).answer
+outcome m k = outcome_of (result m k).answer
 
 abbrev pub is_refused : Outcome → Bool
 is_refused taken = false
@@ -36,28 +36,28 @@ is_refused refused = true
 is_refused interrupted = false
 
 -- "and a format if refused"
-abbrev pub allowedCall : Machine → Call → Bool
-allowedCall m (format s budget) = is_refused (outcome m (format s budget))
-allowedCall m (begin class) = true
-allowedCall m (update number page slot value budget) = true
-allowedCall m (look q) = true
-allowedCall m (commit number budget) = true
-allowedCall m (abort number budget) = true
-allowedCall m (setClasses lines) = true
-allowedCall m checkpointBegin = true
-allowedCall m (checkpointStep budget) = true
-allowedCall m (checkpointEnd budget) = true
-allowedCall m restartBegin = true
-allowedCall m (restartStep source) = true
-allowedCall m (restartRun source most) = true
-allowedCall m (restartEnd budget) = true
-allowedCall m newState = true
+abbrev pub allowed_call : Machine → Call → Bool
+allowed_call m (format s budget) = is_refused (outcome m (format s budget))
+allowed_call m (begin class) = true
+allowed_call m (update number page slot value budget) = true
+allowed_call m (look q) = true
+allowed_call m (commit number budget) = true
+allowed_call m (abort number budget) = true
+allowed_call m (set_classes lines) = true
+allowed_call m checkpoint_begin = true
+allowed_call m (checkpoint_step budget) = true
+allowed_call m (checkpoint_end budget) = true
+allowed_call m restart_begin = true
+allowed_call m (restart_step source) = true
+allowed_call m (restart_run source most) = true
+allowed_call m (restart_end budget) = true
+allowed_call m new_state = true
 
 abbrev pub allowed : Machine → Event → Bool
-allowed m (call k) = allowedCall m k
-allowed m (lent k w) = is_refused (outcomeOf (result_of k m.core w).answer)
+allowed m (call k) = allowed_call m k
+allowed m (lent k w) = is_refused (outcome_of (result_of k m.core w).answer)
 allowed m (scramble pages work) =
-    whenShut m.core.stage && eqb (length pages) (length m.world.pages) && eqb (length work) (length m.world.work)
+    when_shut m.core.stage && eqb (length pages) (length m.world.pages) && eqb (length work) (length m.world.work)
 
 abbrev pub scrambled : World → List ℕ → List ℕ → World
 scrambled w pages work = record { anchor = w.anchor; pages = pages; backups = w.backups; logs = w.logs; work = work }
@@ -70,8 +70,8 @@ after m (scramble pages work) = record { core = m.core; world = scrambled m.worl
 
 -- the reference after it: it hears of calls alone
 abbrev pub referred : Machine → Event → Reference → Reference
-referred m (call k) r = hear (heardOf k m.core m.world (result m k).answer) r
-referred m (lent k w) r = hear (heardOf k m.core w (result_of k m.core w).answer) r
+referred m (call k) r = hear (heard_of k m.core m.world (result m k).answer) r
+referred m (lent k w) r = hear (heard_of k m.core w (result_of k m.core w).answer) r
 referred m (scramble pages work) r = r
 
 -- A machine with the reference beside it.
@@ -83,15 +83,15 @@ unfoldable pub follow : List Event → Run → Run
 follow [] x = x
 follow (e ∷ es) x = follow es (record { machine = after x.machine e; reference = referred x.machine e x.reference })
 
-unfoldable pub allowedAll : List Event → Machine → Bool
-allowedAll [] m = true
-allowedAll (e ∷ es) m = allowed m e && allowedAll es (after m e)
+unfoldable pub allowed_all : List Event → Machine → Bool
+allowed_all [] m = true
+allowed_all (e ∷ es) m = allowed m e && allowed_all es (after m e)
 
 -- where a run starts: a format of a machine, with the reference that it blanks
 unfoldable pub formatted : Machine → Sizes → ℕ → Run
 formatted m s budget = record { machine = after m (call (format s budget)); reference = blank s }
 
 -- the machine after restart steps from these sources, in this order; a refused step changes nothing
-unfoldable pub afterSteps : List ℕ → Machine → Machine
-afterSteps [] m = m
-afterSteps (source ∷ sources) m = afterSteps sources (after m (call (restartStep source)))
+unfoldable pub after_steps : List ℕ → Machine → Machine
+after_steps [] m = m
+after_steps (source ∷ sources) m = after_steps sources (after m (call (restart_step source)))

@@ -2,7 +2,7 @@
 use Rattle.std.specs.Prelude.{ℕ, List}
 use Rattle.std.specs.Borrow.{Bor}
 use denote.Triple.Both.{Both}
-use Rattle.model.specs.World.{World, worldOf}
+use Rattle.model.specs.World.{World, world_of}
 
 abbrev pub old : {X S : Type 0} → Both (Bor X) S → X
 old lent = lent.entry.now
@@ -15,5 +15,5 @@ abbrev pub Slice : Type 0
 Slice = Both (Bor (List ℕ)) (Bor (List ℕ))
 
 -- the five lists as a call is lent them
-abbrev pub oldWorld : (anchor pages backups logs work : Slice) → World
-oldWorld anchor pages backups logs work = worldOf (old anchor) (old pages) (old backups) (old logs) (old work)
+abbrev pub old_world : (anchor pages backups logs work : Slice) → World
+old_world anchor pages backups logs work = world_of (old anchor) (old pages) (old backups) (old logs) (old work)

@@ -7,9 +7,9 @@ use Rattle.model.specs.declared.Fate.{Fate}
 use Rattle.model.specs.declared.Fate.TheVariants.{Closed, Unclosed, Unreadable}
 use Rattle.model.specs.declared.Fault.{Fault}
 use Rattle.model.specs.declared.Fault.TheVariants.{BadRecord}
-use Rattle.model.specs.Below.{sumOver}
-use Rattle.model.specs.Record.{Record, change, close, encode, wordsOf, updateKind}
-use Rattle.model.specs.Decode.{decodeAt, span}
+use Rattle.model.specs.Below.{sum_over}
+use Rattle.model.specs.Record.{Record, change, close, encode, words_of, update_kind}
+use Rattle.model.specs.Decode.{decode_at, span}
 
 -- A log as it is read: each record with its position, up to the end or to the first malformed one.
 pub data Scan : Type 0 where
@@ -25,15 +25,15 @@ scanned read p (Close kind number next) rest = item p (close kind number) (rest 
 scanned read p Malformed rest = bad p
 
 -- at most n records from p on
-unfoldable pub scanAtMost : Sizes → (ℕ → ℕ) → ℕ → ℕ → ℕ → Scan
-scanAtMost s read stop zero p = end
-scanAtMost s read stop (suc n) p =
-    cond (ltb p stop) (scanned read p (decodeAt s read stop p) (scanAtMost s read stop n)) end
+unfoldable pub scan_at_most : Sizes → (ℕ → ℕ) → ℕ → ℕ → ℕ → Scan
+scan_at_most s read stop zero p = end
+scan_at_most s read stop (suc n) p =
+    cond (ltb p stop) (scanned read p (decode_at s read stop p) (scan_at_most s read stop n)) end
 
--- the log from p up to `stop`: each record has a word or more, so there are at most stop - p (scan-end and scan-step in proofs/Scan.antt
+-- the log from p up to `stop`: each record has a word or more, so there are at most stop - p (scan_end and scan-step in proofs/Scan.antt
 -- say it without the count)
 unfoldable pub scan : Sizes → (ℕ → ℕ) → ℕ → ℕ → Scan
-scan s read stop p = scanAtMost s read stop (stop - p) p
+scan s read stop p = scan_at_most s read stop (stop - p) p
 
 -- a scan, and behind its end another; a malformed record ends both
 unfoldable pub and_then : Scan → Scan → Scan
@@ -43,27 +43,27 @@ and_then (item p r rest) other = item p r (and_then rest other)
 
 -- "to the tail, then the buffer": the log from p up to the tail, then from the tail, or from p if that is further, up to `stop`.
 -- A record that begins before the tail and ends past it is malformed: "end past the tail".
-unfoldable pub ringThenBuffer : Sizes → (ℕ → ℕ) → (tail stop p : ℕ) → Scan
-ringThenBuffer s read tail stop p = and_then (scan s read tail p) (scan s read stop (max tail p))
+unfoldable pub ring_then_buffer : Sizes → (ℕ → ℕ) → (tail stop p : ℕ) → Scan
+ring_then_buffer s read tail stop p = and_then (scan s read tail p) (scan s read stop (max tail p))
 
 -- the scan of given records that lie one after the other from p on
 unfoldable pub placed : ℕ → List Record → Scan
 placed p [] = end
 placed p (r ∷ rs) = item p r (placed (p + length (encode r)) rs)
 
--- "a transaction with a closing record (commit or abort) further on in that retained log is closed, else it is loose" (fate-entries in
+-- "a transaction with a closing record (commit or abort) further on in that retained log is closed, else it is loose" (fate_entries in
 -- proofs/Restart/Entries.antt)
-unfoldable pub fateIn : ℕ → Scan → Fate
-fateIn number end = Unclosed
-fateIn number (bad p) = Unreadable p
-fateIn number (item p (change kind page slot n copy diff) rest) = fateIn number rest
-fateIn number (item p (close kind n) rest) = cond (eqb n number) Closed (fateIn number rest)
+unfoldable pub fate_in : ℕ → Scan → Fate
+fate_in number end = Unclosed
+fate_in number (bad p) = Unreadable p
+fate_in number (item p (change kind page slot n copy diff) rest) = fate_in number rest
+fate_in number (item p (close kind n) rest) = cond (eqb n number) Closed (fate_in number rest)
 
 -- the first malformed record of a disk's scan, and else what `rest` says
-unfoldable pub faultIn : ℕ → Scan → Fault → Fault
-faultIn disk end rest = rest
-faultIn disk (bad p) rest = BadRecord disk p
-faultIn disk (item p r more) rest = faultIn disk more rest
+unfoldable pub fault_in : ℕ → Scan → Fault → Fault
+fault_in disk end rest = rest
+fault_in disk (bad p) rest = BadRecord disk p
+fault_in disk (item p r more) rest = fault_in disk more rest
 
 -- An update as an abort reads it.
 pub record Update : Type 0 where
@@ -72,19 +72,19 @@ pub record Update : Type 0 where
   pub slot : ℕ
   pub diff : List ℕ
 
--- a transaction's updates, "newest first" (updates-from, updates-all and updates-fall in proofs/Updates.antt: those of the scan, all
+-- a transaction's updates, "newest first" (updates_from, updates_all and updates_fall in proofs/Updates.antt: those of the scan, all
 -- of them, by falling position)
-unfoldable pub updatesIn : ℕ → Scan → List Update
-updatesIn number end = []
-updatesIn number (bad p) = []
-updatesIn number (item p (close kind n) rest) = updatesIn number rest
-updatesIn number (item p (change kind page slot n copy diff) rest) =
-    updatesIn number rest
-    ++ cond (eqb kind updateKind && eqb n number) (record { position = p; page = page; slot = slot; diff = diff } ∷ []) []
+unfoldable pub updates_in : ℕ → Scan → List Update
+updates_in number end = []
+updates_in number (bad p) = []
+updates_in number (item p (close kind n) rest) = updates_in number rest
+updates_in number (item p (change kind page slot n copy diff) rest) =
+    updates_in number rest
+    ++ cond (eqb kind update_kind && eqb n number) (record { position = p; page = page; slot = slot; diff = diff } ∷ []) []
 
 -- the words of their records
-unfoldable pub updateWords : List Update → ℕ
-updateWords us = sumOver (λ u. wordsOf updateKind (length u.diff)) us
+unfoldable pub update_words : List Update → ℕ
+update_words us = sum_over (λ u. words_of update_kind (length u.diff)) us
 
 -- the position of the oldest of them, 0 where there is none
 unfoldable pub oldest : List Update → ℕ

@@ -6,66 +6,66 @@ use native.Mathlib.Omega.{arith}
 use native.Mathlib.Decide.{ℕ_discrete}
 use lib.ListN.{length, get_or, set, take, drop, length-append}
 use lib.Seq.{sets, take-add, drop-drop, get_or-set_same, get_or-set_other}
-use Rattle.model.specs.Below.{sumBelow}
+use Rattle.model.specs.Below.{sum_below}
 use Rattle.model.specs.Word.{◌⊕◌, xors, part}
 use Rattle.model.specs.Decode.{span}
-use Rattle.model.specs.Image.{xorAt}
-use Rattle.model.proofs.Xor.{length-xors-same}
-use Rattle.model.proofs.Parts.{length_part, part-sets-behind}
-use Rattle.words.proofs.Laws.{sets-append}
-use Rattle.log.specs.Ring.{readRing}
-use Rattle.log.proofs.Rings.{span_run, span-round}
+use Rattle.model.specs.Image.{xor_at}
+use Rattle.model.proofs.Xor.{length_xors_same}
+use Rattle.model.proofs.Parts.{length_part, part_sets_behind}
+use Rattle.words.proofs.Laws.{sets_append}
+use Rattle.disk_log.specs.Ring.{read_ring}
+use Rattle.disk_log.proofs.Rings.{span_run, span_round}
 
-xors-append : (x y a b : List ℕ) → length x ≡ length a → xors (x ++ y) (a ++ b) ≡ xors x a ++ xors y b
+xors_append : (x y a b : List ℕ) → length x ≡ length a → xors (x ++ y) (a ++ b) ≡ xors x a ++ xors y b
 unfolding xors
-xors-append [] y [] b e = refl
-xors-append [] y (v ∷ a) b e = absurd (omega arith)
-xors-append (u ∷ x) y [] b e = absurd (omega arith)
-xors-append (u ∷ x) y (v ∷ a) b e = ap (λ (r : List ℕ). (u ⊕ v) ∷ r) (xors-append x y a b (omega arith))
+xors_append [] y [] b e = refl
+xors_append [] y (v ∷ a) b e = absurd (omega arith)
+xors_append (u ∷ x) y [] b e = absurd (omega arith)
+xors_append (u ∷ x) y (v ∷ a) b e = ap (λ (r : List ℕ). (u ⊕ v) ∷ r) (xors_append x y a b (omega arith))
 
-part-add : (at m n : ℕ) (l : List ℕ) → part at (m + n) l ≡ part at m l ++ part (at + m) n l
+part_add : (at m n : ℕ) (l : List ℕ) → part at (m + n) l ≡ part at m l ++ part (at + m) n l
 unfolding part
-part-add at m n l = take-add m n (drop at l) ∙ ap (λ (r : List ℕ). take m (drop at l) ++ take n r) (drop-drop m at l)
+part_add at m n l = take-add m n (drop at l) ∙ ap (λ (r : List ℕ). take m (drop at l) ++ take n r) (drop-drop m at l)
 
-pub xor-append : (l : List ℕ) (at : ℕ) (a b : List ℕ) → at + (length a + length b) ≤ length l
-    → xorAt (at + length a) b (xorAt at a l) ≡ xorAt at (a ++ b) l
-unfolding xorAt
-xor-append l at a b fits =
+pub xor_append : (l : List ℕ) (at : ℕ) (a b : List ℕ) → at + (length a + length b) ≤ length l
+    → xor_at (at + length a) b (xor_at at a l) ≡ xor_at at (a ++ b) l
+unfolding xor_at
+xor_append l at a b fits =
     let first : List ℕ = xors (part at (length a) l) a in
     let same : length (part at (length a) l) ≡ length a = length_part at (length a) l (omega arith) in
-    let long : length first ≡ length a = length-xors-same (part at (length a) l) a same ∙ same in
+    let long : length first ≡ length a = length_xors_same (part at (length a) l) a same ∙ same in
     let apart : part (at + length a) (length b) (sets l at first) ≡ part (at + length a) (length b) l =
-    part-sets-behind (at + length a) (length b) l at first (omega arith) in
-    rw (apart, length-append, part-add at (length a) (length b) l, xors-append (part at (length a) l) (part (at + length a) (length b) l) a b same)
+    part_sets_behind (at + length a) (length b) l at first (omega arith) in
+    rw (apart, length-append, part_add at (length a) (length b) l, xors_append (part at (length a) l) (part (at + length a) (length b) l) a b same)
     (ap (λ (n : ℕ). sets (sets l at first) (at + n) (xors (part (at + length a) (length b) l) b)) (sym long)
-    ∙ sym (sets-append l at first (xors (part (at + length a) (length b) l) b)))
+    ∙ sym (sets_append l at first (xors (part (at + length a) (length b) l) b)))
 
 -- n words of a ring from an index on
 module _ (ring pages : List ℕ) (to at n : ℕ) where
-  pub xor-run : {after : List ℕ} → at + n ≤ length ring → after ≡ xorAt to (part at n ring) pages
-      → (p : ℕ) → at ≡ p % length ring → after ≡ xorAt to (span (readRing ring) p n) pages
-  xor-run h did p is = did ∙ ap (λ (d : List ℕ). xorAt to d pages) (sym (span_run ring p at n is h))
+  pub xor_run : {after : List ℕ} → at + n ≤ length ring → after ≡ xor_at to (part at n ring) pages
+      → (p : ℕ) → at ≡ p % length ring → after ≡ xor_at to (span (read_ring ring) p n) pages
+  xor_run h did p is = did ∙ ap (λ (d : List ℕ). xor_at to d pages) (sym (span_run ring p at n is h))
 
-  pub xor-round : {middle after : List ℕ} → at < length ring → length ring < at + n → n ≤ length ring → to + n ≤ length pages
-      → middle ≡ xorAt to (part at (length ring - at) ring) pages
-      → after ≡ xorAt (to + (length ring - at)) (part 0 (n - (length ring - at)) ring) middle
-      → (p : ℕ) → at ≡ p % length ring → after ≡ xorAt to (span (readRing ring) p n) pages
-  xor-round {middle} low past few room did then p is =
+  pub xor_round : {middle after : List ℕ} → at < length ring → length ring < at + n → n ≤ length ring → to + n ≤ length pages
+      → middle ≡ xor_at to (part at (length ring - at) ring) pages
+      → after ≡ xor_at (to + (length ring - at)) (part 0 (n - (length ring - at)) ring) middle
+      → (p : ℕ) → at ≡ p % length ring → after ≡ xor_at to (span (read_ring ring) p n) pages
+  xor_round {middle} low past few room did then p is =
       let a : List ℕ = part at (length ring - at) ring in
       let b : List ℕ = part 0 (n - (length ring - at)) ring in
       let one : length a ≡ length ring - at = length_part at (length ring - at) ring (omega arith) in
       let two : length b ≡ n - (length ring - at) = length_part 0 (n - (length ring - at)) ring (omega arith) in
       then
-      ∙ ap (xorAt (to + (length ring - at)) b) did
-      ∙ ap (λ (k : ℕ). xorAt (to + k) b (xorAt to a pages)) (sym one)
-      ∙ xor-append pages to a b (omega (arith, one, two))
-      ∙ ap (λ (d : List ℕ). xorAt to d pages) (sym (span-round ring p at n is low (omega arith) few))
+      ∙ ap (xor_at (to + (length ring - at)) b) did
+      ∙ ap (λ (k : ℕ). xor_at (to + k) b (xor_at to a pages)) (sym one)
+      ∙ xor_append pages to a b (omega (arith, one, two))
+      ∙ ap (λ (d : List ℕ). xor_at to d pages) (sym (span_round ring p at n is low (omega arith) few))
 
 -- sums set one after the other
-pub sums-more : (f : ℕ → ℕ) (l : List ℕ) (i sum : ℕ) → i < length l → sum ≡ sumBelow f i
-    → ((j : ℕ) → j < i → get_or l j 0 ≡ sumBelow f j) → (j : ℕ) → j < i + 1 → get_or (set l i sum) j 0 ≡ sumBelow f j
-sums-more f l i sum fits e done j h = go (ℕ_discrete j i)
+pub sums_more : (f : ℕ → ℕ) (l : List ℕ) (i sum : ℕ) → i < length l → sum ≡ sum_below f i
+    → ((j : ℕ) → j < i → get_or l j 0 ≡ sum_below f j) → (j : ℕ) → j < i + 1 → get_or (set l i sum) j 0 ≡ sum_below f j
+sums_more f l i sum fits e done j h = go (ℕ_discrete j i)
   where
-    go : Dec (j ≡ i) → get_or (set l i sum) j 0 ≡ sumBelow f j
+    go : Dec (j ≡ i) → get_or (set l i sum) j 0 ≡ sum_below f j
     go (yes same) = rw (same, get_or-set_same l i sum 0 fits) e
     go (no ne) = get_or-set_other l i j sum 0 ne ∙ done j (omega (arith, ne))

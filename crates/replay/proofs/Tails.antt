@@ -10,65 +10,65 @@ use borrow.Author.Tests.{lt-ltb, le-ltb, ltb-false}
 use Rattle.model.specs.declared.Sizes.{Sizes}
 use Rattle.model.specs.declared.Fault.{Fault}
 use Rattle.model.specs.declared.Fault.TheVariants.{NoFault, BadRecord}
-use Rattle.model.specs.Below.{firstBelow}
-use Rattle.model.specs.Sizes.{ringOf}
+use Rattle.model.specs.Below.{first_below}
+use Rattle.model.specs.Sizes.{ring_of}
 use Rattle.model.specs.State.{limit}
 use Rattle.model.specs.Refusal.{accepted, rejected, verdict}
-use Rattle.model.specs.Causes.{tailIn, tailWrong, wrongTail, faultFrom, logRows}
-use Rattle.model.specs.Checkpoint.{perDisk}
-use Rattle.model.proofs.Below.{first-unique, first-none, first_cong, first-before}
-use Rattle.model.proofs.Booleans.{or-none}
-use Rattle.model.proofs.PerDisk.{getD-per-disk}
-use Rattle.replay.specs.Parts.{tailOut}
+use Rattle.model.specs.Causes.{tail_in, tail_wrong, wrong_tail, fault_from, log_rows}
+use Rattle.model.specs.Checkpoint.{per_disk}
+use Rattle.model.proofs.Below.{first_unique, first_none, first_cong, first_before}
+use Rattle.model.proofs.Booleans.{or_none}
+use Rattle.model.proofs.PerDisk.{get_d_per_disk}
+use Rattle.replay.specs.Parts.{tail_out}
 
 module _ (ring start tail : ℕ) where
-  pub out_below : tail < start → true ≡ tailOut ring start tail
-  unfolding tailOut
+  pub out_below : tail < start → true ≡ tail_out ring start tail
+  unfolding tail_out
   out_below h = rw (lt-ltb tail start h)
 
-  pub out-above : start ≤ tail → ring < tail - start → true ≡ tailOut ring start tail
-  unfolding tailOut
-  out-above h l = rw (le-ltb tail start h, lt-ltb (start + ring) tail (omega arith))
+  pub out_above : start ≤ tail → ring < tail - start → true ≡ tail_out ring start tail
+  unfolding tail_out
+  out_above h l = rw (le-ltb tail start h, lt-ltb (start + ring) tail (omega arith))
 
-  pub out-limit : start ≤ tail → tail - start ≤ ring → ltb limit tail ≡ tailOut ring start tail
-  unfolding tailOut
-  out-limit h l = rw (le-ltb tail start h, le-ltb (start + ring) tail (omega arith))
+  pub out_limit : start ≤ tail → tail - start ≤ ring → ltb limit tail ≡ tail_out ring start tail
+  unfolding tail_out
+  out_limit h l = rw (le-ltb tail start h, le-ltb (start + ring) tail (omega arith))
 
 -- a search from 0 up: none passes before i
 module _ (f : ℕ → Bool) (n i : ℕ) (before : (j : ℕ) → j < i → f j ≡ false) where
-  pub search-found : i < n → f i ≡ true → i ≡ firstBelow f n
-  search-found h passes = sym (first-unique f n i h passes before)
+  pub search_found : i < n → f i ≡ true → i ≡ first_below f n
+  search_found h passes = sym (first_unique f n i h passes before)
 
-  pub search-none : i ≡ n → n ≡ firstBelow f n
-  search-none e = sym (first-none f n (λ j h. before j (omega arith)))
+  pub search_none : i ≡ n → n ≡ first_below f n
+  search_none e = sym (first_none f n (λ j h. before j (omega arith)))
 
 -- The rows, of the tails that the code has read and the lowest disk that it has found.
-module _ (s : Sizes) (few : s.disks ≤ 8) (start : ℕ → ℕ) (logs : List ℕ) {tails : List ℕ} (to : tails ≡ perDisk s (tailIn s logs)) {disk : ℕ}
-    (found : disk ≡ firstBelow (λ d. tailOut (ringOf s d) (start d) (get_or tails d 0)) s.disks) where
-  lowest : disk ≡ wrongTail s start logs
-  unfolding wrongTail tailWrong tailOut
+module _ (s : Sizes) (few : s.disks ≤ 8) (start : ℕ → ℕ) (logs : List ℕ) {tails : List ℕ} (to : tails ≡ per_disk s (tail_in s logs)) {disk : ℕ}
+    (found : disk ≡ first_below (λ d. tail_out (ring_of s d) (start d) (get_or tails d 0)) s.disks) where
+  lowest : disk ≡ wrong_tail s start logs
+  unfolding wrong_tail tail_wrong tail_out
   lowest =
       found
-      ∙ first_cong (λ d. tailOut (ringOf s d) (start d) (get_or tails d 0)) (tailWrong s start logs) s.disks
-      (λ d h. rw (to, getD-per-disk s (tailIn s logs) d few h))
+      ∙ first_cong (λ d. tail_out (ring_of s d) (start d) (get_or tails d 0)) (tail_wrong s start logs) s.disks
+      (λ d h. rw (to, get_d_per_disk s (tail_in s logs) d few h))
 
-  pub logs-tail : disk < s.disks → verdict (logRows s start logs) ≡ rejected 6 disk 0
+  pub logs_tail : disk < s.disks → verdict (log_rows s start logs) ≡ rejected 6 disk 0
   unfolding verdict
-  logs-tail h = rw (← lowest, lt-ltb disk s.disks h)
+  logs_tail h = rw (← lowest, lt-ltb disk s.disks h)
 
   module _ (h : s.disks ≤ disk) where
-    pub tail-limit : (d : ℕ) → d < s.disks → tailIn s logs d ≤ limit
-    unfolding wrongTail tailWrong
-    tail-limit d l =
-        let none : tailWrong s start logs d ≡ false = first-before (tailWrong s start logs) s.disks d (omega (arith, lowest)) in
-        let low : Bool = ltb (tailIn s logs d) (start d) || ltb (start d + ringOf s d) (tailIn s logs d) in
-        ltb-false limit (tailIn s logs d) (or-none low (ltb limit (tailIn s logs d)) none).1
+    pub tail_limit : (d : ℕ) → d < s.disks → tail_in s logs d ≤ limit
+    unfolding wrong_tail tail_wrong
+    tail_limit d l =
+        let none : tail_wrong s start logs d ≡ false = first_before (tail_wrong s start logs) s.disks d (omega (arith, lowest)) in
+        let low : Bool = ltb (tail_in s logs d) (start d) || ltb (start d + ring_of s d) (tail_in s logs d) in
+        ltb-false limit (tail_in s logs d) (or_none low (ltb limit (tail_in s logs d)) none).1
 
-    module _ {fault : Fault} (checked : fault ≡ faultFrom s start logs s.disks 0) where
-      pub logs-fault : {d p : ℕ} → fault ≡ BadRecord d p → verdict (logRows s start logs) ≡ rejected 7 d p
+    module _ {fault : Fault} (checked : fault ≡ fault_from s start logs s.disks 0) where
+      pub logs_fault : {d p : ℕ} → fault ≡ BadRecord d p → verdict (log_rows s start logs) ≡ rejected 7 d p
       unfolding verdict
-      logs-fault e = rw (← lowest, le-ltb disk s.disks h, ← checked, e)
+      logs_fault e = rw (← lowest, le-ltb disk s.disks h, ← checked, e)
 
-      pub logs-right : fault ≡ NoFault → verdict (logRows s start logs) ≡ accepted
+      pub logs_right : fault ≡ NoFault → verdict (log_rows s start logs) ≡ accepted
       unfolding verdict
-      logs-right e = rw (← lowest, le-ltb disk s.disks h, ← checked, e)
+      logs_right e = rw (← lowest, le-ltb disk s.disks h, ← checked, e)

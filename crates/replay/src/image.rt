@@ -1,17 +1,17 @@
 // What restart begin reads: the anchor's sizes and current starts, the tails, and what is wrong with the logs.
 ghost use Rattle.std.specs.Prelude.{◌≡◌, true, ◌≤◌, length, get_or};
-ghost use Rattle.model.specs.Below.{firstBelow};
-ghost use Rattle.model.specs.Sizes.{ringOf, logWords, sizesInBounds};
-ghost use Rattle.model.specs.Anchor.{anchorWords, sizesOn, startOn};
+ghost use Rattle.model.specs.Below.{first_below};
+ghost use Rattle.model.specs.Sizes.{ring_of, log_words, sizes_in_bounds};
+ghost use Rattle.model.specs.Anchor.{anchor_words, sizes_on, start_on};
 ghost use Rattle.model.specs.Refusal.{verdict};
-ghost use Rattle.model.specs.Causes.{tailIn, logRows};
-ghost use Rattle.model.specs.Checkpoint.{eightBelow, perDisk};
-ghost use Rattle.replay.specs.Parts.{anchorRefusal, tailOut, findingOf};
+ghost use Rattle.model.specs.Causes.{tail_in, log_rows};
+ghost use Rattle.model.specs.Checkpoint.{eight_below, per_disk};
+ghost use Rattle.replay.specs.Parts.{anchor_refusal, tail_out, finding_of};
 
 use layout::anchor::{ANCHOR_WORDS, EPOCH_WORD, read_rows, read_sizes};
 use layout::bounds::{in_bounds, narrow};
 use layout::disks::{disk_at, ring_of};
-use log::scan::check_disks;
+use disk_log::scan::check_disks;
 use model::{Fault, Sizes};
 use table::room::LIMIT;
 
@@ -25,7 +25,7 @@ pub struct Finding {
 
 // 2 for a wrong length, 3 for an unformatted anchor, 4 for sizes out of bounds, else 0.
 pub fn anchor_refusal(anchor: &[u64]) -> u64
-    ensures { result ≡ anchorRefusal anchor.now }
+    ensures { result ≡ anchor_refusal anchor.now }
 {
     if anchor.len() != ANCHOR_WORDS {
         return 2;
@@ -38,8 +38,8 @@ pub fn anchor_refusal(anchor: &[u64]) -> u64
 
 // The sizes that an anchor gives.
 pub fn anchor_sizes(anchor: &[u64]) -> Sizes
-    requires { (length anchor.now ≡ anchorWords) × (sizesInBounds (sizesOn anchor.now) ≡ true) }
-    ensures { result ≡ sizesOn anchor.now }
+    requires { (length anchor.now ≡ anchor_words) × (sizes_in_bounds (sizes_on anchor.now) ≡ true) }
+    ensures { result ≡ sizes_on anchor.now }
 {
     narrow(read_sizes(anchor))
 }
@@ -47,7 +47,7 @@ pub fn anchor_sizes(anchor: &[u64]) -> Sizes
 // The first n words of a row, then zeros.
 fn keep_below(row: [u64; 8], n: u64) -> [u64; 8]
     requires { n ≤ 8 }
-    ensures { result ≡ eightBelow n (λ d. get_or row d 0) }
+    ensures { result ≡ eight_below n (λ d. get_or row d 0) }
 {
     let mut kept = [0u64; 8];
     let mut d: u64 = 0;
@@ -60,8 +60,8 @@ fn keep_below(row: [u64; 8], n: u64) -> [u64; 8]
 
 // Where the retained logs start: the current row.
 pub fn current_starts(disks: u64, anchor: &[u64]) -> [u64; 8]
-    requires { (disks ≤ 8) × (length anchor.now ≡ anchorWords) }
-    ensures { (s : Sizes) → s.disks ≡ disks → result ≡ perDisk s (startOn anchor.now) }
+    requires { (disks ≤ 8) × (length anchor.now ≡ anchor_words) }
+    ensures { (s : Sizes) → s.disks ≡ disks → result ≡ per_disk s (start_on anchor.now) }
 {
     let rows = read_rows(anchor);
     let current = (anchor[EPOCH_WORD] % 2) as usize;
@@ -70,8 +70,8 @@ pub fn current_starts(disks: u64, anchor: &[u64]) -> [u64; 8]
 
 // The tails, as the log disks have them.
 pub fn tails_on(sizes: Sizes, logs: &[u64]) -> [u64; 8]
-    requires { (sizes.disks ≤ 8) × (sizes.ring ≤ 65536) × (logWords sizes ≤ length logs.now) }
-    ensures { result ≡ perDisk sizes (tailIn sizes logs.now) }
+    requires { (sizes.disks ≤ 8) × (sizes.ring ≤ 65536) × (log_words sizes ≤ length logs.now) }
+    ensures { result ≡ per_disk sizes (tail_in sizes logs.now) }
 {
     let disks = sizes.disks;
     let mut tails = [0u64; 8];
@@ -86,7 +86,7 @@ pub fn tails_on(sizes: Sizes, logs: &[u64]) -> [u64; 8]
 
 // The distance is tested after the order, and so without a sum, which may not fit a word.
 fn tail_out(ring: u64, start: u64, tail: u64) -> bool
-    ensures { result ≡ tailOut ring start tail }
+    ensures { result ≡ tail_out ring start tail }
 {
     if tail < start {
         return true;
@@ -100,7 +100,7 @@ fn tail_out(ring: u64, start: u64, tail: u64) -> bool
 // The lowest disk whose tail is wrong, the number of disks where none is.
 fn wrong_tail(sizes: Sizes, starts: [u64; 8], tails: [u64; 8]) -> u64
     requires { sizes.disks ≤ 8 }
-    ensures { result ≡ firstBelow (λ d. tailOut (ringOf sizes d) (get_or starts d 0) (get_or tails d 0)) sizes.disks }
+    ensures { result ≡ first_below (λ d. tail_out (ring_of sizes d) (get_or starts d 0) (get_or tails d 0)) sizes.disks }
 {
     let disks = sizes.disks;
     let mut d: u64 = 0;
@@ -116,8 +116,8 @@ fn wrong_tail(sizes: Sizes, starts: [u64; 8], tails: [u64; 8]) -> u64
 
 // Rows 6 and 7 of logs with these tails that are read from these starts: a wrong tail, then a malformed record.
 pub fn check_logs(sizes: Sizes, starts: [u64; 8], tails: [u64; 8], logs: &[u64]) -> Finding
-    requires { (sizesInBounds sizes ≡ true) × (length logs.now ≡ logWords sizes) × (tails ≡ perDisk sizes (tailIn sizes logs.now)) }
-    ensures { verdict (logRows sizes (λ d. get_or starts d 0) logs.now) ≡ findingOf result }
+    requires { (sizes_in_bounds sizes ≡ true) × (length logs.now ≡ log_words sizes) × (tails ≡ per_disk sizes (tail_in sizes logs.now)) }
+    ensures { verdict (log_rows sizes (λ d. get_or starts d 0) logs.now) ≡ finding_of result }
 {
     let disks = sizes.disks;
     let disk = wrong_tail(sizes, starts, tails);

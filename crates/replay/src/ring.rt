@@ -1,9 +1,9 @@
 // A record's difference XORed in out of a log's ring, and where all pages begin, found once for many records.
 ghost use Rattle.std.specs.Prelude.{◌≡◌, cond, ℕ, ◌+◌, ◌%◌, ◌≤◌, ◌<◌, length, get_or};
-ghost use Rattle.model.specs.Sizes.{pageBase};
+ghost use Rattle.model.specs.Sizes.{page_base};
 ghost use Rattle.model.specs.Decode.{span};
-ghost use Rattle.model.specs.Image.{xorAt};
-ghost use Rattle.log.specs.Ring.{readRing};
+ghost use Rattle.model.specs.Image.{xor_at};
+ghost use Rattle.disk_log.specs.Ring.{read_ring};
 
 use layout::places::words_in_slots;
 use model::Sizes;
@@ -11,7 +11,7 @@ use words::xor_in;
 
 // The first word of each page.
 pub fn page_bases(sizes: Sizes) -> [u64; 64]
-    ensures { (length result ≡ 64) × ((page : ℕ) → page < 64 → get_or result page 0 ≡ pageBase sizes page) }
+    ensures { (length result ≡ 64) × ((page : ℕ) → page < 64 → get_or result page 0 ≡ page_base sizes page) }
 {
     let slots = sizes.slots;
     let widths = sizes.widths;
@@ -30,7 +30,7 @@ pub fn page_bases(sizes: Sizes) -> [u64; 64]
 // XORs n words of a ring, from an index on, into pages at `to`: in one run, or in two around the ring's end.
 fn xor_ring(pages: &mut [u64], to: u64, ring: &[u64], at: u64, n: u64)
     requires { (at < length ring.now) × (n ≤ length ring.now) × (to + n ≤ length pages.old) }
-    ensures { (p : ℕ) → at ≡ p % length ring.now → pages.new ≡ xorAt to (span (readRing ring.now) p n) pages.old }
+    ensures { (p : ℕ) → at ≡ p % length ring.now → pages.new ≡ xor_at to (span (read_ring ring.now) p n) pages.old }
 {
     let run = ring.len() as u64 - at;
     if n <= run {
@@ -44,7 +44,7 @@ fn xor_ring(pages: &mut [u64], to: u64, ring: &[u64], at: u64, n: u64)
 // The same if `replays` says so, and else nothing.
 pub fn replay_ring(replays: bool, pages: &mut [u64], to: u64, ring: &[u64], at: u64, n: u64)
     requires { (at < length ring.now) × (n ≤ length ring.now) × (to + n ≤ length pages.old) }
-    ensures { (p : ℕ) → at ≡ p % length ring.now → pages.new ≡ cond replays (xorAt to (span (readRing ring.now) p n) pages.old) pages.old }
+    ensures { (p : ℕ) → at ≡ p % length ring.now → pages.new ≡ cond replays (xor_at to (span (read_ring ring.now) p n) pages.old) pages.old }
 {
     if replays {
         xor_ring(pages, to, ring, at, n);

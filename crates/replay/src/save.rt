@@ -1,11 +1,11 @@
 // What restart end stores.
 ghost use Rattle.std.specs.Prelude.{◌≡◌, List, true, ℕ, ◌*◌, length};
-ghost use Rattle.model.specs.Sizes.{total, sizesInBounds};
-ghost use Rattle.model.specs.Anchor.{anchorWords};
-ghost use Rattle.model.specs.World.{worldOf};
+ghost use Rattle.model.specs.Sizes.{total, sizes_in_bounds};
+ghost use Rattle.model.specs.Anchor.{anchor_words};
+ghost use Rattle.model.specs.World.{world_of};
 ghost use Rattle.model.specs.Moments.{old, new};
 ghost use Rattle.device.specs.Ran.{Ran};
-ghost use Rattle.replay.specs.Parts.{checkpointStores};
+ghost use Rattle.replay.specs.Parts.{checkpoint_stores};
 
 use device::store_copy;
 use frame::switch::switch_to;
@@ -22,9 +22,9 @@ pub fn store_checkpoint(
     backups: &mut [u64],
     budget: &mut u64,
 ) -> bool
-    requires { (sizesInBounds sizes ≡ true) × (length anchor.old ≡ anchorWords) × (length pages.now ≡ total sizes) × (length backups.old ≡ 2 * total sizes) }
-    ensures { (logs work : List ℕ) → Ran (old budget) (new budget) (checkpointStores sizes epoch starts (old pages))
-        (worldOf (old anchor) (old pages) (old backups) logs work) (worldOf (new anchor) (old pages) (new backups) logs work) result }
+    requires { (sizes_in_bounds sizes ≡ true) × (length anchor.old ≡ anchor_words) × (length pages.now ≡ total sizes) × (length backups.old ≡ 2 * total sizes) }
+    ensures { (logs work : List ℕ) → Ran (old budget) (new budget) (checkpoint_stores sizes epoch starts (old pages))
+        (world_of (old anchor) (old pages) (old backups) logs work) (world_of (new anchor) (old pages) (new backups) logs work) result }
 {
     let at = backup_at(sizes, epoch) as usize;
     if !store_copy(backups, at, pages, 0, pages.len(), budget) {

@@ -1,15 +1,15 @@
 // What a restart step XORs into the pages: a record's difference, a page of the backup.
 ghost use Rattle.std.specs.Prelude.{◌≡◌, [], true, cond, ℕ, ◌+◌, ◌*◌, ◌≤◌, ◌<◌, length};
 ghost use Rattle.model.specs.Word.{part};
-ghost use Rattle.model.specs.Sizes.{pageBase, pageWords, total, sizesInBounds};
-ghost use Rattle.model.specs.Anchor.{backupAt};
+ghost use Rattle.model.specs.Sizes.{page_base, page_words, total, sizes_in_bounds};
+ghost use Rattle.model.specs.Anchor.{backup_at};
 ghost use Rattle.model.specs.Decode.{read_log, span};
-ghost use Rattle.model.specs.Image.{xorAt};
-ghost use Rattle.log.specs.Reading.{LiesAt, Readable};
+ghost use Rattle.model.specs.Image.{xor_at};
+ghost use Rattle.disk_log.specs.Reading.{LiesAt, Readable};
 
 use layout::backup::backup_at;
 use layout::places::{page_base, page_words};
-use log::read::{Extent, read_word};
+use disk_log::read::{Extent, read_word};
 use model::Sizes;
 use words::xor_in;
 
@@ -17,7 +17,7 @@ use words::xor_in;
 fn xor_span(pages: &mut [u64], at: u64, logs: &[u64], extent: Extent, from: u64, n: u64)
     requires { Readable extent logs.now [] × (at + n ≤ length pages.old) × (from + n ≤ extent.tail) }
     ensures { (s : Sizes) (disk : ℕ) → LiesAt s disk extent.place extent.ring
-        → pages.new ≡ xorAt at (span (read_log s logs.now disk extent.tail []) from n) pages.old }
+        → pages.new ≡ xor_at at (span (read_log s logs.now disk extent.tail []) from n) pages.old }
 {
     let place = extent.place;
     let ring = extent.ring;
@@ -44,7 +44,7 @@ pub fn replay_span(
 )
     requires { Readable extent logs.now [] × (at + n ≤ length pages.old) × (from + n ≤ extent.tail) }
     ensures { (s : Sizes) (disk : ℕ) → LiesAt s disk extent.place extent.ring
-        → pages.new ≡ cond replays (xorAt at (span (read_log s logs.now disk extent.tail []) from n) pages.old) pages.old }
+        → pages.new ≡ cond replays (xor_at at (span (read_log s logs.now disk extent.tail []) from n) pages.old) pages.old }
 {
     if replays {
         xor_span(pages, at, logs, extent, from, n);
@@ -53,8 +53,8 @@ pub fn replay_span(
 
 // XORs a page of the current backup into the pages.
 pub fn xor_page(pages: &mut [u64], backups: &[u64], sizes: Sizes, epoch: u64, page: u64)
-    requires { (sizesInBounds sizes ≡ true) × (page < sizes.pages) × (length pages.old ≡ total sizes) × (length backups.now ≡ 2 * total sizes) }
-    ensures { pages.new ≡ xorAt (pageBase sizes page) (part (backupAt sizes epoch + pageBase sizes page) (pageWords sizes page) backups.now) pages.old }
+    requires { (sizes_in_bounds sizes ≡ true) × (page < sizes.pages) × (length pages.old ≡ total sizes) × (length backups.now ≡ 2 * total sizes) }
+    ensures { pages.new ≡ xor_at (page_base sizes page) (part (backup_at sizes epoch + page_base sizes page) (page_words sizes page) backups.now) pages.old }
 {
     let base = page_base(sizes, page);
     let n = page_words(sizes, page);

@@ -8,50 +8,50 @@ use Rattle.model.specs.declared.Core.{Core}
 use Rattle.model.specs.declared.Fate.{Fate}
 use Rattle.model.specs.declared.Decoded.{Decoded}
 use Rattle.model.specs.declared.Decoded.TheVariants.{Change}
-use Rattle.model.specs.Sizes.{slotBase}
+use Rattle.model.specs.Sizes.{slot_base}
 use Rattle.model.specs.World.{World}
-use Rattle.model.specs.Decode.{read_log, decodeAt}
-use Rattle.model.specs.Scan.{scan, fateIn}
-use Rattle.model.specs.State.{tailOf}
-use Rattle.model.specs.Restart.{position_of, readDisk, nextRecord}
-use Rattle.model.proofs.Decode.{ChangeAt, found-change}
-use Rattle.model.proofs.Geometry.{slot-end-total}
-use Rattle.log.specs.declared.read.Extent.{Extent}
-use Rattle.log.specs.Reading.{LiesAt, extentOf, Readable}
-use Rattle.log.proofs.Ready.{readable, read-there}
+use Rattle.model.specs.Decode.{read_log, decode_at}
+use Rattle.model.specs.Scan.{scan, fate_in}
+use Rattle.model.specs.State.{tail_of}
+use Rattle.model.specs.Restart.{position_of, read_disk, next_record}
+use Rattle.model.proofs.Decode.{ChangeAt, found_change}
+use Rattle.model.proofs.Geometry.{slot_end_total}
+use Rattle.disk_log.specs.declared.read.Extent.{Extent}
+use Rattle.disk_log.specs.Reading.{LiesAt, extent_of, Readable}
+use Rattle.disk_log.proofs.Ready.{readable, read_there}
 use Rattle.replay.specs.Step.{OnLog}
-use Rattle.replay.proofs.Facts.{sizes-bounded, tail-low}
+use Rattle.replay.proofs.Facts.{sizes_bounded, tail_low}
 
 module _ {c : Core} {disk : ℕ} {pages logs : List ℕ} (on : OnLog c disk pages logs) where
-  module _ {e : Extent} (is : e ≡ extentOf c.sizes disk (tailOf c.logs disk) (tailOf c.logs disk)) where
-    pub log-readable : Readable e logs []
-    log-readable =
+  module _ {e : Extent} (is : e ≡ extent_of c.sizes disk (tail_of c.logs disk) (tail_of c.logs disk)) where
+    pub log_readable : Readable e logs []
+    log_readable =
         rw is
-        (readable c.sizes (sizes-bounded c on.replays) logs disk (tailOf c.logs disk) [] (tailOf c.logs disk) on.log-words
-        on.disk-in (omega arith) (omega (arith, tail-low)))
+        (readable c.sizes (sizes_bounded c on.replays) logs disk (tail_of c.logs disk) [] (tail_of c.logs disk) on.log_words_lem
+        on.disk_in (omega arith) (omega (arith, tail_low)))
 
-    pub decoded-there : (p : ℕ) {r : Decoded}
-        → ((d : ℕ) → LiesAt c.sizes d e.place e.ring → r ≡ decodeAt c.sizes (read_log c.sizes logs d e.tail []) e.end p)
-        → r ≡ decodeAt c.sizes (read_log c.sizes logs disk (tailOf c.logs disk) []) (tailOf c.logs disk) p
-    decoded-there p = read-there _ _ _ _ is logs [] (λ read stop. decodeAt c.sizes read stop p)
+    pub decoded_there : (p : ℕ) {r : Decoded}
+        → ((d : ℕ) → LiesAt c.sizes d e.place e.ring → r ≡ decode_at c.sizes (read_log c.sizes logs d e.tail []) e.end p)
+        → r ≡ decode_at c.sizes (read_log c.sizes logs disk (tail_of c.logs disk) []) (tail_of c.logs disk) p
+    decoded_there p = read_there _ _ _ _ is logs [] (λ read stop. decode_at c.sizes read stop p)
 
-    pub fate-there : (p number : ℕ) {r : Fate}
+    pub fate_there : (p number : ℕ) {r : Fate}
         → ((d : ℕ) → LiesAt c.sizes d e.place e.ring
-        → r ≡ fateIn number (scan c.sizes (read_log c.sizes logs d e.tail []) e.end p))
-        → r ≡ fateIn number (scan c.sizes (read_log c.sizes logs disk (tailOf c.logs disk) []) (tailOf c.logs disk) p)
-    fate-there p number = read-there _ _ _ _ is logs [] (λ read stop. fateIn number (scan c.sizes read stop p))
+        → r ≡ fate_in number (scan c.sizes (read_log c.sizes logs d e.tail []) e.end p))
+        → r ≡ fate_in number (scan c.sizes (read_log c.sizes logs disk (tail_of c.logs disk) []) (tail_of c.logs disk) p)
+    fate_there p number = read_there _ _ _ _ is logs [] (λ read stop. fate_in number (scan c.sizes read stop p))
 
   -- A change found there: its slot is one of the pages', and its difference ends within the log.
-  module _ (w : World) {kind page slot number copy width next : ℕ} (e : nextRecord c w disk ≡ Change kind page slot number copy width next) where
-    pub found : ChangeAt c.sizes (tailOf c.logs disk) (position_of c disk) kind page slot number width next
-    unfolding nextRecord
-    found = found-change c.sizes (readDisk c w disk) (tailOf c.logs disk) e
+  module _ (w : World) {kind page slot number copy width next : ℕ} (e : next_record c w disk ≡ Change kind page slot number copy width next) where
+    pub found : ChangeAt c.sizes (tail_of c.logs disk) (position_of c disk) kind page slot number width next
+    unfolding next_record
+    found = found_change c.sizes (read_disk c w disk) (tail_of c.logs disk) e
 
-    pub slot-place : (page < 64) × (slot < 65536)
-    slot-place = (found.page-lt, omega (arith, found.slot_lt))
+    pub slot_place_lem : (page < 64) × (slot < 65536)
+    slot_place_lem = (found.page_lt, omega (arith, found.slot_lt))
 
-    pub slot-fits : {at : ℕ} → at ≡ slotBase c.sizes page slot → at + width ≤ length pages
-    slot-fits s = omega (arith, s, slot-end-total c.sizes page slot found.page-in found.slot-in, found.width-eq, on.page-words)
+    pub slot_fits_lem : {at : ℕ} → at ≡ slot_base c.sizes page slot → at + width ≤ length pages
+    slot_fits_lem s = omega (arith, s, slot_end_total c.sizes page slot found.page_in found.slot_in, found.width_eq, on.page_words_lem)
 
-    pub difference-ends : position_of c disk + 3 + width ≤ tailOf c.logs disk
-    difference-ends = omega (arith, found.next-eq, found.next_le)
+    pub difference_ends : position_of c disk + 3 + width ≤ tail_of c.logs disk
+    difference_ends = omega (arith, found.next_eq, found.next_le)

@@ -1,11 +1,11 @@
 // Restart begin: all checks of the devices, then zeroed pages and a replaying state.
 ghost use Rattle.std.specs.Prelude.{◌≡◌, List, true, ℕ, length};
-ghost use Rattle.model.specs.Sizes.{total, logWords, sizesInBounds};
-ghost use Rattle.model.specs.Anchor.{anchorWords, sizesOn};
-ghost use Rattle.model.specs.State.{basesOf};
-ghost use Rattle.model.specs.World.{worldOf};
-ghost use Rattle.model.specs.Moments.{old, new, oldWorld};
-ghost use Rattle.model.specs.Call.{Gives, restartBegin};
+ghost use Rattle.model.specs.Sizes.{total, log_words, sizes_in_bounds};
+ghost use Rattle.model.specs.Anchor.{anchor_words, sizes_on};
+ghost use Rattle.model.specs.State.{bases_of};
+ghost use Rattle.model.specs.World.{world_of};
+ghost use Rattle.model.specs.Moments.{old, new, old_world};
+ghost use Rattle.model.specs.Call.{Gives, restart_begin};
 ghost use Rattle.restart.specs.Begin.{BeginsOn};
 
 use frame::settle::{finish, refuse, refuse_at};
@@ -28,8 +28,8 @@ fn begin_on(
     pages: &mut [u64],
     logs: &[u64],
 ) -> Reply
-    requires { (sizes ≡ sizesOn anchor.now) × (sizesInBounds sizes ≡ true) × (length anchor.now ≡ anchorWords) × (length pages.old ≡ total sizes) × (length logs.now ≡ logWords sizes) × (bases ≡ basesOf sizes) }
-    ensures { (backups work : List ℕ) → BeginsOn core (worldOf anchor.now pages.old backups logs.now work) result (worldOf anchor.now pages.new backups logs.now work) }
+    requires { (sizes ≡ sizes_on anchor.now) × (sizes_in_bounds sizes ≡ true) × (length anchor.now ≡ anchor_words) × (length pages.old ≡ total sizes) × (length logs.now ≡ log_words sizes) × (bases ≡ bases_of sizes) }
+    ensures { (backups work : List ℕ) → BeginsOn core (world_of anchor.now pages.old backups logs.now work) result (world_of anchor.now pages.new backups logs.now work) }
 {
     let starts = current_starts(sizes.disks, anchor);
     let tails = tails_on(sizes, logs);
@@ -55,8 +55,8 @@ pub fn begin(
     logs: &[u64],
     work: &[u64],
 ) -> Reply
-    ensures { Gives restartBegin core (oldWorld anchor pages backups logs work)
-        result 0 (worldOf (old anchor) (new pages) (old backups) (old logs) (old work)) }
+    ensures { Gives restart_begin core (old_world anchor pages backups logs work)
+        result 0 (world_of (old anchor) (new pages) (old backups) (old logs) (old work)) }
 {
     let stage = core.stage;
     if !is_shut(stage) {

@@ -1,12 +1,12 @@
 // Restart end: the replayed pages become checkpoint c + 1, and the state opens.
 ghost use Rattle.std.specs.Prelude.{◌≡◌, List, ℕ, ◌*◌, length};
 ghost use Rattle.model.specs.Sizes.{total};
-ghost use Rattle.model.specs.Anchor.{anchorWords};
-ghost use Rattle.model.specs.World.{worldOf};
-ghost use Rattle.model.specs.Moments.{old, new, oldWorld};
-ghost use Rattle.model.specs.Memory.{workWords};
-ghost use Rattle.model.specs.Restart.{restartEndTask};
-ghost use Rattle.model.specs.Call.{Gives, restartEnd};
+ghost use Rattle.model.specs.Anchor.{anchor_words};
+ghost use Rattle.model.specs.World.{world_of};
+ghost use Rattle.model.specs.Moments.{old, new, old_world};
+ghost use Rattle.model.specs.Memory.{work_words};
+ghost use Rattle.model.specs.Restart.{restart_end_task};
+ghost use Rattle.model.specs.Call.{Gives, restart_end};
 ghost use Rattle.frame.specs.Settle.{Concludes};
 ghost use Rattle.replay.specs.Step.{Replays};
 
@@ -28,10 +28,10 @@ fn open_replayed(
     work: &mut [u64],
     budget: &mut u64,
 ) -> Reply
-    requires { Replays core × (length anchor.old ≡ anchorWords) × (length pages.now ≡ total core.sizes) × (length backups.old ≡ 2 * total core.sizes) × (length work.old ≡ workWords core.sizes (total core.sizes)) }
+    requires { Replays core × (length anchor.old ≡ anchor_words) × (length pages.now ≡ total core.sizes) × (length backups.old ≡ 2 * total core.sizes) × (length work.old ≡ work_words core.sizes (total core.sizes)) }
     ensures { (logs : List ℕ) → Concludes (old budget) (new budget)
-        (restartEndTask core (worldOf (old anchor) (old pages) (old backups) logs (old work)))
-        (worldOf (old anchor) (old pages) (old backups) logs (old work)) (worldOf (new anchor) (old pages) (new backups) logs (new work)) result }
+        (restart_end_task core (world_of (old anchor) (old pages) (old backups) logs (old work)))
+        (world_of (old anchor) (old pages) (old backups) logs (old work)) (world_of (new anchor) (old pages) (new backups) logs (new work)) result }
 {
     let sizes = core.sizes;
     let logs = core.logs;
@@ -55,8 +55,8 @@ pub fn end(
     work: &mut [u64],
     budget: &mut u64,
 ) -> Reply
-    ensures { Gives (restartEnd (old budget)) core (oldWorld anchor pages backups logs work)
-        result (new budget) (worldOf (new anchor) (old pages) (new backups) (old logs) (new work)) }
+    ensures { Gives (restart_end (old budget)) core (old_world anchor pages backups logs work)
+        result (new budget) (world_of (new anchor) (old pages) (new backups) (old logs) (new work)) }
 {
     let refusal = common_refusal(When::Replaying, core, anchor, pages, backups, logs, work);
     if refusal != 0 {

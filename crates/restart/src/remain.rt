@@ -3,7 +3,7 @@ ghost use Rattle.std.specs.Prelude.{◌≡◌, true, cond, ◌+◌, ◌-◌, ◌
 ghost use Rattle.model.specs.Below.{all_below};
 ghost use Rattle.model.specs.Moments.{old};
 ghost use Rattle.model.specs.Restart.{remaining};
-ghost use Rattle.model.specs.View.{headWords, core_of};
+ghost use Rattle.model.specs.View.{head_words, core_of};
 
 use head::own::is_own;
 use head::places::{PAGE_AT, POSITIONS_AT};
@@ -12,7 +12,7 @@ use words::saturating_sub;
 
 // A word of the head; 0 where the work memory is not the state's own.
 fn head_word(own: bool, work: &[u64], at: usize) -> u64
-    requires { (at < headWords) × (own ≡ true → headWords ≤ length work.now) }
+    requires { (at < head_words) × (own ≡ true → head_words ≤ length work.now) }
     ensures { result ≡ cond own (get_or (old work) at 0) 0 }
 {
     if own { work[at] } else { 0 }

@@ -2,15 +2,15 @@
 ghost use Rattle.std.specs.Prelude.{◌≡◌, List, ℕ, ◌≤◌, ◌<◌};
 ghost use Rattle.model.specs.declared.Sizes.{Sizes};
 ghost use Rattle.model.specs.Sizes.{total};
-ghost use Rattle.model.specs.Anchor.{backupAt};
-ghost use Rattle.model.specs.World.{worldOf};
-ghost use Rattle.model.specs.Moments.{old, new, oldWorld};
-ghost use Rattle.model.specs.State.{tailOf};
+ghost use Rattle.model.specs.Anchor.{backup_at};
+ghost use Rattle.model.specs.World.{world_of};
+ghost use Rattle.model.specs.Moments.{old, new, old_world};
+ghost use Rattle.model.specs.State.{tail_of};
 ghost use Rattle.model.specs.Restart.{position_of};
-ghost use Rattle.model.specs.Call.{restartStep};
+ghost use Rattle.model.specs.Call.{restart_step};
 ghost use Rattle.model.specs.View.{core_of, Serves};
 ghost use Rattle.replay.specs.Step.{StepsOn};
-ghost use Rattle.restart.specs.Step.{OnDisk, OnBackup, takenBy, StepsTo};
+ghost use Rattle.restart.specs.Step.{OnDisk, OnBackup, taken_by, StepsTo};
 
 use frame::handed::{finished, refused, unreadable};
 use frame::lent::refusal_when;
@@ -19,8 +19,8 @@ use frame::stages::is_replaying;
 use head::places::{BASES_AT, PAGE_AT, POSITIONS_AT, SLOTS_AT, WIDTHS_AT};
 use layout::anchor::ANCHOR_WORDS;
 use layout::disks::disk_at;
-use log::read::{Extent, decode_at};
-use log::scan::fate_from;
+use disk_log::read::{Extent, decode_at};
+use disk_log::scan::fate_from;
 use model::{Carried, Decoded, Fate, Handed};
 use replay::record::is_replayed;
 use replay::take::replay_span;
@@ -43,9 +43,9 @@ fn take_record(
     work: &[u64],
 ) -> Taken
     requires { OnDisk carried disk pages.old logs.now work.now × (position_of (core_of carried work.now) disk ≡ position)
-        × (position < tailOf (core_of carried work.now).logs disk) }
-    ensures { (anchor backups body : List ℕ) → StepsOn (core_of carried (old work)) (worldOf anchor (old pages) backups (old logs) body) disk
-        (takenBy (core_of carried (old work)) disk result.malformed result.position) (worldOf anchor (new pages) backups (old logs) body) }
+        × (position < tail_of (core_of carried work.now).logs disk) }
+    ensures { (anchor backups body : List ℕ) → StepsOn (core_of carried (old work)) (world_of anchor (old pages) backups (old logs) body) disk
+        (taken_by (core_of carried (old work)) disk result.malformed result.position) (world_of anchor (new pages) backups (old logs) body) }
 {
     let tails = carried.tails;
     let tail = tails[disk as usize];
@@ -114,8 +114,8 @@ fn log_step(
     work: &mut [u64],
 ) -> Handed
     requires { OnDisk carried disk pages.old logs.now work.old }
-    ensures { (anchor backups : List ℕ) → StepsTo carried (worldOf anchor (old pages) backups (old logs) (old work)) disk
-        result (worldOf anchor (new pages) backups (old logs) (new work)) }
+    ensures { (anchor backups : List ℕ) → StepsTo carried (world_of anchor (old pages) backups (old logs) (old work)) disk
+        result (world_of anchor (new pages) backups (old logs) (new work)) }
 {
     let d = disk as usize;
     let tails = carried.tails;
@@ -134,7 +134,7 @@ fn log_step(
 
 // Where the backup of checkpoint `epoch` begins, by T.
 fn backup_start(epoch: u64, words: u64) -> u64
-    ensures { ((s : Sizes) → total s ≡ words → result ≡ backupAt s epoch) × (result ≤ words) }
+    ensures { ((s : Sizes) → total s ≡ words → result ≡ backup_at s epoch) × (result ≤ words) }
 {
     if epoch % 2 == 0 { 0 } else { words }
 }
@@ -142,8 +142,8 @@ fn backup_start(epoch: u64, words: u64) -> u64
 // XORs the next page of the backup in.
 fn backup_step(carried: Carried, pages: &mut [u64], backups: &[u64], work: &mut [u64]) -> Handed
     requires { OnBackup carried pages.old backups.now work.old }
-    ensures { (anchor logs : List ℕ) → StepsTo carried (worldOf anchor (old pages) (old backups) logs (old work)) carried.disks
-        result (worldOf anchor (new pages) (old backups) logs (new work)) }
+    ensures { (anchor logs : List ℕ) → StepsTo carried (world_of anchor (old pages) (old backups) logs (old work)) carried.disks
+        result (world_of anchor (new pages) (old backups) logs (new work)) }
 {
     let page = work[PAGE_AT];
     if carried.pages <= page {
@@ -167,8 +167,8 @@ pub fn step(
     logs: &[u64],
     work: &mut [u64],
 ) -> Handed
-    ensures { Serves (restartStep source) carried (oldWorld anchor pages backups logs work)
-        result 0 (worldOf (old anchor) (new pages) (old backups) (old logs) (new work)) }
+    ensures { Serves (restart_step source) carried (old_world anchor pages backups logs work)
+        result 0 (world_of (old anchor) (new pages) (old backups) (old logs) (new work)) }
 {
     let stage = carried.stage;
     let allowed = is_replaying(stage);

@@ -10,21 +10,21 @@ use lib.ListN.{length, get_or, set}
 use lib.Seq.{get_or-set_same, get_or-set_other}
 use borrow.Author.Tests.{eqb-true, eqb-false}
 use Rattle.model.specs.declared.Fate.{Fate}
-use Rattle.model.specs.Below.{firstBelow}
-use Rattle.model.proofs.Below.{first_passes, first-before}
-use Rattle.run.specs.Run.{fateOf, Remembers}
+use Rattle.model.specs.Below.{first_below}
+use Rattle.model.proofs.Below.{first_passes, first_before}
+use Rattle.run.specs.Run.{fate_of, Remembers}
 
-module _ (numbers : List ℕ) (used number : ℕ) {i : ℕ} (is : i ≡ firstBelow (λ j. eqb (get_or numbers j 0) number) used) where
+module _ (numbers : List ℕ) (used number : ℕ) {i : ℕ} (is : i ≡ first_below (λ j. eqb (get_or numbers j 0) number) used) where
   pub found_here : i < used → get_or numbers i 0 ≡ number
   found_here h =
-      let low : firstBelow (λ j. eqb (get_or numbers j 0) number) used < used = omega (arith, is) in
+      let low : first_below (λ j. eqb (get_or numbers j 0) number) used < used = omega (arith, is) in
       ap (λ (j : ℕ). get_or numbers j 0) is ∙ eqb-true _ _ (first_passes (λ j. eqb (get_or numbers j 0) number) used low)
 
   pub found_nowhere : used ≤ i → (j : ℕ) → j < used → get_or numbers j 0 ≡ number → ⊥
-  found_nowhere h j l = eqb-false _ _ (first-before (λ k. eqb (get_or numbers k 0) number) used j (omega (arith, is)))
+  found_nowhere h j l = eqb-false _ _ (first_before (λ k. eqb (get_or numbers k 0) number) used j (omega (arith, is)))
 
-module _ (numbers : List ℕ) (closed : List Bool) (used number : ℕ) {i : ℕ} (is : i ≡ firstBelow (λ j. eqb (get_or numbers j 0) number) used) where
-  pub known : {fate : ℕ → Fate} → Remembers fate numbers closed used → i < used → fate number ≡ fateOf (get_or closed i false)
+module _ (numbers : List ℕ) (closed : List Bool) (used number : ℕ) {i : ℕ} (is : i ≡ first_below (λ j. eqb (get_or numbers j 0) number) used) where
+  pub known : {fate : ℕ → Fate} → Remembers fate numbers closed used → i < used → fate number ≡ fate_of (get_or closed i false)
   known {fate} m h = ap fate (sym (found_here numbers used number is h)) ∙ m.right i h
 
   module _ {fate later : ℕ → Fate} (same : (n : ℕ) → (n ≡ number → ⊥) → later n ≡ fate n) (m : Remembers fate numbers closed used) where
@@ -37,11 +37,11 @@ module _ (numbers : List ℕ) (closed : List Bool) (used number : ℕ) {i : ℕ}
         → Remembers later (set numbers i (get_or numbers (used - 1) 0)) (set closed i (get_or closed (used - 1) false)) (used - 1)
     forgot h long wide = record { right = λ j l. right j l (ℕ_discrete j i); once = λ j k l n e. once j k l n e (ℕ_discrete j i) (ℕ_discrete k i) }
       where
-        others : (j : ℕ) → j < used → (j ≡ i → ⊥) → later (get_or numbers j 0) ≡ fateOf (get_or closed j false)
+        others : (j : ℕ) → j < used → (j ≡ i → ⊥) → later (get_or numbers j 0) ≡ fate_of (get_or closed j false)
         others j l ne = same _ (λ e. ne (m.once j i l h (e ∙ sym (found_here numbers used number is h)))) ∙ m.right j l
 
         right : (j : ℕ) → j < used - 1 → Dec (j ≡ i)
-            → later (get_or (set numbers i (get_or numbers (used - 1) 0)) j 0) ≡ fateOf (get_or (set closed i (get_or closed (used - 1) false)) j false)
+            → later (get_or (set numbers i (get_or numbers (used - 1) 0)) j 0) ≡ fate_of (get_or (set closed i (get_or closed (used - 1) false)) j false)
         right j l (yes e) =
             rw (e, get_or-set_same numbers i (get_or numbers (used - 1) 0) 0 (omega arith), get_or-set_same closed i (get_or closed (used - 1) false) false (omega arith))
             (others (used - 1) (omega arith) (λ z. omega arith))
@@ -68,15 +68,15 @@ module _ (numbers : List ℕ) (closed : List Bool) (used number : ℕ) {i : ℕ}
             (rw (get_or-set_other numbers i j (get_or numbers (used - 1) 0) 0 a, get_or-set_other numbers i k (get_or numbers (used - 1) 0) 0 b) at e)
 
 -- nothing is remembered at first
-pub remembers-none : (fate : ℕ → Fate) (numbers : List ℕ) (closed : List Bool) → Remembers fate numbers closed 0
-remembers-none fate numbers closed = record { right = λ j l. absurd (omega arith); once = λ j k l n e. absurd (omega arith) }
+pub remembers_none : (fate : ℕ → Fate) (numbers : List ℕ) (closed : List Bool) → Remembers fate numbers closed 0
+remembers_none fate numbers closed = record { right = λ j l. absurd (omega arith); once = λ j k l n e. absurd (omega arith) }
 
 -- the same fates, read from a later position
-pub remembers-later : {fate later : ℕ → Fate} {numbers : List ℕ} {closed : List Bool} {used : ℕ} → ((n : ℕ) → later n ≡ fate n)
+pub remembers_later : {fate later : ℕ → Fate} {numbers : List ℕ} {closed : List Bool} {used : ℕ} → ((n : ℕ) → later n ≡ fate n)
     → Remembers fate numbers closed used → Remembers later numbers closed used
-remembers-later same m = record { right = λ j l. same _ ∙ m.right j l; once = m.once }
+remembers_later same m = record { right = λ j l. same _ ∙ m.right j l; once = m.once }
 
 -- the first of them
-pub remembers-fewer : {fate : ℕ → Fate} {numbers : List ℕ} {closed : List Bool} {used few : ℕ} → few ≤ used
+pub remembers_fewer : {fate : ℕ → Fate} {numbers : List ℕ} {closed : List Bool} {used few : ℕ} → few ≤ used
     → Remembers fate numbers closed used → Remembers fate numbers closed few
-remembers-fewer h m = record { right = λ j l. m.right j (omega (arith, h, l)); once = λ j k l n e. m.once j k (omega (arith, h, l)) (omega (arith, h, n)) e }
+remembers_fewer h m = record { right = λ j l. m.right j (omega (arith, h, l)); once = λ j k l n e. m.once j k (omega (arith, h, l)) (omega (arith, h, n)) e }

@@ -3,12 +3,12 @@ ghost use Rattle.std.specs.Prelude.{◌≡◌, List, true, false, ℕ, ◌≤◌
 ghost use Rattle.model.specs.declared.Sizes.{Sizes};
 ghost use Rattle.model.specs.declared.Fate.{Fate};
 ghost use Rattle.model.specs.declared.Fate.TheVariants.{Closed, Unreadable};
-ghost use Rattle.model.specs.Scan.{scan, fateIn};
-ghost use Rattle.log.specs.Ring.{readRing, Ring, EntriesOf, Entries};
-ghost use Rattle.run.specs.Run.{fateOf, Remembers, Searched};
+ghost use Rattle.model.specs.Scan.{scan, fate_in};
+ghost use Rattle.disk_log.specs.Ring.{read_ring, Ring, EntriesOf, Entries};
+ghost use Rattle.run.specs.Run.{fate_of, Remembers, Searched};
 
 use crate::fates::find;
-use log::ring::{advance, decode_ring};
+use disk_log::ring::{advance, decode_ring};
 use model::{Decoded, Fate};
 
 // A fate, and how many are remembered now.
@@ -20,7 +20,7 @@ pub struct Recalled {
 
 // The fate that is remembered of a transaction that is closed, or is not.
 pub fn known_fate(closed: bool) -> Fate
-    ensures { result ≡ fateOf closed }
+    ensures { result ≡ fate_of closed }
 {
     if closed { Fate::Closed } else { Fate::Unclosed }
 }
@@ -114,9 +114,9 @@ pub fn search_ahead(
     requires { (used < 16) × (length numbers.old ≡ 16) × (length closed.old ≡ 16) × Entries slots.now widths.now × Ring ring.now tail }
     ensures { (result.used ≤ 16) × ((s : Sizes) → EntriesOf s slots.now widths.now
         → ((i : ℕ) → i < used → get_or numbers.old i 0 ≡ sought → ⊥)
-        → Remembers (λ n. fateIn n (scan s (readRing ring.now) tail from)) numbers.old closed.old used
-        → (result.fate ≡ fateIn sought (scan s (readRing ring.now) tail from))
-        × Remembers (λ n. fateIn n (scan s (readRing ring.now) tail from)) numbers.new closed.new result.used) }
+        → Remembers (λ n. fate_in n (scan s (read_ring ring.now) tail from)) numbers.old closed.old used
+        → (result.fate ≡ fate_in sought (scan s (read_ring ring.now) tail from))
+        × Remembers (λ n. fate_in n (scan s (read_ring ring.now) tail from)) numbers.new closed.new result.used) }
 {
     numbers[used] = sought;
     closed[used] = false;

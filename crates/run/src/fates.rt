@@ -4,9 +4,9 @@
 ghost use Rattle.std.specs.Prelude.{◌≡◌, ℕ, ◌≤◌, ◌<◌, eqb, length, get_or};
 ghost use Rattle.model.specs.declared.Sizes.{Sizes};
 ghost use Rattle.model.specs.declared.Fate.{Fate};
-ghost use Rattle.model.specs.Below.{firstBelow};
-ghost use Rattle.model.specs.Scan.{scan, fateIn};
-ghost use Rattle.log.specs.Ring.{readRing, Ring, EntriesOf, Entries};
+ghost use Rattle.model.specs.Below.{first_below};
+ghost use Rattle.model.specs.Scan.{scan, fate_in};
+ghost use Rattle.disk_log.specs.Ring.{read_ring, Ring, EntriesOf, Entries};
 ghost use Rattle.run.specs.Run.{Remembers};
 
 use crate::ahead::{Recalled, known_fate, search_ahead};
@@ -14,7 +14,7 @@ use crate::ahead::{Recalled, known_fate, search_ahead};
 // The place of a number; `used` where it is not remembered.
 pub fn find(numbers: &[u64], used: usize, number: u64) -> usize
     requires { used ≤ length numbers.now }
-    ensures { result ≡ firstBelow (λ i. eqb (get_or numbers.now i 0) number) used }
+    ensures { result ≡ first_below (λ i. eqb (get_or numbers.now i 0) number) used }
 {
     let mut i: usize = 0;
     while i < used {
@@ -64,9 +64,9 @@ pub fn recall(
 ) -> Recalled
     requires { (used ≤ 16) × (length numbers.old ≡ 16) × (length closed.old ≡ 16) × Entries slots.now widths.now × Ring ring.now tail }
     ensures { (result.used ≤ 16) × ((s : Sizes) → EntriesOf s slots.now widths.now
-        → Remembers (λ n. fateIn n (scan s (readRing ring.now) tail from)) numbers.old closed.old used
-        → (result.fate ≡ fateIn number (scan s (readRing ring.now) tail from))
-        × Remembers (λ n. fateIn n (scan s (readRing ring.now) tail from)) numbers.new closed.new result.used) }
+        → Remembers (λ n. fate_in n (scan s (read_ring ring.now) tail from)) numbers.old closed.old used
+        → (result.fate ≡ fate_in number (scan s (read_ring ring.now) tail from))
+        × Remembers (λ n. fate_in n (scan s (read_ring ring.now) tail from)) numbers.new closed.new result.used) }
 {
     let i = find(numbers, used, number);
     if i < used {

@@ -1,12 +1,12 @@
 // Row 7 of a run: its first record, and the search ahead for that record's transaction alone.
 ghost use Rattle.std.specs.Prelude.{◌≡◌, ◌<◌};
 ghost use Rattle.model.specs.declared.Sizes.{Sizes};
-ghost use Rattle.model.specs.Decode.{decodeAt};
-ghost use Rattle.model.specs.Scan.{scan, fateIn};
-ghost use Rattle.log.specs.Ring.{readRing, Ring, EntriesOf, Entries};
-ghost use Rattle.run.specs.Run.{faultAt};
+ghost use Rattle.model.specs.Decode.{decode_at};
+ghost use Rattle.model.specs.Scan.{scan, fate_in};
+ghost use Rattle.disk_log.specs.Ring.{read_ring, Ring, EntriesOf, Entries};
+ghost use Rattle.run.specs.Run.{fault_at};
 
-use log::ring::{advance, decode_ring};
+use disk_log::ring::{advance, decode_ring};
 use model::{Decoded, Fate, Fault};
 
 // The search ahead for a transaction's closing record, by index.
@@ -19,7 +19,7 @@ fn fate_in_ring(
     number: u64,
 ) -> Fate
     requires { Entries slots.now widths.now × Ring ring.now tail }
-    ensures { (s : Sizes) → EntriesOf s slots.now widths.now → result ≡ fateIn number (scan s (readRing ring.now) tail from) }
+    ensures { (s : Sizes) → EntriesOf s slots.now widths.now → result ≡ fate_in number (scan s (read_ring ring.now) tail from) }
 {
     let size = ring.len() as u64;
     let mut p = from;
@@ -61,7 +61,7 @@ pub fn record_fault(
     p: u64,
 ) -> Fault
     requires { Entries slots.now widths.now × Ring ring.now tail × (p < tail) }
-    ensures { (s : Sizes) → EntriesOf s slots.now widths.now → result ≡ faultAt s (readRing ring.now) tail disk p (decodeAt s (readRing ring.now) tail p) }
+    ensures { (s : Sizes) → EntriesOf s slots.now widths.now → result ≡ fault_at s (read_ring ring.now) tail disk p (decode_at s (read_ring ring.now) tail p) }
 {
     let at = p % ring.len() as u64;
     let here = decode_ring(slots, widths, ring, tail, p, at);

@@ -1,13 +1,13 @@
 // One record of a log in a run, with no state handed on.
 ghost use Rattle.std.specs.Prelude.{◌≡◌, ◌-◌, ◌≤◌, length};
 ghost use Rattle.model.specs.declared.Sizes.{Sizes};
-ghost use Rattle.model.specs.Decode.{decodeAt};
-ghost use Rattle.model.specs.Scan.{scan, fateIn};
-ghost use Rattle.log.specs.Ring.{readRing, Ring, InRing};
+ghost use Rattle.model.specs.Decode.{decode_at};
+ghost use Rattle.model.specs.Scan.{scan, fate_in};
+ghost use Rattle.disk_log.specs.Ring.{read_ring, Ring, InRing};
 ghost use Rattle.run.specs.Run.{Remembers, LaidOf, Laid, Takes};
 
 use crate::fates::{forget, recall};
-use log::ring::{advance, decode_ring};
+use disk_log::ring::{advance, decode_ring};
 use model::{Decoded, Fate};
 use replay::record::is_replayed;
 use replay::ring::replay_ring;
@@ -38,9 +38,9 @@ pub fn take_record(
         × (length bases.now ≡ 64) × Laid slots.now widths.now bases.now pages.old }
     ensures used_bound { (result.used ≤ 16) × (p ≤ result.next) × (result.next - p ≤ 35) × (result.next ≤ tail) }
     ensures takes { (s : Sizes) → LaidOf s slots.now widths.now bases.now pages.old
-        → Remembers (λ n. fateIn n (scan s (readRing ring.now) tail p)) numbers.old closed.old used
-        → Takes s epoch tail (readRing ring.now) p pages.old pages.new result.next (decodeAt s (readRing ring.now) tail p)
-        × ((result.next ≡ p → ⊥) → Remembers (λ n. fateIn n (scan s (readRing ring.now) tail result.next)) numbers.new closed.new result.used) }
+        → Remembers (λ n. fate_in n (scan s (read_ring ring.now) tail p)) numbers.old closed.old used
+        → Takes s epoch tail (read_ring ring.now) p pages.old pages.new result.next (decode_at s (read_ring ring.now) tail p)
+        × ((result.next ≡ p → ⊥) → Remembers (λ n. fate_in n (scan s (read_ring ring.now) tail result.next)) numbers.new closed.new result.used) }
 {
     let here = decode_ring(slots, widths, ring, tail, p, at);
     match here {

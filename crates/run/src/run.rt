@@ -1,12 +1,12 @@
 // Restart run: steps of one source, as many as are asked for, or until the next would be refused.
 ghost use Rattle.std.specs.Prelude.{◌≡◌, List, ℕ, ◌*◌, ◌<◌, min, length, get_or};
 ghost use Rattle.model.specs.Sizes.{total};
-ghost use Rattle.model.specs.World.{worldOf};
-ghost use Rattle.model.specs.Moments.{old, new, oldWorld};
-ghost use Rattle.model.specs.State.{tailOf};
+ghost use Rattle.model.specs.World.{world_of};
+ghost use Rattle.model.specs.Moments.{old, new, old_world};
+ghost use Rattle.model.specs.State.{tail_of};
 ghost use Rattle.model.specs.Restart.{moved_to};
-ghost use Rattle.model.specs.Call.{Gives, restartRun};
-ghost use Rattle.log.specs.Ring.{Ring};
+ghost use Rattle.model.specs.Call.{Gives, restart_run};
+ghost use Rattle.disk_log.specs.Ring.{Ring};
 ghost use Rattle.replay.specs.Step.{Replays, OnLog};
 ghost use Rattle.run.specs.Run.{RunsOn, Passes, RanOn, DiskRing};
 
@@ -16,7 +16,7 @@ use frame::checks::common_refusal;
 use frame::settle::{finish, refuse, refuse_at};
 use frame::stages::When;
 use layout::disks::disk_at;
-use log::ring::{advance, ring_words};
+use disk_log::ring::{advance, ring_words};
 use model::{Core, Fault, Replay, Reply};
 use replay::record::move_on;
 use replay::ring::page_bases;
@@ -40,10 +40,10 @@ pub struct Ran {
 
 // Takes the next records of a log, whose ring is handed in.
 fn run_ring(core: Core, disk: u64, ring: &[u64], most: u64, pages: &mut [u64]) -> Ran
-    requires { Replays core × (disk < core.sizes.disks) × (length pages.old ≡ total core.sizes) × Ring ring.now (tailOf core.logs disk) }
+    requires { Replays core × (disk < core.sizes.disks) × (length pages.old ≡ total core.sizes) × Ring ring.now (tail_of core.logs disk) }
     ensures { (anchor backups logs work : List ℕ) → DiskRing core.sizes logs disk ring.now
-        → Passes core (worldOf anchor pages.old backups logs work)
-        → RanOn disk most core (worldOf anchor pages.old backups logs work) result.made (moved_to core disk result.position) (worldOf anchor pages.new backups logs work) }
+        → Passes core (world_of anchor pages.old backups logs work)
+        → RanOn disk most core (world_of anchor pages.old backups logs work) result.made (moved_to core disk result.position) (world_of anchor pages.new backups logs work) }
 {
     let sizes = core.sizes;
     let slots = sizes.slots;
@@ -89,8 +89,8 @@ fn run_ring(core: Core, disk: u64, ring: &[u64], most: u64, pages: &mut [u64]) -
 // Steps of a log. Its first record is checked before any is taken: the rows are those of a step, however few are asked for.
 fn run_log(core: Core, disk: u64, most: u64, pages: &mut [u64], logs: &[u64]) -> Reply
     requires { OnLog core disk pages.old logs.now }
-    ensures { (anchor backups work : List ℕ) → Passes core (worldOf anchor pages.old backups logs.now work)
-        → RunsOn core (worldOf anchor pages.old backups logs.now work) disk most result (worldOf anchor pages.new backups logs.now work) }
+    ensures { (anchor backups work : List ℕ) → Passes core (world_of anchor pages.old backups logs.now work)
+        → RunsOn core (world_of anchor pages.old backups logs.now work) disk most result (world_of anchor pages.new backups logs.now work) }
 {
     let sizes = core.sizes;
     let slots = sizes.slots;
@@ -126,8 +126,8 @@ fn lesser(a: u64, b: u64) -> u64
 // Steps of the backup: its next pages.
 fn run_backup(core: Core, most: u64, pages: &mut [u64], backups: &[u64]) -> Reply
     requires { Replays core × (length pages.old ≡ total core.sizes) × (length backups.now ≡ 2 * total core.sizes) }
-    ensures { (anchor logs work : List ℕ) → Passes core (worldOf anchor pages.old backups.now logs work)
-        → RunsOn core (worldOf anchor pages.old backups.now logs work) core.sizes.disks most result (worldOf anchor pages.new backups.now logs work) }
+    ensures { (anchor logs work : List ℕ) → Passes core (world_of anchor pages.old backups.now logs work)
+        → RunsOn core (world_of anchor pages.old backups.now logs work) core.sizes.disks most result (world_of anchor pages.new backups.now logs work) }
 {
     let sizes = core.sizes;
     let replay = core.replay;
@@ -166,8 +166,8 @@ pub fn run(
     logs: &[u64],
     work: &[u64],
 ) -> Reply
-    ensures { Gives (restartRun source most) core (oldWorld anchor pages backups logs work)
-        result 0 (worldOf (old anchor) (new pages) (old backups) (old logs) (old work)) }
+    ensures { Gives (restart_run source most) core (old_world anchor pages backups logs work)
+        result 0 (world_of (old anchor) (new pages) (old backups) (old logs) (old work)) }
 {
     let refusal = common_refusal(When::Replaying, core, anchor, pages, backups, logs, work);
     if refusal != 0 {

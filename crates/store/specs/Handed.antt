@@ -4,8 +4,8 @@ use Rattle.model.specs.declared.Carried.{Carried}
 use Rattle.model.specs.declared.Handed.{Handed}
 use Rattle.store.specs.declared.Called.{Called}
 
-abbrev pub handedOf : Called → Handed
-handedOf called = record { answer = called.answer; carried = called.state.carried }
+abbrev pub handed_of : Called → Handed
+handed_of called = record { answer = called.answer; carried = called.state.carried }
 
 abbrev pub Arrays : Carried → Type 0
 Arrays h = (length h.starts ≡ 8) × (length h.tails ≡ 8) × (length h.ends ≡ 8)

@@ -1,11 +1,11 @@
 // The three calls of a checkpoint.
 ghost use Rattle.std.specs.Prelude.{◌≡◌, true};
-ghost use Rattle.model.specs.World.{worldOf};
-ghost use Rattle.model.specs.Moments.{old, new, oldWorld};
+ghost use Rattle.model.specs.World.{world_of};
+ghost use Rattle.model.specs.Moments.{old, new, old_world};
 ghost use Rattle.model.specs.State.{sound};
-ghost use Rattle.model.specs.Call.{checkpointBegin, checkpointStep, checkpointEnd};
+ghost use Rattle.model.specs.Call.{checkpoint_begin, checkpoint_step, checkpoint_end};
 ghost use Rattle.model.specs.View.{core_of, Serves};
-ghost use Rattle.store.specs.Handed.{handedOf};
+ghost use Rattle.store.specs.Handed.{handed_of};
 
 use crate::whole::{kept, loaded};
 use crate::{Called, State};
@@ -20,8 +20,8 @@ pub fn checkpoint_begin(
     logs: &[u64],
     work: &mut [u64],
 ) -> Called
-    ensures serves { Serves checkpointBegin state.carried (oldWorld anchor pages backups logs work)
-        (handedOf result) 0 (worldOf (old anchor) (old pages) (old backups) (old logs) (new work)) }
+    ensures serves { Serves checkpoint_begin state.carried (old_world anchor pages backups logs work)
+        (handed_of result) 0 (world_of (old anchor) (old pages) (old backups) (old logs) (new work)) }
     ensures work_value { sound (core_of state.carried (old work)) ≡ true → sound (core_of result.state.carried (new work)) ≡ true }
 {
     let core = loaded(state, work);
@@ -40,8 +40,8 @@ pub fn checkpoint_step(
     work: &mut [u64],
     budget: &mut u64,
 ) -> Called
-    ensures serves { Serves (checkpointStep (old budget)) state.carried (oldWorld anchor pages backups logs work)
-        (handedOf result) (new budget) (worldOf (old anchor) (old pages) (new backups) (old logs) (new work)) }
+    ensures serves { Serves (checkpoint_step (old budget)) state.carried (old_world anchor pages backups logs work)
+        (handed_of result) (new budget) (world_of (old anchor) (old pages) (new backups) (old logs) (new work)) }
     ensures work_value { sound (core_of state.carried (old work)) ≡ true → sound (core_of result.state.carried (new work)) ≡ true }
 {
     let core = loaded(state, work);
@@ -68,8 +68,8 @@ pub fn checkpoint_end(
     work: &mut [u64],
     budget: &mut u64,
 ) -> Called
-    ensures serves { Serves (checkpointEnd (old budget)) state.carried (oldWorld anchor pages backups logs work)
-        (handedOf result) (new budget) (worldOf (new anchor) (old pages) (old backups) (new logs) (new work)) }
+    ensures serves { Serves (checkpoint_end (old budget)) state.carried (old_world anchor pages backups logs work)
+        (handed_of result) (new budget) (world_of (new anchor) (old pages) (old backups) (new logs) (new work)) }
     ensures work_value { sound (core_of state.carried (old work)) ≡ true → sound (core_of result.state.carried (new work)) ≡ true }
 {
     let core = loaded(state, work);

@@ -1,11 +1,11 @@
 // Format.
 ghost use Rattle.std.specs.Prelude.{◌≡◌, true};
-ghost use Rattle.model.specs.World.{worldOf};
-ghost use Rattle.model.specs.Moments.{old, new, oldWorld};
+ghost use Rattle.model.specs.World.{world_of};
+ghost use Rattle.model.specs.Moments.{old, new, old_world};
 ghost use Rattle.model.specs.State.{sound};
 ghost use Rattle.model.specs.Call.{format};
 ghost use Rattle.model.specs.View.{core_of, Serves};
-ghost use Rattle.store.specs.Handed.{handedOf};
+ghost use Rattle.store.specs.Handed.{handed_of};
 
 use crate::whole::{kept, loaded};
 use crate::{Called, State};
@@ -28,7 +28,7 @@ pub fn format(
     budget: &mut u64,
 ) -> Called
     ensures serves { Serves (format (record { pages = pages_count; disks = disks; ring = ring; slots = slots; widths = widths }) (old budget))
-        state.carried (oldWorld anchor pages backups logs work) (handedOf result) (new budget) (worldOf (new anchor) (new pages) (new backups) (new logs) (new work)) }
+        state.carried (old_world anchor pages backups logs work) (handed_of result) (new budget) (world_of (new anchor) (new pages) (new backups) (new logs) (new work)) }
     ensures work_value { sound (core_of state.carried (old work)) ≡ true → sound (core_of result.state.carried (new work)) ≡ true }
 {
     let core = loaded(state, work);

@@ -9,7 +9,7 @@ mod whole;
 ghost use Rattle.std.specs.Prelude.{◌≡◌, true, List, ℕ};
 ghost use Rattle.model.specs.World.{World};
 ghost use Rattle.model.specs.State.{sound};
-ghost use Rattle.model.specs.Call.{newState};
+ghost use Rattle.model.specs.Call.{new_state};
 ghost use Rattle.model.specs.View.{core_of, Serves};
 ghost use Rattle.store.specs.Handed.{Arrays};
 
@@ -31,7 +31,7 @@ pub struct Called {
 
 // A shut store: what one starts with, and what lost power leaves. Whatever is lent to it, the state is a new one.
 pub fn new_state() -> State
-    ensures serves { (h : Carried) (w : World) → Serves newState h w (record { answer = Answer.Finished 0 0; carried = result.carried }) 0 w }
+    ensures serves { (h : Carried) (w : World) → Serves new_state h w (record { answer = Answer.Finished 0 0; carried = result.carried }) 0 w }
     ensures by_index { (work : List ℕ) → sound (core_of result.carried work) ≡ true }
 {
     let carried = new_carried();

@@ -1,12 +1,12 @@
 // The calls of a restart, and what remains of a source.
 ghost use Rattle.std.specs.Prelude.{◌≡◌, true};
-ghost use Rattle.model.specs.World.{worldOf};
-ghost use Rattle.model.specs.Moments.{old, new, oldWorld};
+ghost use Rattle.model.specs.World.{world_of};
+ghost use Rattle.model.specs.Moments.{old, new, old_world};
 ghost use Rattle.model.specs.State.{sound};
 ghost use Rattle.model.specs.Restart.{remaining};
-ghost use Rattle.model.specs.Call.{restartBegin, restartStep, restartRun, restartEnd};
+ghost use Rattle.model.specs.Call.{restart_begin, restart_step, restart_run, restart_end};
 ghost use Rattle.model.specs.View.{core_of, Serves};
-ghost use Rattle.store.specs.Handed.{handedOf};
+ghost use Rattle.store.specs.Handed.{handed_of};
 
 use crate::whole::{kept, loaded};
 use crate::{Called, State, carried_of, hand_back};
@@ -21,8 +21,8 @@ pub fn restart_begin(
     logs: &[u64],
     work: &mut [u64],
 ) -> Called
-    ensures serves { Serves restartBegin state.carried (oldWorld anchor pages backups logs work)
-        (handedOf result) 0 (worldOf (old anchor) (new pages) (old backups) (old logs) (new work)) }
+    ensures serves { Serves restart_begin state.carried (old_world anchor pages backups logs work)
+        (handed_of result) 0 (world_of (old anchor) (new pages) (old backups) (old logs) (new work)) }
     ensures work_value { sound (core_of state.carried (old work)) ≡ true → sound (core_of result.state.carried (new work)) ≡ true }
 {
     let core = loaded(state, work);
@@ -41,8 +41,8 @@ pub fn restart_step(
     logs: &[u64],
     work: &mut [u64],
 ) -> Called
-    ensures serves { Serves (restartStep source) state.carried (oldWorld anchor pages backups logs work)
-        (handedOf result) 0 (worldOf (old anchor) (new pages) (old backups) (old logs) (new work)) }
+    ensures serves { Serves (restart_step source) state.carried (old_world anchor pages backups logs work)
+        (handed_of result) 0 (world_of (old anchor) (new pages) (old backups) (old logs) (new work)) }
     ensures work_value { sound (core_of state.carried (old work)) ≡ true → sound (core_of result.state.carried (new work)) ≡ true }
 {
     let carried = carried_of(state);
@@ -61,8 +61,8 @@ pub fn restart_run(
     logs: &[u64],
     work: &mut [u64],
 ) -> Called
-    ensures serves { Serves (restartRun source most) state.carried (oldWorld anchor pages backups logs work)
-        (handedOf result) 0 (worldOf (old anchor) (new pages) (old backups) (old logs) (new work)) }
+    ensures serves { Serves (restart_run source most) state.carried (old_world anchor pages backups logs work)
+        (handed_of result) 0 (world_of (old anchor) (new pages) (old backups) (old logs) (new work)) }
     ensures work_value { sound (core_of state.carried (old work)) ≡ true → sound (core_of result.state.carried (new work)) ≡ true }
 {
     let core = loaded(state, work);
@@ -90,8 +90,8 @@ pub fn restart_end(
     work: &mut [u64],
     budget: &mut u64,
 ) -> Called
-    ensures serves { Serves (restartEnd (old budget)) state.carried (oldWorld anchor pages backups logs work)
-        (handedOf result) (new budget) (worldOf (new anchor) (old pages) (new backups) (old logs) (new work)) }
+    ensures serves { Serves (restart_end (old budget)) state.carried (old_world anchor pages backups logs work)
+        (handed_of result) (new budget) (world_of (new anchor) (old pages) (new backups) (old logs) (new work)) }
     ensures work_value { sound (core_of state.carried (old work)) ≡ true → sound (core_of result.state.carried (new work)) ≡ true }
 {
     let core = loaded(state, work);

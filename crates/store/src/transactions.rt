@@ -1,12 +1,12 @@
 // The calls of a transaction.
 ghost use Rattle.std.specs.Prelude.{◌≡◌, true, List, ℕ};
-ghost use Rattle.model.specs.World.{worldOf};
-ghost use Rattle.model.specs.Moments.{old, new, oldWorld};
+ghost use Rattle.model.specs.World.{world_of};
+ghost use Rattle.model.specs.Moments.{old, new, old_world};
 ghost use Rattle.model.specs.State.{sound};
-ghost use Rattle.model.specs.Transaction.{readWords};
-ghost use Rattle.model.specs.Call.{begin, update, read, commit, abort, setClasses, look};
+ghost use Rattle.model.specs.Transaction.{read_words};
+ghost use Rattle.model.specs.Call.{begin, update, read, commit, abort, set_classes, look};
 ghost use Rattle.model.specs.View.{core_of, body_of, Serves};
-ghost use Rattle.store.specs.Handed.{handedOf};
+ghost use Rattle.store.specs.Handed.{handed_of};
 
 use crate::{Called, State, carried_of, hand_back};
 use model::Answer;
@@ -21,8 +21,8 @@ pub fn begin(
     logs: &[u64],
     work: &mut [u64],
 ) -> Called
-    ensures serves { Serves (begin class) state.carried (oldWorld anchor pages backups logs work)
-        (handedOf result) 0 (worldOf (old anchor) (old pages) (old backups) (old logs) (new work)) }
+    ensures serves { Serves (begin class) state.carried (old_world anchor pages backups logs work)
+        (handed_of result) 0 (world_of (old anchor) (old pages) (old backups) (old logs) (new work)) }
     ensures work_value { sound (core_of state.carried (old work)) ≡ true → sound (core_of result.state.carried (new work)) ≡ true }
 {
     let carried = carried_of(state);
@@ -32,8 +32,8 @@ pub fn begin(
 
 // Sets which disks serve which class, from 1 to 16 lines of three words: lowest class, highest class, set of disks. No device is lent.
 pub fn set_classes(state: State, lines: &[u64], work: &[u64]) -> Called
-    ensures serves { (anchor pages backups logs : List ℕ) → Serves (setClasses (old lines)) state.carried (worldOf anchor pages backups logs (old work))
-        (handedOf result) 0 (worldOf anchor pages backups logs (old work)) }
+    ensures serves { (anchor pages backups logs : List ℕ) → Serves (set_classes (old lines)) state.carried (world_of anchor pages backups logs (old work))
+        (handed_of result) 0 (world_of anchor pages backups logs (old work)) }
     ensures work_value { sound (core_of state.carried (old work)) ≡ true → sound (core_of result.state.carried (old work)) ≡ true }
 {
     let carried = carried_of(state);
@@ -55,8 +55,8 @@ pub fn update(
     work: &mut [u64],
     budget: &mut u64,
 ) -> Called
-    ensures serves { Serves (update number page slot (old value) (old budget)) state.carried (oldWorld anchor pages backups logs work)
-        (handedOf result) (new budget) (worldOf (old anchor) (new pages) (old backups) (new logs) (new work)) }
+    ensures serves { Serves (update number page slot (old value) (old budget)) state.carried (old_world anchor pages backups logs work)
+        (handed_of result) (new budget) (world_of (old anchor) (new pages) (old backups) (new logs) (new work)) }
     ensures work_value { sound (core_of state.carried (old work)) ≡ true → sound (core_of result.state.carried (new work)) ≡ true }
 {
     let carried = carried_of(state);
@@ -78,7 +78,7 @@ pub fn read<'a>(
     logs: &[u64],
     work: &[u64],
 ) -> &'a [u64]
-    ensures { result.now ≡ readWords (core_of state.carried (old work)) (body_of (oldWorld anchor pages backups logs work)) reader page slot }
+    ensures { result.now ≡ read_words (core_of state.carried (old work)) (body_of (old_world anchor pages backups logs work)) reader page slot }
 {
     access::read::read(
         state.carried,
@@ -105,8 +105,8 @@ pub fn read_answer(
     logs: &[u64],
     work: &[u64],
 ) -> Answer
-    ensures { Serves (look (read reader page slot)) state.carried (oldWorld anchor pages backups logs work)
-        (record { answer = result; carried = state.carried }) 0 (oldWorld anchor pages backups logs work) }
+    ensures { Serves (look (read reader page slot)) state.carried (old_world anchor pages backups logs work)
+        (record { answer = result; carried = state.carried }) 0 (old_world anchor pages backups logs work) }
 {
     access::read::read_answer(
         state.carried,
@@ -132,8 +132,8 @@ pub fn commit(
     work: &mut [u64],
     budget: &mut u64,
 ) -> Called
-    ensures serves { Serves (commit number (old budget)) state.carried (oldWorld anchor pages backups logs work)
-        (handedOf result) (new budget) (worldOf (old anchor) (old pages) (old backups) (new logs) (new work)) }
+    ensures serves { Serves (commit number (old budget)) state.carried (old_world anchor pages backups logs work)
+        (handed_of result) (new budget) (world_of (old anchor) (old pages) (old backups) (new logs) (new work)) }
     ensures work_value { sound (core_of state.carried (old work)) ≡ true → sound (core_of result.state.carried (new work)) ≡ true }
 {
     let carried = carried_of(state);
@@ -152,8 +152,8 @@ pub fn abort(
     work: &mut [u64],
     budget: &mut u64,
 ) -> Called
-    ensures serves { Serves (abort number (old budget)) state.carried (oldWorld anchor pages backups logs work)
-        (handedOf result) (new budget) (worldOf (old anchor) (new pages) (old backups) (new logs) (new work)) }
+    ensures serves { Serves (abort number (old budget)) state.carried (old_world anchor pages backups logs work)
+        (handed_of result) (new budget) (world_of (old anchor) (new pages) (old backups) (new logs) (new work)) }
     ensures work_value { sound (core_of state.carried (old work)) ≡ true → sound (core_of result.state.carried (new work)) ≡ true }
 {
     let carried = carried_of(state);

@@ -1,10 +1,10 @@
 // A call that works on the whole state by value: the state comes from what is carried and from the head, and goes back into both.
 ghost use Rattle.std.specs.Prelude.{◌≡◌, true, ◌++◌, ◌≤◌, length, drop};
 ghost use Rattle.model.specs.Moments.{old, new};
-ghost use Rattle.model.specs.View.{headWords, core_of, carried_of, headAfter};
+ghost use Rattle.model.specs.View.{head_words, core_of, carried_of, head_after};
 ghost use Rattle.head.specs.Narrow.{narrowed};
 ghost use Rattle.head.specs.Saves.{saves};
-ghost use Rattle.store.specs.Handed.{handedOf, Arrays};
+ghost use Rattle.store.specs.Handed.{handed_of, Arrays};
 
 use crate::{Called, State, carried_of, hand_back};
 use head::load::load;
@@ -20,9 +20,9 @@ pub fn loaded(state: State, work: &[u64]) -> Core
 
 // Only a finished call saves a head, and it was lent one.
 pub fn kept(reply: Reply, work: &mut [u64]) -> Called
-    requires { saves reply.answer reply.core.stage ≡ true → headWords ≤ length work.old }
-    ensures result_value { handedOf result ≡ record { answer = reply.answer; carried = carried_of reply.core } }
-    ensures work_value { new work ≡ headAfter reply.answer reply.core (old work) ++ drop headWords (old work) }
+    requires { saves reply.answer reply.core.stage ≡ true → head_words ≤ length work.old }
+    ensures result_value { handed_of result ≡ record { answer = reply.answer; carried = carried_of reply.core } }
+    ensures work_value { new work ≡ head_after reply.answer reply.core (old work) ++ drop head_words (old work) }
 {
     let handed = head::hand::hand_back(reply, work);
     hand_back(handed)

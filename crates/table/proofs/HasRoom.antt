@@ -11,11 +11,11 @@ use lib.ListN.{get_or}
 use borrow.Author.Tests.{le-leb, lt-leb, ne_eqb}
 use Rattle.model.specs.declared.Core.{Core}
 use Rattle.model.specs.declared.Logs.{Logs}
-use Rattle.model.specs.Sizes.{ringOf}
-use Rattle.model.specs.State.{limit, start_of, keptOf, tailOf, fillOf, end_of, reservedOn}
-use Rattle.model.specs.Classes.{in_set, setFor}
-use Rattle.model.specs.Room.{hasRoom, startedBlocks, load_of, noDisk, better, idlestBelow, eligible, idlest}
-use Rattle.table.specs.Parts.{cap, sumsOf, core_of, room_for, idlestIn}
+use Rattle.model.specs.Sizes.{ring_of}
+use Rattle.model.specs.State.{limit, start_of, kept_of, tail_of, fill_of, end_of, reserved_on}
+use Rattle.model.specs.Classes.{in_set, set_for}
+use Rattle.model.specs.Room.{has_room, started_blocks, load_of, no_disk, better, idlest_below, eligible, idlest}
+use Rattle.table.specs.Parts.{cap, sums_of, core_of, room_for, idlest_in}
 
 -- what ends above the limit has no room
 pub no_room : (start end reserved ring need : ℕ) → limit < end + reserved + need → false ≡ room_for start end reserved ring need
@@ -24,25 +24,25 @@ no_room start end reserved ring need h =
     rw (lt-leb (end + reserved + need) limit h) (sym (and-false (leb (end - start + reserved + need) ring)))
 
 -- and what does not, has it where the ring has
-pub room-by-ring : (start end reserved ring need : ℕ) → end + reserved + need ≤ limit
+pub room_by_ring : (start end reserved ring need : ℕ) → end + reserved + need ≤ limit
     → leb (end - start + reserved + need) ring ≡ room_for start end reserved ring need
 unfolding room_for
-room-by-ring start end reserved ring need h =
+room_by_ring start end reserved ring need h =
     rw (le-leb (end + reserved + need) limit h) (sym (and-true (leb (end - start + reserved + need) ring)))
 
 -- the room that is left for nothing more
-pub room-none : (start end reserved ring : ℕ)
+pub room_none : (start end reserved ring : ℕ)
     → (leb (end - start + reserved) ring && leb (end + reserved) limit) ≡ room_for start end reserved ring 0
 unfolding room_for
-room-none start end reserved ring =
+room_none start end reserved ring =
     let near : end - start + reserved + 0 ≡ end - start + reserved = omega arith in
     let far : end + reserved + 0 ≡ end + reserved = omega arith in
     rw (near, far)
 
 -- a sum that is capped above the limit is told from none that has room
-pub counted-capped : (a b : Bool) (start end kept sum ring : ℕ)
+pub counted_capped : (a b : Bool) (start end kept sum ring : ℕ)
     → (eqb kept (min cap sum) && a && b && room_for start end kept ring 0) ≡ (eqb kept sum && a && b && room_for start end kept ring 0)
-counted-capped a b start end kept sum ring =
+counted_capped a b start end kept sum ring =
     elim (dec_le kept limit) [
       | yes h ↦ ap (λ (t : Bool). t && a && b && room_for start end kept ring 0) (small h)
       | no h ↦
@@ -57,38 +57,38 @@ counted-capped a b start end kept sum ring =
         ]
 
 -- The room rule of a disk of a state is that of its numbers.
-pub room-here : (c : Core) (need d : ℕ)
-    → room_for (start_of c.logs d) (end_of c.logs d) (reservedOn c.table d) (ringOf c.sizes d) need ≡ hasRoom c need d
-unfolding hasRoom room_for keptOf
-room-here c need d = refl
+pub room_here : (c : Core) (need d : ℕ)
+    → room_for (start_of c.logs d) (end_of c.logs d) (reserved_on c.table d) (ring_of c.sizes d) need ≡ has_room c need d
+unfolding has_room room_for kept_of
+room_here c need d = refl
 
 -- what `idlest` computes of one disk
-pub choice-computed : (set disks ring : ℕ) (logs : Logs) (sums : List ℕ) (d : ℕ) {r : Bool}
+pub choice_computed : (set disks ring : ℕ) (logs : Logs) (sums : List ℕ) (d : ℕ) {r : Bool}
     → r ≡ (in_set set d && room_for (get_or logs.starts d 0) (get_or logs.tails d 0 + get_or logs.fills d 0) (get_or sums d 0) ring 2)
-    → r ≡ (in_set set d && hasRoom (core_of disks ring logs (sumsOf sums)) 2 d)
-unfolding hasRoom room_for ringOf keptOf start_of tailOf fillOf end_of reservedOn
-choice-computed set disks ring logs sums d h = h
+    → r ≡ (in_set set d && has_room (core_of disks ring logs (sums_of sums)) 2 d)
+unfolding has_room room_for ring_of kept_of start_of tail_of fill_of end_of reserved_on
+choice_computed set disks ring logs sums d h = h
 
 -- the choice reads no more of a state than its disks, ring, logs, the words reserved on each disk, and the set of the class
-pub idlest-parts : (c : Core) (class : ℕ)
-    → idlestIn (setFor c.classes class) (core_of c.sizes.disks c.sizes.ring c.logs (sumsOf c.table.sums)) ≡ idlest c class 2
-unfolding idlestIn idlest eligible hasRoom ringOf reservedOn
-idlest-parts c class = refl
+pub idlest_parts : (c : Core) (class : ℕ)
+    → idlest_in (set_for c.classes class) (core_of c.sizes.disks c.sizes.ring c.logs (sums_of c.table.sums)) ≡ idlest c class 2
+unfolding idlest_in idlest eligible has_room ring_of reserved_on
+idlest_parts c class = refl
 
 -- The better of two disks, where the load is asked before the room. One that may not be chosen is not.
-pub barred-left : (room : Bool) (load : ℕ → ℕ) (disk best : ℕ) → room ≡ false → best ≡ better room load disk best
-barred-left room load disk best none = rw none refl
+pub barred_left : (room : Bool) (load : ℕ → ℕ) (disk best : ℕ) → room ≡ false → best ≡ better room load disk best
+barred_left room load disk best none = rw none refl
 
-module _ (room : Bool) (load : ℕ → ℕ) (disk best : ℕ) {idler : Bool} (asked : idler ≡ (eqb best noDisk || ltb (load disk) (load best))) where
-  pub busier-left : idler ≡ false → best ≡ better room load disk best
-  busier-left left = rw (← asked, left, and-false room) refl
+module _ (room : Bool) (load : ℕ → ℕ) (disk best : ℕ) {idler : Bool} (asked : idler ≡ (eqb best no_disk || ltb (load disk) (load best))) where
+  pub busier_left : idler ≡ false → best ≡ better room load disk best
+  busier_left left = rw (← asked, left, and-false room) refl
 
-  pub idler-taken : idler ≡ true → {there : Bool} → there ≡ room → cond there disk best ≡ better room load disk best
-  idler-taken taken same = rw (← asked, taken, and-true room, same) refl
+  pub idler_taken : idler ≡ true → {there : Bool} → there ≡ room → cond there disk best ≡ better room load disk best
+  idler_taken taken same = rw (← asked, taken, and-true room, same) refl
 
 -- one disk more
-pub idlest-step : (eligible : ℕ → Bool) (logs : Logs) (n best r : ℕ) (room : Bool) → best ≡ idlestBelow eligible (load_of logs) n
-    → room ≡ eligible n → r ≡ better room (λ d. startedBlocks (get_or logs.fills d 0)) n best
-    → r ≡ idlestBelow eligible (load_of logs) (n + 1)
-unfolding idlestBelow load_of fillOf
-idlest-step eligible logs n best r room e q h = rw (h, q, e, add-one n)
+pub idlest_step : (eligible : ℕ → Bool) (logs : Logs) (n best r : ℕ) (room : Bool) → best ≡ idlest_below eligible (load_of logs) n
+    → room ≡ eligible n → r ≡ better room (λ d. started_blocks (get_or logs.fills d 0)) n best
+    → r ≡ idlest_below eligible (load_of logs) (n + 1)
+unfolding idlest_below load_of fill_of
+idlest_step eligible logs n best r room e q h = rw (h, q, e, add-one n)

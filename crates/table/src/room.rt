@@ -2,8 +2,8 @@
 ghost use Rattle.std.specs.Prelude.{◌≡◌, ◌&&◌, ◌||◌, ◌+◌, ◌≤◌, ◌<◌, ltb, eqb, length, get_or};
 ghost use Rattle.model.specs.State.{limit};
 ghost use Rattle.model.specs.Classes.{in_set};
-ghost use Rattle.model.specs.Room.{startedBlocks, noDisk, better};
-ghost use Rattle.table.specs.Parts.{logs_of, sumsOf, core_of, room_for, idlestIn};
+ghost use Rattle.model.specs.Room.{started_blocks, no_disk, better};
+ghost use Rattle.table.specs.Parts.{logs_of, sums_of, core_of, room_for, idlest_in};
 
 use crate::place::CLOSE_WORDS;
 use classes::kept::in_set;
@@ -47,7 +47,7 @@ pub fn has_room(start: u64, tail: u64, fill: u64, reserved: u64, ring: u64, need
 
 // The blocks of 16 words that so many words start.
 fn started_blocks(words: u64) -> u64
-    ensures { result ≡ startedBlocks words }
+    ensures { result ≡ started_blocks words }
 {
     let whole = words / 16;
     if words % 16 == 0 {
@@ -59,7 +59,7 @@ fn started_blocks(words: u64) -> u64
 // A disk with fewer started blocks than the best so far, or the first.
 fn is_idler(fills: &[u64], disk: usize, best: usize) -> bool
     requires { (disk < 8) × (best ≤ 8) × (length fills.now ≡ 8) }
-    ensures { result ≡ (eqb best noDisk || ltb (startedBlocks (get_or fills.now disk 0)) (startedBlocks (get_or fills.now best 0))) }
+    ensures { result ≡ (eqb best no_disk || ltb (started_blocks (get_or fills.now disk 0)) (started_blocks (get_or fills.now best 0))) }
 {
     if best == 8 {
         return true;
@@ -79,7 +79,7 @@ fn better_disk(
     ring: u64,
 ) -> usize
     requires { (disk < 8) × (best ≤ 8) × (length fills.now ≡ 8) }
-    ensures { (result ≤ 8) × (result ≡ better (in_set set disk && room_for start (tail + get_or fills.now disk 0) sum ring 2) (λ d. startedBlocks (get_or fills.now d 0)) disk best) }
+    ensures { (result ≤ 8) × (result ≡ better (in_set set disk && room_for start (tail + get_or fills.now disk 0) sum ring 2) (λ d. started_blocks (get_or fills.now d 0)) disk best) }
 {
     if !is_idler(fills, disk, best) {
         return best;
@@ -106,7 +106,7 @@ pub fn idlest<'a>(
     set: u64,
 ) -> usize
     requires { (disks ≤ 8) × (length fills.now ≡ 8) × (length sums.now ≡ 8) }
-    ensures { (result ≤ 8) × (result ≡ idlestIn set (core_of disks ring (logs_of starts.now tails.now fills.now) (sumsOf sums.now))) }
+    ensures { (result ≤ 8) × (result ≡ idlest_in set (core_of disks ring (logs_of starts.now tails.now fills.now) (sums_of sums.now))) }
 {
     let count = disks as usize;
     let mut best: usize = 8;

@@ -1,8 +1,8 @@
 // The tests that a state made by the calls passes, but for those of its sizes.
 ghost use Rattle.std.specs.Prelude.{◌≡◌, true, ◌&&◌, ℕ, ◌+◌, ◌≤◌, ◌<◌, min, leb, ltb, eqb, get_or, replicate};
 ghost use Rattle.model.specs.Below.{within, all_below};
-ghost use Rattle.model.specs.State.{limit, places, reservedFor, diskSound, placeSound, checkpointSound};
-ghost use Rattle.table.specs.Parts.{cap, entriesOf, table_of, logs_of, core_of, room_for, logSound, entrySound, endWithin, positionWithin};
+ghost use Rattle.model.specs.State.{limit, places, reserved_for, disk_sound, place_sound, checkpoint_sound};
+ghost use Rattle.table.specs.Parts.{cap, entries_of, table_of, logs_of, core_of, room_for, log_sound, entry_sound, end_within, position_within};
 
 use crate::counted::add_place;
 use crate::place::CLOSE_WORDS;
@@ -49,7 +49,7 @@ fn disks_sound<'a>(
     sums: &'a [u64; 8],
 ) -> bool
     requires { disks ≤ 8 }
-    ensures { result ≡ all_below (logSound ring (logs_of starts.now tails.now fills.now) kept.now sums.now) disks }
+    ensures { result ≡ all_below (log_sound ring (logs_of starts.now tails.now fills.now) kept.now sums.now) disks }
 {
     let mut d: usize = 0;
     while d < disks {
@@ -73,7 +73,7 @@ fn entry_sound<'a>(
     reserved: u64,
 ) -> bool
     requires { disks ≤ 8 }
-    ensures { result ≡ entrySound disks (logs_of starts.now tails.now fills.now) number disk first reserved }
+    ensures { result ≡ entry_sound disks (logs_of starts.now tails.now fills.now) number disk first reserved }
 {
     if number == 0 {
         return true;
@@ -104,8 +104,8 @@ fn places_sound<'a>(
     reserved: &'a [u64; 16],
 ) -> bool
     requires { (disks ≤ 8) × (sums.old ≡ replicate 8 0) }
-    ensures d_after { result ≡ true → (d : ℕ) → d < 8 → get_or sums.new d 0 ≡ min cap (reservedFor (table_of numbers.now homes.now reserved.now) d) }
-    ensures value { result ≡ all_below (placeSound (core_of disks 0 (logs_of starts.now tails.now fills.now) (entriesOf numbers.now homes.now firsts.now reserved.now))) places }
+    ensures d_after { result ≡ true → (d : ℕ) → d < 8 → get_or sums.new d 0 ≡ min cap (reserved_for (table_of numbers.now homes.now reserved.now) d) }
+    ensures value { result ≡ all_below (place_sound (core_of disks 0 (logs_of starts.now tails.now fills.now) (entries_of numbers.now homes.now firsts.now reserved.now))) places }
 {
     let mut i: usize = 0;
     while i < 16 {
@@ -130,7 +130,7 @@ fn places_sound<'a>(
 // The disks and the table of an open or copying state.
 pub fn serving_bounds(core: Core) -> bool
     requires { core.sizes.disks ≤ 8 }
-    ensures { result ≡ (all_below (diskSound core) core.sizes.disks && all_below (placeSound core) places) }
+    ensures { result ≡ (all_below (disk_sound core) core.sizes.disks && all_below (place_sound core) places) }
 {
     let disks = core.sizes.disks as usize;
     let mut sums = [0u64; 8];
@@ -161,7 +161,7 @@ pub fn serving_bounds(core: Core) -> bool
 // Each remembered end lies in its log.
 fn ends_sound(disks: usize, logs: Logs, ends: [u64; 8]) -> bool
     requires { disks ≤ 8 }
-    ensures { result ≡ all_below (endWithin logs ends) disks }
+    ensures { result ≡ all_below (end_within logs ends) disks }
 {
     let mut d: usize = 0;
     while d < disks {
@@ -176,7 +176,7 @@ fn ends_sound(disks: usize, logs: Logs, ends: [u64; 8]) -> bool
 // What a copying state passes beside `serving_bounds`.
 pub fn checkpoint_bounds(core: Core) -> bool
     requires { core.sizes.disks ≤ 8 }
-    ensures { result ≡ checkpointSound core }
+    ensures { result ≡ checkpoint_sound core }
 {
     if core.epoch >= LIMIT {
         return false;
@@ -203,7 +203,7 @@ fn position_sound(tail: u64, position: u64) -> bool
 
 fn positions_sound(disks: usize, tails: [u64; 8], positions: [u64; 8]) -> bool
     requires { disks ≤ 8 }
-    ensures { result ≡ all_below (positionWithin tails positions) disks }
+    ensures { result ≡ all_below (position_within tails positions) disks }
 {
     let mut d: usize = 0;
     while d < disks {
@@ -218,7 +218,7 @@ fn positions_sound(disks: usize, tails: [u64; 8], positions: [u64; 8]) -> bool
 // A replaying state, but for its sizes.
 pub fn replay_bounds(core: Core) -> bool
     requires { core.sizes.disks ≤ 8 }
-    ensures { result ≡ (ltb core.epoch limit && leb core.replay.page core.sizes.pages && all_below (positionWithin core.logs.tails core.replay.positions) core.sizes.disks) }
+    ensures { result ≡ (ltb core.epoch limit && leb core.replay.page core.sizes.pages && all_below (position_within core.logs.tails core.replay.positions) core.sizes.disks) }
 {
     if core.epoch >= LIMIT {
         return false;

@@ -7,12 +7,12 @@ use native.Mathlib.Omega.{arith}
 use lib.ListN.{length, drop, set, get_or, replicate, length-set, length-append, length-drop}
 use lib.Seq.{drop-cons, drop-set-lt, get_or-set_same}
 use borrow.Author.Tests.{lt-ltb, le-ltb}
-use Rattle.model.specs.Text.{lastDigits}
+use Rattle.model.specs.Text.{last_digits}
 
 -- What was put ends where the rest starts.
-pub put-ends : (l m piece : List ℕ) (r end : ℕ) → r ≤ end → end ≤ length m → length l ≡ length m → drop r l ≡ piece ++ drop end m →
+pub put_ends : (l m piece : List ℕ) (r end : ℕ) → r ≤ end → end ≤ length m → length l ≡ length m → drop r l ≡ piece ++ drop end m →
     r + length piece ≡ end
-put-ends l m piece r end below inside same e =
+put_ends l m piece r end below inside same e =
     let q = simp (length-append, length-drop) at (ap length e) in
     omega arith
 
@@ -23,34 +23,34 @@ byte_put l i x h =
     rw (add-one i) (drop-cons (set l i x) i 0 k ∙ rw (get_or-set_same l i x 0 h, drop-set-lt (suc i) l i x (omega arith)))
 
 -- the byte before a place
-pub byte-before : (l : List ℕ) (i x : ℕ) → 1 ≤ i → i ≤ length l → drop (i - 1) (set l (i - 1) x) ≡ x ∷ drop i l
-byte-before l i x pos h =
+pub byte_before : (l : List ℕ) (i x : ℕ) → 1 ≤ i → i ≤ length l → drop (i - 1) (set l (i - 1) x) ≡ x ∷ drop i l
+byte_before l i x pos h =
     let e : i - 1 + 1 ≡ i = omega arith in
     rw e at (byte_put l (i - 1) x (omega arith))
 
 module _ (l : List ℕ) (i least rest : ℕ) (above : least < i) (inside : i ≤ length l) where
-  pub digit-last : rest < 10 → lastDigits (i - least) rest ++ drop i l ≡ drop (i - 1) (set l (i - 1) (48 + rest % 10))
-  unfolding lastDigits
-  digit-last h =
+  pub digit_last : rest < 10 → last_digits (i - least) rest ++ drop i l ≡ drop (i - 1) (set l (i - 1) (48 + rest % 10))
+  unfolding last_digits
+  digit_last h =
       let e : i - least ≡ suc (i - 1 - least) = omega arith in
-      rw (e, lt-ltb rest 10 h, byte-before l i (48 + rest % 10) (omega arith) inside)
+      rw (e, lt-ltb rest 10 h, byte_before l i (48 + rest % 10) (omega arith) inside)
 
-  pub digit-more : 10 ≤ rest →
-      lastDigits (i - 1 - least) (rest / 10) ++ drop (i - 1) (set l (i - 1) (48 + rest % 10)) ≡ lastDigits (i - least) rest ++ drop i l
-  unfolding lastDigits
-  digit-more h =
+  pub digit_more : 10 ≤ rest →
+      last_digits (i - 1 - least) (rest / 10) ++ drop (i - 1) (set l (i - 1) (48 + rest % 10)) ≡ last_digits (i - least) rest ++ drop i l
+  unfolding last_digits
+  digit_more h =
       let e : i - least ≡ suc (i - 1 - least) = omega arith in
-      rw (e, le-ltb rest 10 h, append_assoc, byte-before l i (48 + rest % 10) (omega arith) inside)
+      rw (e, le-ltb rest 10 h, append_assoc, byte_before l i (48 + rest % 10) (omega arith) inside)
 
-pub digits-none : (l : List ℕ) (i least rest : ℕ) → i ≤ least → lastDigits (i - least) rest ++ drop i l ≡ drop i l
-unfolding lastDigits
-digits-none l i least rest h = let e : i - least ≡ 0 = omega arith in rw e
+pub digits_none : (l : List ℕ) (i least rest : ℕ) → i ≤ least → last_digits (i - least) rest ++ drop i l ≡ drop i l
+unfolding last_digits
+digits_none l i least rest h = let e : i - least ≡ 0 = omega arith in rw e
 
 -- a byte of a text
-pub text-more : (l text behind : List ℕ) (start left : ℕ) → 1 ≤ left → left ≤ length text → start + left ≤ length l →
+pub text_more : (l text behind : List ℕ) (start left : ℕ) → 1 ≤ left → left ≤ length text → start + left ≤ length l →
     drop (start + left) l ≡ drop left text ++ behind →
     drop (start + (left - 1)) (set l (start + (left - 1)) (get_or text (left - 1) 0)) ≡ drop (left - 1) text ++ behind
-text-more l text behind start left pos h inside e =
+text_more l text behind start left pos h inside e =
     let k : left ≡ suc (left - 1) = omega arith in
     let s : start + (left - 1) + 1 ≡ start + left = omega arith in
     let d : drop (left - 1) text ≡ get_or text (left - 1) 0 ∷ drop left text =
@@ -62,4 +62,4 @@ pub run_more : (l behind : List ℕ) (i end x : ℕ) → 1 ≤ i → i ≤ end �
     drop (i - 1) (set l (i - 1) x) ≡ replicate (end - (i - 1)) x ++ behind
 run_more l behind i end x pos h inside e =
     let k : end - (i - 1) ≡ suc (end - i) = omega arith in
-    rw (k, byte-before l i x pos inside, e)
+    rw (k, byte_before l i x pos inside, e)

@@ -1,12 +1,12 @@
 // Writing text into bytes from its end: what is put stands in front of what is there, and the answer is where it starts.
 ghost use Rattle.std.specs.Prelude.{◌≡◌, ◌+◌, ◌-◌, ◌≤◌, ◌++◌, length, drop, replicate};
-ghost use Rattle.model.specs.Text.{lastDigits};
+ghost use Rattle.model.specs.Text.{last_digits};
 
 // A number in decimal, its last `most` digits.
 pub fn put_number(out: &mut [u8], end: usize, most: usize, n: u64) -> usize
     requires { (most ≤ end) × (end ≤ length out.old) }
-    ensures n_value { result + length (lastDigits most n) ≡ end }
-    ensures out_after { drop result out.new ≡ lastDigits most n ++ drop end out.old }
+    ensures n_value { result + length (last_digits most n) ≡ end }
+    ensures out_after { drop result out.new ≡ last_digits most n ++ drop end out.old }
 {
     let least = end - most;
     let mut i = end;

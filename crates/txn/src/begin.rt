@@ -1,12 +1,12 @@
 // Begin: the next number, and the idlest disk with log room that serves the class.
 ghost use Rattle.std.specs.Prelude.{◌≡◌, true, ℕ, ◌≤◌, length};
 ghost use Rattle.model.specs.declared.Carried.{Carried};
-ghost use Rattle.model.specs.World.{worldOf};
-ghost use Rattle.model.specs.Moments.{old, new, oldWorld};
-ghost use Rattle.model.specs.Classes.{setFor};
+ghost use Rattle.model.specs.World.{world_of};
+ghost use Rattle.model.specs.Moments.{old, new, old_world};
+ghost use Rattle.model.specs.Classes.{set_for};
 ghost use Rattle.model.specs.Room.{idlest};
 ghost use Rattle.model.specs.Call.{begin};
-ghost use Rattle.model.specs.View.{headWords, ownWork, core_of, Serves};
+ghost use Rattle.model.specs.View.{head_words, own_work, core_of, Serves};
 
 use classes::kept::set_for;
 use frame::handed::{finished, refused};
@@ -27,9 +27,9 @@ fn idlest_disk(
     set: u64,
     work: &[u64],
 ) -> usize
-    requires { (disks ≤ 8) × (headWords ≤ length work.now) }
-    ensures { ((h : Carried) (class : ℕ) → ownWork h (old work) ≡ true → h.disks ≡ disks → h.ring ≡ ring → h.starts ≡ starts → h.tails ≡ tails
-        → set ≡ setFor h.classes class → result ≡ idlest (core_of h (old work)) class 2) × (result ≤ 8) }
+    requires { (disks ≤ 8) × (head_words ≤ length work.now) }
+    ensures { ((h : Carried) (class : ℕ) → own_work h (old work) ≡ true → h.disks ≡ disks → h.ring ≡ ring → h.starts ≡ starts → h.tails ≡ tails
+        → set ≡ set_for h.classes class → result ≡ idlest (core_of h (old work)) class 2) × (result ≤ 8) }
 {
     let fills = &work[FILLS_AT..SUMS_AT];
     let sums = &work[SUMS_AT..POSITIONS_AT];
@@ -45,8 +45,8 @@ pub fn begin(
     logs: &[u64],
     work: &mut [u64],
 ) -> Handed
-    ensures { Serves (begin class) carried (oldWorld anchor pages backups logs work)
-        result 0 (worldOf (old anchor) (old pages) (old backups) (old logs) (new work)) }
+    ensures { Serves (begin class) carried (old_world anchor pages backups logs work)
+        result 0 (world_of (old anchor) (old pages) (old backups) (old logs) (new work)) }
 {
     let stage = carried.stage;
     let refusal = lent_refusal(

@@ -2,15 +2,15 @@
 ghost use Rattle.std.specs.Prelude.{◌≡◌, ◌+◌, ◌≤◌, ◌<◌, length};
 ghost use Rattle.model.specs.declared.Sizes.{Sizes};
 ghost use Rattle.model.specs.declared.Logs.{Logs};
-ghost use Rattle.model.specs.World.{World, worldOf};
-ghost use Rattle.model.specs.Moments.{old, new, oldWorld};
+ghost use Rattle.model.specs.World.{World, world_of};
+ghost use Rattle.model.specs.Moments.{old, new, old_world};
 ghost use Rattle.model.specs.State.{places, limit};
 ghost use Rattle.model.specs.Call.{commit};
-ghost use Rattle.model.specs.View.{headWords, Serves};
-ghost use Rattle.model.specs.Fields.{putWords};
-ghost use Rattle.device.specs.Ran.{Ran, withSlices};
-ghost use Rattle.log.specs.Write.{Within, Lent};
-ghost use Rattle.txn.specs.Tasks.{closing, closed, commitRefusal};
+ghost use Rattle.model.specs.View.{head_words, Serves};
+ghost use Rattle.model.specs.Fields.{put_words};
+ghost use Rattle.device.specs.Ran.{Ran, with_slices};
+ghost use Rattle.disk_log.specs.Write.{Within, Lent};
+ghost use Rattle.txn.specs.Tasks.{closing, closed, commit_refusal};
 
 use frame::entry::find_entry;
 use frame::handed::{cut, finished, refused};
@@ -19,14 +19,14 @@ use frame::lent::lent_refusal;
 use head::places::HEAD_WORDS;
 use head::table::{leave, set_fill};
 use layout::anchor::ANCHOR_WORDS;
-use log::kinds::{COMMIT, words_of};
-use log::write::{Home, append_close, flush_disk};
+use disk_log::kinds::{COMMIT, words_of};
+use disk_log::write::{Home, append_close, flush_disk};
 use model::{Carried, Handed};
 use words::saturating_sub;
 
 // Rows 1, 2 and 9, where the lengths other than the anchor's are right.
 fn commit_refusal(entry: u64, anchor: usize) -> u64
-    ensures { result ≡ commitRefusal entry anchor }
+    ensures { result ≡ commit_refusal entry anchor }
 {
     if entry == 1 {
         return 1;
@@ -46,7 +46,7 @@ fn store_close(
     requires fill_bound { home.tail + home.fill + 2 ≤ limit }
     ensures { (s : Sizes) (l : Logs) (w : World) → Lent s l w home logs.old work.old
         → home.disk < length l.tails → home.disk < length l.fills
-        → Ran budget.old budget.new (closing s l w home.disk number) w (withSlices w logs.new work.new) result }
+        → Ran budget.old budget.new (closing s l w home.disk number) w (with_slices w logs.new work.new) result }
 {
     let added = append_close(logs, work, home, COMMIT, number, budget);
     if !added.finished {
@@ -62,8 +62,8 @@ fn store_close(
 
 // Nothing is buffered on the disk, and the place is free; `sum` words stay reserved.
 fn close_place(work: &mut [u64], place: usize, disk: usize, sum: u64)
-    requires { (place < places) × (disk < 8) × (headWords ≤ length work.old) }
-    ensures { new work ≡ putWords (closed place disk sum) (old work) }
+    requires { (place < places) × (disk < 8) × (head_words ≤ length work.old) }
+    ensures { new work ≡ put_words (closed place disk sum) (old work) }
 {
     set_fill(work, disk, 0);
     leave(work, place, disk, sum);
@@ -79,8 +79,8 @@ pub fn commit(
     work: &mut [u64],
     budget: &mut u64,
 ) -> Handed
-    ensures { Serves (commit number (old budget)) carried (oldWorld anchor pages backups logs work)
-        result (new budget) (worldOf (old anchor) (old pages) (old backups) (new logs) (new work)) }
+    ensures { Serves (commit number (old budget)) carried (old_world anchor pages backups logs work)
+        result (new budget) (world_of (old anchor) (old pages) (old backups) (new logs) (new work)) }
 {
     let stage = carried.stage;
     let refusal = lent_refusal(

@@ -2,10 +2,10 @@
 ghost use Rattle.std.specs.Prelude.{◌≡◌, List, ℕ, length};
 ghost use Rattle.model.specs.declared.Carried.{Carried};
 ghost use Rattle.model.specs.Moments.{old};
-ghost use Rattle.model.specs.World.{worldOf};
-ghost use Rattle.model.specs.Call.{setClasses};
+ghost use Rattle.model.specs.World.{world_of};
+ghost use Rattle.model.specs.Call.{set_classes};
 ghost use Rattle.model.specs.View.{Serves};
-ghost use Rattle.txn.specs.ClassChecks.{lentFault};
+ghost use Rattle.txn.specs.ClassChecks.{lent_fault};
 
 use classes::kept::classes_of;
 use classes::lines::{line_count, not_a_table, twice_covered, uncovered_class, wrong_line};
@@ -26,7 +26,7 @@ fn lent_fault(
     lines: &[u64],
 ) -> u64
     ensures { (h : Carried) (memory : List ℕ) → h.stage ≡ stage → h.pages ≡ pages → h.disks ≡ disks → h.ring ≡ ring → h.total ≡ total
-        → length memory ≡ work → result ≡ lentFault h memory (old lines) }
+        → length memory ≡ work → result ≡ lent_fault h memory (old lines) }
 {
     if !is_serving(stage) {
         return 1;
@@ -42,8 +42,8 @@ fn lent_fault(
 
 // Three words a line: lowest class, highest class, set of disks. What is in the work memory does not matter, but it goes with the state.
 pub fn set_classes(carried: Carried, lines: &[u64], work: &[u64]) -> Handed
-    ensures { (anchor pages backups logs : List ℕ) → Serves (setClasses (old lines)) carried (worldOf anchor pages backups logs (old work))
-        result 0 (worldOf anchor pages backups logs (old work)) }
+    ensures { (anchor pages backups logs : List ℕ) → Serves (set_classes (old lines)) carried (world_of anchor pages backups logs (old work))
+        result 0 (world_of anchor pages backups logs (old work)) }
 {
     let stage = carried.stage;
     let fault = lent_fault(

@@ -1,8 +1,8 @@
 // Leaf functions on words: a difference that stops at 0; and on slices, exclusive or, copy, fill, and the difference of a slot, one loop each.
 ghost use Rattle.std.specs.Prelude.{◌≡◌, ◌+◌, ◌-◌, ◌≤◌, length, replicate};
 ghost use Rattle.std.proofs.lemmas.List.Edits.{sets};
-ghost use Rattle.model.specs.Word.{xors, onesOver, part};
-ghost use Rattle.model.specs.Image.{xorAt};
+ghost use Rattle.model.specs.Word.{xors, ones_over, part};
+ghost use Rattle.model.specs.Image.{xor_at};
 
 // a less b, and 0 where b is more.
 pub fn saturating_sub(a: u64, b: u64) -> u64
@@ -16,7 +16,7 @@ pub fn saturating_sub(a: u64, b: u64) -> u64
 pub fn xor_in(target: &mut [u64], at: usize, source: &[u64], from: usize, n: usize)
     requires n_in_bounds { at + n ≤ length target.old }
     requires n_in_bounds_2 { from + n ≤ length source.now }
-    ensures { target.new ≡ xorAt at (part from n source.now) target.old }
+    ensures { target.new ≡ xor_at at (part from n source.now) target.old }
 {
     let mut i = 0;
     while i < n {
@@ -57,7 +57,7 @@ pub fn difference(out: &mut [u64], at: usize, pages: &[u64], from: usize, value:
     requires value_in_bounds_2 { from + length value.now ≤ length pages.now }
     requires value_len_bound { length value.now ≤ 32 }
     ensures { (out.new ≡ sets out.old at (xors (part from (length value.now) pages.now) value.now))
-        × (result ≡ onesOver (xors (part from (length value.now) pages.now) value.now)) }
+        × (result ≡ ones_over (xors (part from (length value.now) pages.now) value.now)) }
 {
     let n = value.len();
     let mut ones = 0;

@@ -8,7 +8,7 @@ use borrow.Author.Rules.{rules}
 use borrow.Author.Tests.{not-true, not-false, le-leb, lt-leb}
 use Rattle.model.specs.Word.{part}
 use Rattle.words.proofs.Laws.{copy_more}
-use Rattle.device.proofs.Runs.{stored-copy, word_made, word_cut}
+use Rattle.device.proofs.Runs.{stored_copy, word_made, word_cut}
 use Rattle.device.proofs.store_copy.Statement.{statement}
 use Rattle.device.proofs.store_copy.Tie as tie
 
@@ -29,7 +29,7 @@ returns c =
     let s = c.before.before.before.before.before.before.before.before.before.before.before.args in
     let h = c.before.before.before.before.before.before.before.before.loop in
     let cut = word_cut c.before.before.before.Store-word.ensures (not-true _ c.if1.true) in
-    stored-copy s.budget.now s.from s.n s.source.now {m = h.i} (search rules) (omega (arith, cut.0)) (omega (arith, cut.0, cut.1)) (cut.2 ∙ h.invariant.3)
+    stored_copy s.budget.now s.from s.n s.source.now {m = h.i} (search rules) (omega (arith, cut.0)) (omega (arith, cut.0, cut.1)) (cut.2 ∙ h.invariant.3)
     (sym (lt-leb s.n s.budget.now (omega (arith, cut.0))))
 
 loop-again : tie.Need-loop-preserved invariant-loop decreases-loop
@@ -43,7 +43,7 @@ returns-2 : tie.Need-returns-2 invariant-loop decreases-loop
 returns-2 c =
     let s = c.before.before.before.before.args in
     let h = c.before.loop in
-    stored-copy s.budget.now s.from s.n s.source.now {m = h.i} (search rules) (omega arith) (omega arith) h.invariant.3
+    stored_copy s.budget.now s.from s.n s.source.now {m = h.i} (search rules) (omega arith) (omega arith) h.invariant.3
     (sym (le-leb s.n s.budget.now (omega arith)))
 
 pub store-copy-spec : {M : Type 1} → statement M

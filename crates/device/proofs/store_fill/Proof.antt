@@ -7,7 +7,7 @@ use lib.Seq.{sets}
 use borrow.Author.Rules.{rules}
 use borrow.Author.Tests.{not-true, not-false, le-leb, lt-leb}
 use Rattle.words.proofs.Laws.{fill_more}
-use Rattle.device.proofs.Runs.{stored-fill, word_made, word_cut}
+use Rattle.device.proofs.Runs.{stored_fill, word_made, word_cut}
 use Rattle.device.proofs.store_fill.Statement.{statement}
 use Rattle.device.proofs.store_fill.Tie as tie
 
@@ -27,7 +27,7 @@ returns c =
     let s = c.before.before.before.before.before.before.before.before.before.args in
     let h = c.before.before.before.before.before.before.before.loop in
     let cut = word_cut c.before.before.before.Store-word.ensures (not-true _ c.if1.true) in
-    stored-fill s.budget.now s.n s.value {m = h.i} (omega (arith, cut.0)) (omega (arith, cut.0, cut.1)) (cut.2 ∙ h.invariant.3)
+    stored_fill s.budget.now s.n s.value {m = h.i} (omega (arith, cut.0)) (omega (arith, cut.0, cut.1)) (cut.2 ∙ h.invariant.3)
     (sym (lt-leb s.n s.budget.now (omega (arith, cut.0))))
 
 loop-again : tie.Need-loop-preserved invariant-loop decreases-loop
@@ -41,7 +41,7 @@ returns-2 : tie.Need-returns-2 invariant-loop decreases-loop
 returns-2 c =
     let s = c.before.before.before.args in
     let h = c.before.loop in
-    stored-fill s.budget.now s.n s.value {m = h.i} (omega arith) (omega arith) h.invariant.3
+    stored_fill s.budget.now s.n s.value {m = h.i} (omega arith) (omega arith) h.invariant.3
     (sym (le-leb s.n s.budget.now (omega arith)))
 
 pub store-fill-spec : {M : Type 1} → statement M

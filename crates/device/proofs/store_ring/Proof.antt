@@ -5,7 +5,7 @@ use native.Mathlib.Omega.{arith}
 use native.Mathlib.Nat.{mod-lt}
 use borrow.Author.Rules.{rules}
 use borrow.Author.Tests.{not-true, not-false}
-use Rattle.device.proofs.Ring.{one-run, first-run-cut, two_runs}
+use Rattle.device.proofs.Ring.{one_run, first_run_cut, two_runs}
 use Rattle.device.proofs.store_ring.Statement.{statement}
 use Rattle.device.proofs.store_ring.Tie as tie
 
@@ -21,7 +21,7 @@ store-copy-requires c κs = (omega (arith, mod-lt c.before.before.before.before.
 returns : tie.Need-returns
 returns c =
     let start = c.before.before.before.before.before.before.before.before in
-    one-run start.args.first start.args.ring start.args.tail start.args.from start.args.n start.args.source.now (search rules)
+    one_run start.args.first start.args.ring start.args.tail start.args.from start.args.n start.args.source.now (search rules)
     (omega (arith, mod-lt start.args.tail start.requires.0.0)) c.before.before.store-copy.ensures
 
 add-store-copy-2 : tie.Need-overflow-add-store-copy-2
@@ -33,7 +33,7 @@ store-copy-requires-2 c κs = (omega (arith, mod-lt c.before.before.before.befor
 returns-2 : tie.Need-returns-2
 returns-2 c =
     let start = c.before.before.before.before.before.before.before.before.before in
-    first-run-cut start.args.first start.args.ring start.args.tail start.args.from start.args.n start.args.source.now (search rules)
+    first_run_cut start.args.first start.args.ring start.args.tail start.args.from start.args.n start.args.source.now (search rules)
     start.requires.0.0 refl (omega (arith, c.before.before.before.before.before.before.if1.false)) c.before.before.before.store-copy2.ensures (not-true _ c.if2.true)
 
 returns-3 : tie.Need-returns-3

@@ -2,13 +2,13 @@
 use mathlib.Core.Path.{◌≡◌}
 use native.Mathlib.Omega.{arith}
 use borrow.Author.Rules.{rules}
-use Rattle.device.proofs.Runs.{stored-none, stored_one}
+use Rattle.device.proofs.Runs.{stored_none, stored_one}
 use Rattle.device.proofs.store_word.Statement.{statement}
 use Rattle.device.proofs.store_word.Tie as tie
 
 returns : tie.Need-returns
 returns c =
-    let none : c.before.before.args.budget.now ≡ 0 = omega arith in rw none (stored-none _ _ _)
+    let none : c.before.before.args.budget.now ≡ 0 = omega arith in rw none (stored_none _ _ _)
 
 returns-2 : tie.Need-returns-2
 returns-2 c = stored_one _ _ _ _ (omega arith)

@@ -2,7 +2,7 @@
 use borrow.Author.Rules.{rules}
 use mathlib.Core.Path.{refl}
 use Rattle.hall.specs.Running.{sizes}
-use Rattle.hall.proofs.Starting.{formatted-anew}
+use Rattle.hall.proofs.Starting.{formatted_anew}
 use Rattle.hall.proofs.formatted.Statement.{statement}
 use Rattle.hall.proofs.formatted.Tie as tie
 
@@ -10,7 +10,7 @@ returns : tie.Need-returns
 unfolding sizes
 returns c =
     let call = c.before.before.before.before.before.before.before.before.before.before.before in
-    formatted-anew _ _ _ _ _ _ call.before.before.before.before.before.before.before.new-state.ensures.0 refl call.format.ensures.0
+    formatted_anew _ _ _ _ _ _ call.before.before.before.before.before.before.before.new-state.ensures.0 refl call.format.ensures.0
 
 pub formatted-spec : {M : Type 1} → statement M
 formatted-spec =

@@ -1,7 +1,7 @@
 -- `hall::opened` meets its contract: a format, and the heading.
 use borrow.Author.Rules.{rules}
 use native.Mathlib.Omega.{arith}
-use Rattle.hall.proofs.Holding.{console-opened}
+use Rattle.hall.proofs.Holding.{console_opened}
 use Rattle.hall.proofs.opened.Statement.{statement}
 use Rattle.hall.proofs.opened.Tie as tie
 
@@ -10,7 +10,7 @@ returns c =
     let start = c.before.before.before.before.before.before.before.before.before.before.before.before.before.before.before.before.before.before.before.before.before.before.before.before.before.before.before.before in
     let add = c.before.before.before.add in (
       omega (arith, add.ensures.0, start.requires),
-      console-opened _ _ _ start.args.out.now _ c.before.before.before.before.before.before.before.before.before.before.before.before.before.before.before.before.formatted.ensures add.ensures.1 c.start.ensures,
+      console_opened _ _ _ start.args.out.now _ c.before.before.before.before.before.before.before.before.before.before.before.before.before.before.before.before.formatted.ensures add.ensures.1 c.start.ensures,
     )
 
 pub opened-spec : {M : Type 1} → statement M

@@ -7,7 +7,7 @@ use lib.Dec.{leb}
 use Rattle.model.specs.Word.{◌⊕◌}
 use Rattle.model.proofs.Ledger.Entry.{sum, mask, All, Entry, adds, closed_in, chosen}
 use Rattle.model.proofs.Xor.{xor, ⊕-zero-r}
-use Rattle.model.proofs.Ledger.Sums.{sum-append, sum-ext, sum-xor, sum-zero, all_of, all-zip}
+use Rattle.model.proofs.Ledger.Sums.{sum_append, sum_ext, sum_xor, sum_zero, all_of, all_zip}
 
 -- the masks of one record: replayed = (not in the backup) ⊕ (of a transaction neither closed nor open) ⊕ (of an open one)
 masks : (k n o : Bool) (x : ℕ) → (o ≡ true → k ≡ false)
@@ -59,13 +59,13 @@ crash w c b pages F B O h =
     none r p q = rw q p
 
     whole : sum rep F ≡ sum rep (F ++ B)
-    whole = sym (sum-append rep F B ∙ rw (sum-zero rep B (all-zip none B h.late h.apart)) (⊕-zero-r (sum rep F)))
+    whole = sym (sum_append rep F B ∙ rw (sum_zero rep B (all_zip none B h.late h.apart)) (⊕-zero-r (sum rep F)))
 
     each : (r : Entry) → rep r ≡ new r ⊕ (dead r ⊕ live r)
     each r = masks (closed_in F r.number) (leb c r.copy) (O r.number) (adds w r) (h.open_loose r.number)
 
     split : sum rep (F ++ B) ≡ sum new (F ++ B) ⊕ (sum dead (F ++ B) ⊕ sum live (F ++ B))
     split =
-        sum-ext rep (λ r. new r ⊕ (dead r ⊕ live r)) (F ++ B) (all_of each (F ++ B))
-        ∙ sum-xor new (λ r. dead r ⊕ live r) (F ++ B)
-        ∙ ap (λ (x : ℕ). sum new (F ++ B) ⊕ x) (sum-xor dead live (F ++ B))
+        sum_ext rep (λ r. new r ⊕ (dead r ⊕ live r)) (F ++ B) (all_of each (F ++ B))
+        ∙ sum_xor new (λ r. dead r ⊕ live r) (F ++ B)
+        ∙ ap (λ (x : ℕ). sum new (F ++ B) ⊕ x) (sum_xor dead live (F ++ B))

@@ -20,13 +20,13 @@ pub record Entry : Type 0 where
   pub at : ℕ
   pub diff : List ℕ
 
-unfoldable pub isClose : Entry → Bool
-isClose r = leb 2 r.kind
+unfoldable pub is_close : Entry → Bool
+is_close r = leb 2 r.kind
 
 -- the record that is stored
-unfoldable pub recordOf : Entry → Record
-recordOf r =
-    cond (isClose r) (close r.kind r.number) (change r.kind r.page r.slot r.number r.copy r.diff)
+unfoldable pub record_of : Entry → Record
+record_of r =
+    cond (is_close r) (close r.kind r.number) (change r.kind r.page r.slot r.number r.copy r.diff)
 
 -- `x` where the test holds, else 0
 abbrev pub mask : Bool → ℕ → ℕ
@@ -61,18 +61,18 @@ unfoldable pub share : ℕ → List ℕ → ℕ → ℕ
 share at diff w = mask (spanning at (length diff) w) (get_or diff (w - at) 0)
 
 unfoldable pub adds : ℕ → Entry → ℕ
-adds w r = mask (not (isClose r)) (share r.at r.diff w)
+adds w r = mask (not (is_close r)) (share r.at r.diff w)
 
 -- the list has a closing record of the transaction
 unfoldable pub closed_in : List Entry → ℕ → Bool
-closed_in l t = some (λ r. isClose r && eqb r.number t) l
+closed_in l t = some (λ r. is_close r && eqb r.number t) l
 
 -- restart's choice: a finished transaction's record that is not in backup c, or an unfinished one's that is
 unfoldable pub chosen : (ℕ → Bool) → ℕ → Entry → Bool
 chosen closed c r = cond (closed r.number) (leb c r.copy) (not (leb c r.copy))
 
-unfoldable pub onDisk : ℕ → Entry → Bool
-onDisk d r = eqb r.disk d
+unfoldable pub on_disk : ℕ → Entry → Bool
+on_disk d r = eqb r.disk d
 
 -- A write of a value at a place of the page memory.
 pub record Patch : Type 0 where

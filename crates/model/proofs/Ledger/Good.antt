@@ -10,24 +10,24 @@ use Rattle.model.specs.Word.{◌⊕◌}
 use Rattle.model.proofs.Xor.{xor, ⊕-zero-l, ⊕-zero-r}
 use Rattle.model.proofs.Ledger.Entry.{sum, some, mask, Entry, adds, closed_in, chosen, patched}
 use Rattle.model.proofs.Ledger.State.{Ledger, including, begun, fresh, Same}
-use Rattle.model.proofs.Ledger.Sums.{sum-ext, sum-xor, all_of}
-use Rattle.model.proofs.Ledger.Picks.{closed-append}
-use Rattle.model.proofs.Ledger.Groups.{sum-by-key}
-use Rattle.model.proofs.Ledger.Word.{Inv, Copied, newer, ofTxn, ofOpen, recovers-word, fresh-word}
-use Rattle.model.proofs.Ledger.WriteSets.{WriteSets, write-sets-same, write-sets-exempt, not-shut, open-one}
-use Rattle.model.proofs.Booleans.{true-false, or-none}
+use Rattle.model.proofs.Ledger.Sums.{sum_ext, sum_xor, all_of}
+use Rattle.model.proofs.Ledger.Picks.{closed_append}
+use Rattle.model.proofs.Ledger.Groups.{sum_by_key}
+use Rattle.model.proofs.Ledger.Word.{Inv, Copied, newer, of_txn, of_open, recovers_word, fresh_word}
+use Rattle.model.proofs.Ledger.WriteSets.{WriteSets, write_sets_same, write_sets_exempt, not_shut, open_one}
+use Rattle.model.proofs.Booleans.{true_false, or_none}
 
 -- The invariant of the words below `size`. Transaction x is inside an abort: its writes no longer count (0: there is none).
 pub record Good (x size : ℕ) (a : Ledger) : Type 0 where
   pub words : (w : ℕ) → w < size → Inv w a.epoch (a.current w) (a.pages w) (a.committed w) a.flushed a.buffered a.opened
-  pub write-sets : (w : ℕ) → w < size → WriteSets x w (a.committed w) (a.flushed ++ a.buffered) a.opened a.writes (a.owners w)
+  pub write_sets_lem : (w : ℕ) → w < size → WriteSets x w (a.committed w) (a.flushed ++ a.buffered) a.opened a.writes (a.owners w)
   -- a page copied in this checkpoint has the next epoch, and lies in the other backup; what came later has that epoch
   pub copied : (w : ℕ) → w < size → a.epoch < a.copies w → Copied w (a.epoch + 1) (a.other w) (a.pages w) (a.flushed ++ a.buffered)
   pub numbers : (w : ℕ) → w < size → (a.epoch ≤ a.copies w) × (a.copies w ≤ a.epoch + 1)
   pub unclosed : (t : ℕ) → a.opened t ≡ true → closed_in (a.flushed ++ a.buffered) t ≡ false
   -- numbers not yet handed out
   pub unused : (t : ℕ) → a.next ≤ t → (closed_in (a.flushed ++ a.buffered) t ≡ false) × (a.opened t ≡ false)
-  pub unlogged : (w t : ℕ) → w < size → a.next ≤ t → ofTxn w t (a.flushed ++ a.buffered) ≡ 0
+  pub unlogged : (w t : ℕ) → w < size → a.next ≤ t → of_txn w t (a.flushed ++ a.buffered) ≡ 0
   -- the records' copies: no later than the page's, and never past the next checkpoint's
   pub older : (w : ℕ) → w < size → a.copies w ≤ a.epoch → newer w (a.epoch + 1) (a.flushed ++ a.buffered) ≡ 0
   pub bounded : (w n : ℕ) → w < size → a.epoch + 2 ≤ n → newer w n (a.flushed ++ a.buffered) ≡ 0
@@ -40,13 +40,13 @@ pub record Good (x size : ℕ) (a : Ledger) : Type 0 where
 pub recovers : {x size : ℕ} {a : Ledger} → Good x size a → (w : ℕ) → w < size
     → a.current w ⊕ sum (λ r. mask (chosen (closed_in a.flushed) a.epoch r) (adds w r)) a.flushed ≡ a.committed w
 recovers {a = a} g w i =
-    recovers-word w a.epoch (a.current w) (a.pages w) (a.committed w) a.flushed a.buffered a.opened (g.words w i)
+    recovers_word w a.epoch (a.current w) (a.pages w) (a.committed w) a.flushed a.buffered a.opened (g.words w i)
 
 -- a word of an open owner's slot is the committed one with the owner's writes
-pub plain-table : {size : ℕ} {a : Ledger} → Good 0 size a → (w : ℕ) → w < size → a.opened (a.owners w) ≡ true
+pub plain_table_lem : {size : ℕ} {a : Ledger} → Good 0 size a → (w : ℕ) → w < size → a.opened (a.owners w) ≡ true
     → a.pages w ≡ patched w (a.writes (a.owners w)) (a.committed w)
-plain-table {size} {a} g w i o =
-    sym ((g.write-sets w i).adds-up t (not-shut a.opened 0 t g.nobody o) o ∙ twice (a.pages w) (ofTxn w t L) (a.committed w) only)
+plain_table_lem {size} {a} g w i o =
+    sym ((g.write_sets_lem w i).adds_up t (not_shut a.opened 0 t g.nobody o) o ∙ twice (a.pages w) (of_txn w t L) (a.committed w) only)
   where
     t : ℕ
     t = a.owners w
@@ -54,28 +54,28 @@ plain-table {size} {a} g w i o =
     L : List Entry
     L = a.flushed ++ a.buffered
 
-    only : a.committed w ≡ a.pages w ⊕ ofTxn w t L
+    only : a.committed w ≡ a.pages w ⊕ of_txn w t L
     only = (g.words w i).book ∙ ap (λ (y : ℕ). a.pages w ⊕ y)
-        (open-one w a.opened t L o (λ s z n. (g.write-sets w i).no_record s (not-shut a.opened 0 s g.nobody z) z n))
+        (open_one w a.opened t L o (λ s z n. (g.write_sets_lem w i).no_record s (not_shut a.opened 0 s g.nobody z) z n))
 
     twice : (v y c : ℕ) → c ≡ v ⊕ y → c ⊕ y ≡ v
     twice v y c e = rw e (simp xor)
 
 -- and any other word is the committed one
-pub plain-table-free : {size : ℕ} {a : Ledger} → Good 0 size a → (w : ℕ) → w < size → a.opened (a.owners w) ≡ false → a.pages w ≡ a.committed w
-plain-table-free {size} {a} g w i o =
-    sym ((g.words w i).book ∙ rw (sum-by-key (λ r. r.number) (adds w) a.opened (a.flushed ++ a.buffered) none) (⊕-zero-r (a.pages w)))
+pub plain_table_free : {size : ℕ} {a : Ledger} → Good 0 size a → (w : ℕ) → w < size → a.opened (a.owners w) ≡ false → a.pages w ≡ a.committed w
+plain_table_free {size} {a} g w i o =
+    sym ((g.words w i).book ∙ rw (sum_by_key (λ r. r.number) (adds w) a.opened (a.flushed ++ a.buffered) none) (⊕-zero-r (a.pages w)))
   where
-    none : (t : ℕ) → a.opened t ≡ true → ofTxn w t (a.flushed ++ a.buffered) ≡ 0
-    none t z = (g.write-sets w i).no_record t (not-shut a.opened 0 t g.nobody z) z (not-shut a.opened (a.owners w) t o z)
+    none : (t : ℕ) → a.opened t ≡ true → of_txn w t (a.flushed ++ a.buffered) ≡ 0
+    none t z = (g.write_sets_lem w i).no_record t (not_shut a.opened 0 t g.nobody z) z (not_shut a.opened (a.owners w) t o z)
 
 -- ---- a ledger that agrees, and an abort that begins
-pub good-same : {x size : ℕ} {a b : Ledger} → Same size a b → Good x size a → Good x size b
-good-same {x} {size} {a} {b} s g = record {
+pub good_same : {x size : ℕ} {a b : Ledger} → Same size a b → Good x size a → Good x size b
+good_same {x} {size} {a} {b} s g = record {
   words = λ w i. rw (← s.epoch, ← s.current w i, ← s.pages w i, ← s.committed w i, ← s.flushed, ← s.buffered, ← opened) (g.words w i);
-  write-sets = λ w i. rw (← s.committed w i, ← s.flushed, ← s.buffered, ← opened, ← s.owners w i)
-      (write-sets-same x w (a.committed w) (a.flushed ++ a.buffered) (a.flushed ++ a.buffered) a.opened a.writes b.writes (a.owners w)
-      (λ u n o. refl) s.writes (g.write-sets w i));
+  write_sets_lem = λ w i. rw (← s.committed w i, ← s.flushed, ← s.buffered, ← opened, ← s.owners w i)
+      (write_sets_same x w (a.committed w) (a.flushed ++ a.buffered) (a.flushed ++ a.buffered) a.opened a.writes b.writes (a.owners w)
+      (λ u n o. refl) s.writes (g.write_sets_lem w i));
   copied = λ w i. rw (← s.epoch, ← s.copies w i, ← s.other w i, ← s.pages w i, ← s.flushed, ← s.buffered) (g.copied w i);
   numbers = λ w i. rw (← s.epoch, ← s.copies w i) (g.numbers w i);
   unclosed = rw (← s.flushed, ← s.buffered, ← opened) g.unclosed;
@@ -90,10 +90,10 @@ good-same {x} {size} {a} {b} s g = record {
     opened : a.opened ≡ b.opened
     opened = fun_ext s.opened
 
-pub good-exempt : {size : ℕ} {a : Ledger} (x : ℕ) → Good 0 size a → Good x size a
-good-exempt {size} {a} x g = record {
+pub good_exempt : {size : ℕ} {a : Ledger} (x : ℕ) → Good 0 size a → Good x size a
+good_exempt {size} {a} x g = record {
   words = g.words;
-  write-sets = λ w i. write-sets-exempt 0 x w (a.committed w) (a.flushed ++ a.buffered) a.opened a.writes (a.owners w) g.nobody (g.write-sets w i);
+  write_sets_lem = λ w i. write_sets_exempt 0 x w (a.committed w) (a.flushed ++ a.buffered) a.opened a.writes (a.owners w) g.nobody (g.write_sets_lem w i);
   copied = g.copied;
   numbers = g.numbers;
   unclosed = g.unclosed;
@@ -106,11 +106,11 @@ good-exempt {size} {a} x g = record {
 }
 
 -- ---- a format, and a restart's end
-pub fresh-good : {size : ℕ} (c : ℕ) (words other owners : ℕ → ℕ) → Good 0 size (fresh c words other owners)
+pub fresh_good : {size : ℕ} (c : ℕ) (words other owners : ℕ → ℕ) → Good 0 size (fresh c words other owners)
 unfolding fresh sum closed_in some
-fresh-good c words other owners = record {
-  words = λ w i. fresh-word w c (words w);
-  write-sets = λ w i. record { adds-up = λ t n o. true-false o refl; no_record = λ t n o. true-false o refl; no-entry = λ t n o. true-false o refl };
+fresh_good c words other owners = record {
+  words = λ w i. fresh_word w c (words w);
+  write_sets_lem = λ w i. record { adds_up = λ t n o. true_false o refl; no_record = λ t n o. true_false o refl; no_entry = λ t n o. true_false o refl };
   copied = λ w i h. absurd (omega arith);
   numbers = λ w i. omega arith;
   unclosed = λ t o. refl;
@@ -123,18 +123,18 @@ fresh-good c words other owners = record {
 }
 
 -- ---- begin
-mask-including : (O : ℕ → Bool) (t u y : ℕ) → O t ≡ false → mask (including O t u) y ≡ mask (O u) y ⊕ mask (eqb u t) y
-mask-including O t u y h = go (eqb u t) (O u) refl refl
+mask_including : (O : ℕ → Bool) (t u y : ℕ) → O t ≡ false → mask (including O t u) y ≡ mask (O u) y ⊕ mask (eqb u t) y
+mask_including O t u y h = go (eqb u t) (O u) refl refl
   where
     go : (b o : Bool) → eqb u t ≡ b → O u ≡ o → mask (o || b) y ≡ mask o y ⊕ mask b y
-    go true true e p = true-false p (rw (eqb-true u t e) h)
+    go true true e p = true_false p (rw (eqb-true u t e) h)
     go true false e p = sym (⊕-zero-l y)
     go false true e p = sym (⊕-zero-r y)
     go false false e p = sym (⊕-zero-l 0)
 
-open-including : (w : ℕ) (O : ℕ → Bool) (t : ℕ) (L : List Entry) → O t ≡ false → ofTxn w t L ≡ 0 → ofOpen w (including O t) L ≡ ofOpen w O L
-open-including w O t L h e =
-    sum-ext _ _ L (all_of (λ r. mask-including O t r.number (adds w r) h) L) ∙ sum-xor _ _ L ∙ rw e (⊕-zero-r (ofOpen w O L))
+open_including : (w : ℕ) (O : ℕ → Bool) (t : ℕ) (L : List Entry) → O t ≡ false → of_txn w t L ≡ 0 → of_open w (including O t) L ≡ of_open w O L
+open_including w O t L h e =
+    sum_ext _ _ L (all_of (λ r. mask_including O t r.number (adds w r) h) L) ∙ sum_xor _ _ L ∙ rw e (⊕-zero-r (of_open w O L))
 
 -- an open one is the new one or was open
 pub newly : (O : ℕ → Bool) (t u : ℕ) (X : Type 0) → including O t u ≡ true → (u ≡ t → X) → (eqb u t ≡ false → O u ≡ true → X) → X
@@ -143,14 +143,14 @@ newly O t u X h f k = go (O u) (eqb u t) refl refl h
     go : (o b : Bool) → O u ≡ o → eqb u t ≡ b → o || b ≡ true → X
     go o true p q z = f (eqb-true u t q)
     go true false p q z = k q p
-    go false false p q z = true-false z refl
+    go false false p q z = true_false z refl
 
 module _ {size : ℕ} {a : Ledger} (g : Good 0 size a) where
-  new-closed : closed_in (a.flushed ++ a.buffered) a.next ≡ false
-  new-closed = (g.unused a.next (omega arith)).0
+  new_closed : closed_in (a.flushed ++ a.buffered) a.next ≡ false
+  new_closed = (g.unused a.next (omega arith)).0
 
-  new-shut : a.opened a.next ≡ false
-  new-shut = (g.unused a.next (omega arith)).1
+  new_shut : a.opened a.next ≡ false
+  new_shut = (g.unused a.next (omega arith)).1
 
   word : (w : ℕ) → w < size
       → Inv w a.epoch (a.current w) (a.pages w) (a.committed w) a.flushed a.buffered (including a.opened a.next)
@@ -159,35 +159,35 @@ module _ {size : ℕ} {a : Ledger} (g : Good 0 size a) where
     late = (g.words w i).late;
     apart = (g.words w i).apart;
     loose = λ u o. newly a.opened a.next u _ o
-        (λ e. rw e (or-none (closed_in a.flushed a.next) (closed_in a.buffered a.next)
-        (sym (closed-append a.flushed a.buffered a.next) ∙ new-closed)).0)
+        (λ e. rw e (or_none (closed_in a.flushed a.next) (closed_in a.buffered a.next)
+        (sym (closed_append a.flushed a.buffered a.next) ∙ new_closed)).0)
         (λ n p. (g.words w i).loose u p);
-    cancel = λ u y o. (g.words w i).cancel u y (or-none (a.opened u) (eqb u a.next) o).0;
+    cancel = λ u y o. (g.words w i).cancel u y (or_none (a.opened u) (eqb u a.next) o).0;
     book = (g.words w i).book ∙ ap (λ (y : ℕ). a.pages w ⊕ y)
-        (sym (open-including w a.opened a.next (a.flushed ++ a.buffered) new-shut (g.unlogged w a.next i (omega arith))));
+        (sym (open_including w a.opened a.next (a.flushed ++ a.buffered) new_shut (g.unlogged w a.next i (omega arith))));
   }
 
   accounts : (w : ℕ) → w < size → WriteSets 0 w (a.committed w) (a.flushed ++ a.buffered) (including a.opened a.next)
       (λ u. cond (eqb u a.next) [] (a.writes u)) (a.owners w)
   unfolding patched
   accounts w i = record {
-    adds-up = λ u k o. newly a.opened a.next u _ o
+    adds_up = λ u k o. newly a.opened a.next u _ o
         (λ e. rw (eq-eqb u a.next e, e, g.unlogged w a.next i (omega arith)) (sym (⊕-zero-r (a.committed w))))
-        (λ n p. rw n ((g.write-sets w i).adds-up u k p));
+        (λ n p. rw n ((g.write_sets_lem w i).adds_up u k p));
     no_record = λ u k o h. newly a.opened a.next u _ o
-        (λ e. rw e (g.unlogged w a.next i (omega arith))) (λ n p. (g.write-sets w i).no_record u k p h);
-    no-entry = λ u k o h y. newly a.opened a.next u _ o
-        (λ e. rw (eq-eqb u a.next e)) (λ n p. rw n ((g.write-sets w i).no-entry u k p h y));
+        (λ e. rw e (g.unlogged w a.next i (omega arith))) (λ n p. (g.write_sets_lem w i).no_record u k p h);
+    no_entry = λ u k o h y. newly a.opened a.next u _ o
+        (λ e. rw (eq-eqb u a.next e)) (λ n p. rw n ((g.write_sets_lem w i).no_entry u k p h y));
   }
 
-  pub begin-good : Good 0 size (begun a)
+  pub begin_good : Good 0 size (begun a)
   unfolding begun
-  begin-good = record {
+  begin_good = record {
     words = word;
-    write-sets = accounts;
+    write_sets_lem = accounts;
     copied = g.copied;
     numbers = g.numbers;
-    unclosed = λ u o. newly a.opened a.next u _ o (λ e. rw e new-closed) (λ n p. g.unclosed u p);
+    unclosed = λ u o. newly a.opened a.next u _ o (λ e. rw e new_closed) (λ n p. g.unclosed u p);
     unused = λ u h. ((g.unused u (omega arith)).0, rw ((g.unused u (omega arith)).1, ne_eqb u a.next (λ e. omega arith)));
     unlogged = λ w u i h. g.unlogged w u i (omega arith);
     older = g.older;

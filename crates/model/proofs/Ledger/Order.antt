@@ -5,19 +5,19 @@ use mathlib.Core.Bool.{Bool, true, ◌&&◌, ◌||◌}
 use Prim.Native.Nat.{ℕ, ◌+◌, ◌≤◌, ◌<◌}
 use lib.Dec.{eqb}
 use lib.ListN.{length}
-use Rattle.model.specs.Record.{encode, encodeAll}
+use Rattle.model.specs.Record.{encode, encode_all}
 use Rattle.model.specs.Scan.{Scan, end, item}
-use Rattle.model.proofs.Ledger.Entry.{Entry, recordOf, isClose, All, pick, onDisk}
+use Rattle.model.proofs.Ledger.Entry.{Entry, record_of, is_close, All, pick, on_disk}
 
 -- how many words an entry takes, and the words of those of a disk
 unfoldable pub size_of : Entry → ℕ
-size_of r = length (encode (recordOf r))
+size_of r = length (encode (record_of r))
 
-unfoldable pub wordsOf : List Entry → List ℕ
-wordsOf l = encodeAll (map recordOf l)
+unfoldable pub words_of : List Entry → List ℕ
+words_of l = encode_all (map record_of l)
 
 unfoldable pub on : ℕ → List Entry → List Entry
-on d l = pick (onDisk d) l
+on d l = pick (on_disk d) l
 
 -- entries one after the other from position p on
 abbrev pub Laid : ℕ → List Entry → Type 0
@@ -30,9 +30,9 @@ boundary q p [] = eqb q p
 boundary q p (r ∷ l) = eqb q p || boundary q (p + size_of r) l
 
 -- the entries as a reader finds them
-unfoldable pub entriesScan : List Entry → Scan
-entriesScan [] = end
-entriesScan (r ∷ l) = item r.position (recordOf r) (entriesScan l)
+unfoldable pub entries_scan : List Entry → Scan
+entries_scan [] = end
+entries_scan (r ∷ l) = item r.position (record_of r) (entries_scan l)
 
 -- The flushed and the buffered entries on their disks.
 pub record Ordered (disks : ℕ) (start home : ℕ → ℕ) (F B : List Entry) : Type 0 where
@@ -40,4 +40,4 @@ pub record Ordered (disks : ℕ) (start home : ℕ → ℕ) (F B : List Entry) :
   pub inside : All (λ r. r.disk < disks) (F ++ B)
   pub homed : All (λ r. r.disk ≡ home r.number) (F ++ B)
   -- a closing record is its transaction's last
-  pub last : All (λ r. All (λ q. isClose q && eqb q.number r.number ≡ true → r.position ≤ q.position) (F ++ B)) (F ++ B)
+  pub last : All (λ r. All (λ q. is_close q && eqb q.number r.number ≡ true → r.position ≤ q.position) (F ++ B)) (F ++ B)

@@ -6,7 +6,7 @@ use Prim.Native.Nat.{ℕ, ◌+◌, ◌<◌}
 use lib.Dec.{eqb}
 use lib.ListN.{length}
 use Rattle.model.specs.Word.{◌⊕◌}
-use Rattle.model.proofs.Ledger.Entry.{Entry, adds, pick, onDisk, spanning, Patch, patched}
+use Rattle.model.proofs.Ledger.Entry.{Entry, adds, pick, on_disk, spanning, Patch, patched}
 
 -- Words are functions from index to word. `current` is the backup of checkpoint `epoch`, `other` the one that is written next.
 -- `copies` and `owners` are by word: the copy number of its page, the owner of its slot.
@@ -85,8 +85,8 @@ updated a r value =
     }
 
 -- a disk flushed
-unfoldable pub flushedDisk : Ledger → ℕ → Ledger
-flushedDisk a d =
+unfoldable pub flushed_disk : Ledger → ℕ → Ledger
+flushed_disk a d =
     record {
       epoch = a.epoch;
       next = a.next;
@@ -98,13 +98,13 @@ flushedDisk a d =
       committed = a.committed;
       writes = a.writes;
       opened = a.opened;
-      flushed = a.flushed ++ pick (onDisk d) a.buffered;
-      buffered = pick (λ r. not (onDisk d r)) a.buffered;
+      flushed = a.flushed ++ pick (on_disk d) a.buffered;
+      buffered = pick (λ r. not (on_disk d r)) a.buffered;
     }
 
 -- a transaction committed by the flush of its disk, its closing record r the last word of it
-unfoldable pub committedBy : Ledger → Entry → Ledger
-committedBy a r =
+unfoldable pub committed_by : Ledger → Entry → Ledger
+committed_by a r =
     record {
       epoch = a.epoch;
       next = a.next;
@@ -116,13 +116,13 @@ committedBy a r =
       committed = λ w. patched w (a.writes r.number) (a.committed w);
       writes = a.writes;
       opened = except a.opened r.number;
-      flushed = a.flushed ++ (pick (onDisk r.disk) a.buffered ++ r ∷ []);
-      buffered = pick (λ q. not (onDisk r.disk q)) a.buffered;
+      flushed = a.flushed ++ (pick (on_disk r.disk) a.buffered ++ r ∷ []);
+      buffered = pick (λ q. not (on_disk r.disk q)) a.buffered;
     }
 
 -- a transaction aborted: its closing record r buffered, after its compensations
-unfoldable pub abortedBy : Ledger → Entry → Ledger
-abortedBy a r =
+unfoldable pub aborted_by : Ledger → Entry → Ledger
+aborted_by a r =
     record {
       epoch = a.epoch;
       next = a.next;
@@ -140,14 +140,14 @@ abortedBy a r =
 
 -- a page copied to the other backup, and given the next epoch
 unfoldable pub copied : Ledger → (ℕ → Bool) → Ledger
-copied a inPage =
+copied a in_page =
     record {
       epoch = a.epoch;
       next = a.next;
       pages = a.pages;
       current = a.current;
-      other = λ w. cond (inPage w) (a.pages w) (a.other w);
-      copies = λ w. cond (inPage w) (a.epoch + 1) (a.copies w);
+      other = λ w. cond (in_page w) (a.pages w) (a.other w);
+      copies = λ w. cond (in_page w) (a.epoch + 1) (a.copies w);
       owners = a.owners;
       committed = a.committed;
       writes = a.writes;

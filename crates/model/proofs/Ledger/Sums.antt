@@ -7,33 +7,33 @@ use Rattle.model.specs.Word.{◌⊕◌}
 use Rattle.model.proofs.Ledger.Entry.{sum, mask, All}
 use Rattle.model.proofs.Xor.{xor, ⊕-assoc, ⊕-zero-l}
 
-pub mask-zero : (b : Bool) → mask b 0 ≡ 0
-mask-zero true = refl
-mask-zero false = refl
+pub mask_zero : (b : Bool) → mask b 0 ≡ 0
+mask_zero true = refl
+mask_zero false = refl
 
 ⊕-four : (a b c d : ℕ) → (a ⊕ b) ⊕ (c ⊕ d) ≡ (a ⊕ c) ⊕ (b ⊕ d)
 ⊕-four a b c d = simp xor
 
 module _ {A : Type 0} where
-  pub sum-append : (f : A → ℕ) (l m : List A) → sum f (l ++ m) ≡ sum f l ⊕ sum f m
+  pub sum_append : (f : A → ℕ) (l m : List A) → sum f (l ++ m) ≡ sum f l ⊕ sum f m
   unfolding sum
-  sum-append f [] m = sym (⊕-zero-l (sum f m))
-  sum-append f (r ∷ l) m = rw (sum-append f l m) (sym (⊕-assoc (f r) (sum f l) (sum f m)))
+  sum_append f [] m = sym (⊕-zero-l (sum f m))
+  sum_append f (r ∷ l) m = rw (sum_append f l m) (sym (⊕-assoc (f r) (sum f l) (sum f m)))
 
-  pub sum-ext : (f g : A → ℕ) (l : List A) → All (λ r. f r ≡ g r) l → sum f l ≡ sum g l
+  pub sum_ext : (f g : A → ℕ) (l : List A) → All (λ r. f r ≡ g r) l → sum f l ≡ sum g l
   unfolding sum
-  sum-ext f g [] h = refl
-  sum-ext f g (r ∷ l) h = ap₂ (λ (x y : ℕ). x ⊕ y) h.0 (sum-ext f g l h.1)
+  sum_ext f g [] h = refl
+  sum_ext f g (r ∷ l) h = ap₂ (λ (x y : ℕ). x ⊕ y) h.0 (sum_ext f g l h.1)
 
-  pub sum-xor : (f g : A → ℕ) (l : List A) → sum (λ r. f r ⊕ g r) l ≡ sum f l ⊕ sum g l
+  pub sum_xor : (f g : A → ℕ) (l : List A) → sum (λ r. f r ⊕ g r) l ≡ sum f l ⊕ sum g l
   unfolding sum
-  sum-xor f g [] = sym (⊕-zero-l 0)
-  sum-xor f g (r ∷ l) = rw (sum-xor f g l) (⊕-four (f r) (g r) (sum f l) (sum g l))
+  sum_xor f g [] = sym (⊕-zero-l 0)
+  sum_xor f g (r ∷ l) = rw (sum_xor f g l) (⊕-four (f r) (g r) (sum f l) (sum g l))
 
-  pub sum-zero : (f : A → ℕ) (l : List A) → All (λ r. f r ≡ 0) l → sum f l ≡ 0
+  pub sum_zero : (f : A → ℕ) (l : List A) → All (λ r. f r ≡ 0) l → sum f l ≡ 0
   unfolding sum
-  sum-zero f [] h = refl
-  sum-zero f (r ∷ l) h = rw (h.0, sum-zero f l h.1) (⊕-zero-l 0)
+  sum_zero f [] h = refl
+  sum_zero f (r ∷ l) h = rw (h.0, sum_zero f l h.1) (⊕-zero-l 0)
 
   pub all_of : {P : A → Type 0} → ((r : A) → P r) → (m : List A) → All P m
   all_of h [] = tt
@@ -43,9 +43,9 @@ module _ {A : Type 0} where
   all_map h [] p = tt
   all_map h (r ∷ m) p = (h r p.0, all_map h m p.1)
 
-  pub all-zip : {P Q R : A → Type 0} → ((r : A) → P r → Q r → R r) → (m : List A) → All P m → All Q m → All R m
-  all-zip h [] p q = tt
-  all-zip h (r ∷ m) p q = (h r p.0 q.0, all-zip h m p.1 q.1)
+  pub all_zip : {P Q R : A → Type 0} → ((r : A) → P r → Q r → R r) → (m : List A) → All P m → All Q m → All R m
+  all_zip h [] p q = tt
+  all_zip h (r ∷ m) p q = (h r p.0 q.0, all_zip h m p.1 q.1)
 
   pub all_append : (P : A → Type 0) (l m : List A) → All P l → All P m → All P (l ++ m)
   all_append P [] m p q = q
@@ -56,6 +56,6 @@ module _ {A : Type 0} where
   all_right P (r ∷ l) m p = all_right P l m p.1
 
   -- a test that does not depend on the element
-  pub sum-mask : (b : Bool) (f : A → ℕ) (l : List A) → sum (λ r. mask b (f r)) l ≡ mask b (sum f l)
-  sum-mask true f l = refl
-  sum-mask false f l = sum-zero (λ r. 0) l (all_of (λ r. refl) l)
+  pub sum_mask : (b : Bool) (f : A → ℕ) (l : List A) → sum (λ r. mask b (f r)) l ≡ mask b (sum f l)
+  sum_mask true f l = refl
+  sum_mask false f l = sum_zero (λ r. 0) l (all_of (λ r. refl) l)

@@ -11,103 +11,103 @@ use borrow.Author.Tests.{le-leb, lt-leb, le-ltb}
 use Rattle.model.specs.declared.Sizes.{Sizes}
 use Rattle.model.specs.declared.Core.{Core}
 use Rattle.model.specs.Word.{◌⊕◌, part}
-use Rattle.model.specs.Sizes.{pageBase, pageWords, total}
-use Rattle.model.specs.Anchor.{backupAt}
+use Rattle.model.specs.Sizes.{page_base, page_words, total}
+use Rattle.model.specs.Anchor.{backup_at}
 use Rattle.model.specs.World.{World, perform}
-use Rattle.model.specs.Causes.{tailIn}
-use Rattle.model.specs.State.{withReplay}
-use Rattle.model.specs.Restart.{position_of, readDisk, backupStep, restartStepTask}
-use Rattle.model.specs.Image.{image_of, xorAt, restarted, wordsFrom, imageFrom}
+use Rattle.model.specs.Causes.{tail_in}
+use Rattle.model.specs.State.{with_replay}
+use Rattle.model.specs.Restart.{position_of, read_disk, backup_step, restart_step_task}
+use Rattle.model.specs.Image.{image_of, xor_at, restarted, words_from, image_from}
 use Rattle.model.specs.LogPromise.{BackupStep}
 use Rattle.model.proofs.Ledger.Entry.{mask, spanning, share}
 use Rattle.model.proofs.Xor.{xor, ⊕-zero-l, ⊕-zero-r}
-use Rattle.model.proofs.Restart.Words.{length-xor-at, xor-at-word, withPages, perform-xor}
-use Rattle.model.proofs.Restart.Image.{backup-within}
-use Rattle.model.proofs.Restart.Progress.{logLeft, backupLeft, logsLeft, Progress}
-use Rattle.model.proofs.Geometry.{page-end, page-base-step}
-use Rattle.model.proofs.Parts.{length_part, get_d_part, spanning-in, spanning-before, spanning-after}
+use Rattle.model.proofs.Restart.Words.{length_xor_at, xor_at_word, with_pages, perform_xor}
+use Rattle.model.proofs.Restart.Image.{backup_within}
+use Rattle.model.proofs.Restart.Progress.{log_left, backup_left, logs_left, Progress}
+use Rattle.model.proofs.Geometry.{page_end, page_base_step}
+use Rattle.model.proofs.Parts.{length_part, get_d_part, spanning_in, spanning_before, spanning_after}
 
 regroup : (p v b g : ℕ) → (p ⊕ v) ⊕ (b ⊕ g) ≡ p ⊕ ((v ⊕ b) ⊕ g)
 regroup p v b g = simp xor
 
 -- what stands from `base` on is a difference there of n words, and what stands from base + n on
-from-base : (base n x v : ℕ) (diff : List ℕ) → length diff ≡ n → (base ≤ x → x < base + n → get_or diff (x - base) 0 ≡ v)
+from_base : (base n x v : ℕ) (diff : List ℕ) → length diff ≡ n → (base ≤ x → x < base + n → get_or diff (x - base) 0 ≡ v)
     → mask (leb base x) v ≡ share base diff x ⊕ mask (leb (base + n) x) v
 unfolding share
-from-base base n x v diff long here = rw long (go (dec_lt x base) (dec_lt x (base + n)))
+from_base base n x v diff long here = rw long (go (dec_lt x base) (dec_lt x (base + n)))
   where
     go : Dec (x < base) → Dec (x < base + n)
         → mask (leb base x) v ≡ mask (spanning base n x) (get_or diff (x - base) 0) ⊕ mask (leb (base + n) x) v
-    go (yes a) b = rw (lt-leb base x a, spanning-before base n x a, lt-leb (base + n) x (omega arith)) (sym (⊕-zero-r 0))
+    go (yes a) b = rw (lt-leb base x a, spanning_before base n x a, lt-leb (base + n) x (omega arith)) (sym (⊕-zero-r 0))
     go (no a) (yes b) =
-        rw (le-leb base x (omega arith), spanning-in base n x (omega arith) b, lt-leb (base + n) x b)
+        rw (le-leb base x (omega arith), spanning_in base n x (omega arith) b, lt-leb (base + n) x b)
         (sym (here (omega arith) b) ∙ sym (⊕-zero-r (get_or diff (x - base) 0)))
     go (no a) (no b) =
-        rw (le-leb base x (omega arith), spanning-after base n x (omega arith), le-leb (base + n) x (omega arith)) (sym (⊕-zero-l v))
+        rw (le-leb base x (omega arith), spanning_after base n x (omega arith), le-leb (base + n) x (omega arith)) (sym (⊕-zero-l v))
 
 -- the words of a backup from a page on are the page's and those from the next page on
 module _ (s : Sizes) (at page : ℕ) (backups : List ℕ) (h : page < s.pages) (fits : at + total s ≤ length backups) where
-  page-length : length (part (at + pageBase s page) (pageWords s page) backups) ≡ pageWords s page
-  page-length = length_part (at + pageBase s page) (pageWords s page) backups (omega (arith, page-end s page h))
+  page_length_lem : length (part (at + page_base s page) (page_words s page) backups) ≡ page_words s page
+  page_length_lem = length_part (at + page_base s page) (page_words s page) backups (omega (arith, page_end s page h))
 
-  page-word : (x : ℕ) → pageBase s page ≤ x → x < pageBase s page + pageWords s page
-      → get_or (part (at + pageBase s page) (pageWords s page) backups) (x - pageBase s page) 0 ≡ get_or (part at (total s) backups) x 0
-  page-word x l m =
-      get_d_part (at + pageBase s page) (pageWords s page) backups (x - pageBase s page) (omega arith)
+  page_word : (x : ℕ) → page_base s page ≤ x → x < page_base s page + page_words s page
+      → get_or (part (at + page_base s page) (page_words s page) backups) (x - page_base s page) 0 ≡ get_or (part at (total s) backups) x 0
+  page_word x l m =
+      get_d_part (at + page_base s page) (page_words s page) backups (x - page_base s page) (omega arith)
       ∙ ap (λ (i : ℕ). get_or backups i 0) (omega arith)
-      ∙ sym (get_d_part at (total s) backups x (omega (arith, page-end s page h)))
+      ∙ sym (get_d_part at (total s) backups x (omega (arith, page_end s page h)))
 
-  page-less : (x : ℕ)
-      → mask (leb (pageBase s page) x) (get_or (part at (total s) backups) x 0)
-      ≡ share (pageBase s page) (part (at + pageBase s page) (pageWords s page) backups) x
-      ⊕ mask (leb (pageBase s (page + 1)) x) (get_or (part at (total s) backups) x 0)
-  page-less x =
-      rw (page-base-step s page)
-      (from-base (pageBase s page) (pageWords s page) x (get_or (part at (total s) backups) x 0)
-      (part (at + pageBase s page) (pageWords s page) backups) page-length (page-word x))
+  page_less : (x : ℕ)
+      → mask (leb (page_base s page) x) (get_or (part at (total s) backups) x 0)
+      ≡ share (page_base s page) (part (at + page_base s page) (page_words s page) backups) x
+      ⊕ mask (leb (page_base s (page + 1)) x) (get_or (part at (total s) backups) x 0)
+  page_less x =
+      rw (page_base_step s page)
+      (from_base (page_base s page) (page_words s page) x (get_or (part at (total s) backups) x 0)
+      (part (at + page_base s page) (page_words s page) backups) page_length_lem (page_word x))
 
 module _ (c : Core) (w : World) (m : Progress c w) (h : c.replay.page < c.sizes.pages) where
   base : ℕ
-  base = pageBase c.sizes c.replay.page
+  base = page_base c.sizes c.replay.page
 
   diff : List ℕ
-  diff = part (backupAt c.sizes c.epoch + pageBase c.sizes c.replay.page) (pageWords c.sizes c.replay.page) w.backups
+  diff = part (backup_at c.sizes c.epoch + page_base c.sizes c.replay.page) (page_words c.sizes c.replay.page) w.backups
 
-  fits : backupAt c.sizes c.epoch + total c.sizes ≤ length w.backups
-  fits = omega (arith, backup-within c.sizes c.epoch, m.lengths.backups)
+  fits : backup_at c.sizes c.epoch + total c.sizes ≤ length w.backups
+  fits = omega (arith, backup_within c.sizes c.epoch, m.lengths.backups)
 
-  image-backup : (image_of w).backup ≡ part (backupAt c.sizes c.epoch) (total c.sizes) w.backups
-  unfolding image_of imageFrom
-  image-backup = rw (m.sizes, m.epoch)
+  image_backup : (image_of w).backup ≡ part (backup_at c.sizes c.epoch) (total c.sizes) w.backups
+  unfolding image_of image_from
+  image_backup = rw (m.sizes, m.epoch)
 
-  backup-less : (x : ℕ) → backupLeft c w x ≡ share base diff x ⊕ backupLeft (backupStep c w).core w x
-  unfolding backupLeft backupStep withReplay base diff
-  backup-less x =
-      rw image-backup
-      (page-less c.sizes (backupAt c.sizes c.epoch) c.replay.page w.backups h fits x)
+  backup_less : (x : ℕ) → backup_left c w x ≡ share base diff x ⊕ backup_left (backup_step c w).core w x
+  unfolding backup_left backup_step with_replay base diff
+  backup_less x =
+      rw image_backup
+      (page_less c.sizes (backup_at c.sizes c.epoch) c.replay.page w.backups h fits x)
 
   inside : base + length diff ≤ length w.pages
   unfolding base diff
   inside =
-      omega (arith, page-end c.sizes c.replay.page h, m.lengths.pages, page-length c.sizes (backupAt c.sizes c.epoch) c.replay.page w.backups h fits)
+      omega (arith, page_end c.sizes c.replay.page h, m.lengths.pages, page_length_lem c.sizes (backup_at c.sizes c.epoch) c.replay.page w.backups h fits)
 
-  backup-words : (x : ℕ) → x < total c.sizes
-      → get_or (xorAt base diff w.pages) x 0 ⊕ (backupLeft (backupStep c w).core w x ⊕ logsLeft c w x) ≡ get_or (restarted (image_of w)) x 0
-  backup-words x k =
-      rw (xor-at-word base diff w.pages x inside)
-      (regroup (get_or w.pages x 0) (share base diff x) (backupLeft (backupStep c w).core w x) (logsLeft c w x)
-      ∙ ap (λ (b : ℕ). get_or w.pages x 0 ⊕ (b ⊕ logsLeft c w x)) (sym (backup-less x))
+  backup_words : (x : ℕ) → x < total c.sizes
+      → get_or (xor_at base diff w.pages) x 0 ⊕ (backup_left (backup_step c w).core w x ⊕ logs_left c w x) ≡ get_or (restarted (image_of w)) x 0
+  backup_words x k =
+      rw (xor_at_word base diff w.pages x inside)
+      (regroup (get_or w.pages x 0) (share base diff x) (backup_left (backup_step c w).core w x) (logs_left c w x)
+      ∙ ap (λ (b : ℕ). get_or w.pages x 0 ⊕ (b ⊕ logs_left c w x)) (sym (backup_less x))
       ∙ m.words x k)
 
-  stepped : Progress (backupStep c w).core (withPages w (xorAt base diff w.pages))
-  unfolding backupStep withReplay backupLeft logsLeft logLeft position_of readDisk image_of imageFrom wordsFrom tailIn
+  stepped : Progress (backup_step c w).core (with_pages w (xor_at base diff w.pages))
+  unfolding backup_step with_replay backup_left logs_left log_left position_of read_disk image_of image_from words_from tail_in
   stepped =
       record {
         stage = m.stage;
         sizes = m.sizes;
         epoch = m.epoch;
         bounds = m.bounds;
-        lengths = record { pages = length-xor-at base diff w.pages ∙ m.lengths.pages; backups = m.lengths.backups; logs = m.lengths.logs; work = m.lengths.work };
+        lengths = record { pages = length_xor_at base diff w.pages ∙ m.lengths.pages; backups = m.lengths.backups; logs = m.lengths.logs; work = m.lengths.work };
         backup = m.backup;
         starts = m.starts;
         tails = m.tails;
@@ -116,34 +116,34 @@ module _ (c : Core) (w : World) (m : Progress c w) (h : c.replay.page < c.sizes.
         positions = m.positions;
         clean = m.clean;
         page = omega arith;
-        words = backup-words;
+        words = backup_words;
       }
 
   -- the step takes its page of the image's backup
-  page-of-backup : part (pageBase c.sizes c.replay.page) (pageWords c.sizes c.replay.page) (image_of w).backup ≡ diff
+  page_of_backup : part (page_base c.sizes c.replay.page) (page_words c.sizes c.replay.page) (image_of w).backup ≡ diff
   unfolding diff
-  page-of-backup =
+  page_of_backup =
       let s : Sizes = c.sizes in
-      let at : ℕ = backupAt s c.epoch in
+      let at : ℕ = backup_at s c.epoch in
       let page : ℕ = c.replay.page in
       let whole : List ℕ = part at (total s) w.backups in
-      let long = length_part (pageBase s page) (pageWords s page) whole (omega (arith, page-end s page h, length_part at (total s) w.backups fits)) in
-      rw image-backup
-      (ext_get_or 0 _ _ (long ∙ sym (page-length s at page w.backups h fits)) (λ i l.
-      let inside : i < pageWords s page = subst (λ (n : ℕ). i < n) long l in
-      get_d_part (pageBase s page) (pageWords s page) whole i inside
-      ∙ get_d_part at (total s) w.backups (pageBase s page + i) (omega (arith, page-end s page h))
+      let long = length_part (page_base s page) (page_words s page) whole (omega (arith, page_end s page h, length_part at (total s) w.backups fits)) in
+      rw image_backup
+      (ext_get_or 0 _ _ (long ∙ sym (page_length_lem s at page w.backups h fits)) (λ i l.
+      let inside : i < page_words s page = subst (λ (n : ℕ). i < n) long l in
+      get_d_part (page_base s page) (page_words s page) whole i inside
+      ∙ get_d_part at (total s) w.backups (page_base s page + i) (omega (arith, page_end s page h))
       ∙ ap (λ (j : ℕ). get_or w.backups j 0) (omega arith)
-      ∙ sym (get_d_part (at + pageBase s page) (pageWords s page) w.backups i inside)))
+      ∙ sym (get_d_part (at + page_base s page) (page_words s page) w.backups i inside)))
 
-  pub backup-step : BackupStep c w c.replay.page
-  unfolding restartStepTask backupStep diff
-  backup-step =
+  pub backup_step_lem : BackupStep c w c.replay.page
+  unfolding restart_step_task backup_step diff
+  backup_step_lem =
       record {
-        changes = rw (le-ltb c.sizes.disks c.sizes.disks (omega arith), page-of-backup);
+        changes = rw (le-ltb c.sizes.disks c.sizes.disks (omega arith), page_of_backup);
         moves = rw (le-ltb c.sizes.disks c.sizes.disks (omega arith));
       }
 
-  pub backup-progress : Progress (backupStep c w).core (perform (backupStep c w).actions w)
-  unfolding backupStep base diff
-  backup-progress = rw (perform-xor base diff w) stepped
+  pub backup_progress : Progress (backup_step c w).core (perform (backup_step c w).actions w)
+  unfolding backup_step base diff
+  backup_progress = rw (perform_xor base diff w) stepped

@@ -13,117 +13,117 @@ use Rattle.model.specs.declared.Sizes.{Sizes}
 use Rattle.model.specs.declared.Core.{Core}
 use Rattle.model.specs.declared.Decoded.{Decoded}
 use Rattle.model.specs.declared.Decoded.TheVariants.{Change, Close, Malformed}
-use Rattle.model.specs.Below.{sumBelow}
-use Rattle.model.specs.Sizes.{sizesInBounds, total}
-use Rattle.model.specs.Anchor.{sizesOn, startOn}
+use Rattle.model.specs.Below.{sum_below}
+use Rattle.model.specs.Sizes.{sizes_in_bounds, total}
+use Rattle.model.specs.Anchor.{sizes_on, start_on}
 use Rattle.model.specs.World.{World}
-use Rattle.model.specs.State.{withReplay, places, limit, noTable, emptyLogs, openCore, start_of, tailOf, end_of, number_at, servedBy, reservedFor, reservedOn, servingSound, sound}
+use Rattle.model.specs.State.{with_replay, places, limit, no_table, empty_logs, open_core, start_of, tail_of, end_of, number_at, served_by, reserved_for, reserved_on, serving_sound, sound}
 use Rattle.model.specs.Refusal.{Row, accepted, verdict}
-use Rattle.model.specs.Causes.{whenReplaying, sizesWrong, lengthsWrong, tailOn, sourceMissing, spent}
-use Rattle.model.specs.Format.{formatRows, formatTask}
-use Rattle.model.specs.Restart.{imageRows, restartBeginRows, restartBeginTask, remaining, readDisk, nextRecord, restartStepRows, backupStep, moved_to, recordStep, restartStepTask, restartRunTask, restartEndRows, restartEndTask}
-use Rattle.model.proofs.Decode.{found-change, found-close}
+use Rattle.model.specs.Causes.{when_replaying, sizes_wrong, lengths_wrong, tail_on, source_missing, spent}
+use Rattle.model.specs.Format.{format_rows, format_task}
+use Rattle.model.specs.Restart.{image_rows, restart_begin_rows, restart_begin_task, remaining, read_disk, next_record, restart_step_rows, backup_step, moved_to, record_step, restart_step_task, restart_run_task, restart_end_rows, restart_end_task}
+use Rattle.model.proofs.Decode.{found_change, found_close}
 use Rattle.model.proofs.Bounds.{bounded}
-use Rattle.model.proofs.KeptBases.{bases-made, bases-carried}
-use Rattle.model.proofs.Restart.Run.{run-keeps}
-use Rattle.model.proofs.Store.Rows.{stage-row}
-use Rattle.model.proofs.Sound.Test.{Sized, Passing, serving-test, ReplaySound, replay-sound, replaying-test}
-use Rattle.model.proofs.Verdict.{row-passed, verdict-append, accepted-first}
-use Rattle.model.proofs.Checked.{rows-restartable}
-use Rattle.model.proofs.PerDisk.{getD-per-disk, length-per-disk}
-use Rattle.model.proofs.Growth.{none-buffered, kept-start}
+use Rattle.model.proofs.KeptBases.{bases_made, bases_carried}
+use Rattle.model.proofs.Restart.Run.{run_keeps}
+use Rattle.model.proofs.Store.Rows.{stage_row}
+use Rattle.model.proofs.Sound.Test.{Sized, Passing, serving_test, ReplaySound, replay_sound_lem, replaying_test}
+use Rattle.model.proofs.Verdict.{row_passed, verdict_append, accepted_first}
+use Rattle.model.proofs.Checked.{rows_restartable}
+use Rattle.model.proofs.PerDisk.{get_d_per_disk, length_per_disk}
+use Rattle.model.proofs.Growth.{none_buffered, kept_start}
 
 -- An open state with no transaction and empty logs.
-none-reserved : (d : ℕ) → d < 8 → reservedOn noTable d ≡ 0
-unfolding reservedOn
-none-reserved d h = get_or-replicate 8 d 0 0 h
+none_reserved : (d : ℕ) → d < 8 → reserved_on no_table d ≡ 0
+unfolding reserved_on
+none_reserved d h = get_or-replicate 8 d 0 0 h
 
-none-owed : (d : ℕ) → reservedFor noTable d ≡ 0
-unfolding reservedFor sumBelow servedBy number_at
-none-owed d = refl
+none_owed : (d : ℕ) → reserved_for no_table d ≡ 0
+unfolding reserved_for sum_below served_by number_at
+none_owed d = refl
 
-module _ (s : Sizes) (epoch : ℕ) (tails : List ℕ) (bounds : sizesInBounds s ≡ true) (eight : length tails ≡ 8)
+module _ (s : Sizes) (epoch : ℕ) (tails : List ℕ) (bounds : sizes_in_bounds s ≡ true) (eight : length tails ≡ 8)
     (top : (d : ℕ) → d < s.disks → get_or tails d 0 ≤ limit) where
-  open-serving : servingSound (openCore s epoch tails) ≡ true
-  unfolding openCore start_of tailOf end_of number_at
-  open-serving =
-      serving-test (openCore s epoch tails) bounds (bases-made (openCore s epoch tails) refl) (omega arith)
+  open_serving : serving_sound (open_core s epoch tails) ≡ true
+  unfolding open_core start_of tail_of end_of number_at
+  open_serving =
+      serving_test (open_core s epoch tails) bounds (bases_made (open_core s epoch tails) refl) (omega arith)
       (λ d h.
-      let eight = (bounded s bounds).disks-max in
-      let none = none-buffered tails d (omega arith) in
-      let unreserved = none-reserved d (omega arith) in
+      let eight = (bounded s bounds).disks_max in
+      let none = none_buffered tails d (omega arith) in
+      let unreserved = none_reserved d (omega arith) in
       record {
-        counted = unreserved ∙ sym (none-owed d);
+        counted = unreserved ∙ sym (none_owed d);
         fill = omega arith;
         ordered = omega arith;
-        room = omega (arith, kept-start (emptyLogs tails) d);
+        room = omega (arith, kept_start (empty_logs tails) d);
         limit = omega (arith, top d h);
       })
       (λ i h some. absurd (some (get_or-replicate places i 0 0 h)))
 
-  open-passes : Passing (openCore s epoch tails)
-  unfolding openCore sound
-  open-passes = (
+  open_passes : Passing (open_core s epoch tails)
+  unfolding open_core sound
+  open_passes = (
     record {
       logs = record { starts = eight; tails = eight; fills = refl };
       table = record { numbers = refl; disks = refl; firsts = refl; reserved = refl; sums = refl };
       ends = refl;
       positions = refl;
     },
-    open-serving,
+    open_serving,
   )
 
-pub format-passes : (c : Core) (w : World) (s : Sizes) → verdict (formatRows c w s) ≡ accepted → Passing (formatTask s).core
-unfolding formatRows formatTask sizesWrong
-format-passes c w s ok =
-    let stage = row-passed _ _ ok in
-    let anchor = row-passed _ _ stage.1 in
-    let sizes = row-passed _ _ anchor.1 in
+pub format_passes : (c : Core) (w : World) (s : Sizes) → verdict (format_rows c w s) ≡ accepted → Passing (format_task s).core
+unfolding format_rows format_task sizes_wrong
+format_passes c w s ok =
+    let stage = row_passed _ _ ok in
+    let anchor = row_passed _ _ stage.1 in
+    let sizes = row_passed _ _ anchor.1 in
     let bounds = not-false _ sizes.0 in
-    open-passes s 1 (replicate 8 0) bounds refl
-    (λ d h. omega (arith, get_or-replicate {A = ℕ} 8 d 0 0 (omega (arith, (bounded s bounds).disks-max))))
+    open_passes s 1 (replicate 8 0) bounds refl
+    (λ d h. omega (arith, get_or-replicate {A = ℕ} 8 d 0 0 (omega (arith, (bounded s bounds).disks_max))))
 
 -- Restart begin: the rows found sizes, tails and the checkpoint number within their bounds.
-pub restart-begin-passes : (c : Core) (w : World) → verdict (restartBeginRows c w) ≡ accepted → Passing (restartBeginTask w).core
-unfolding restartBeginRows imageRows restartBeginTask spent tailOf
-restart-begin-passes c w ok =
-    let s : Sizes = sizesOn w.anchor in
-    let after = (row-passed _ _ ok).1 in
-    let checks : List Row = imageRows (λ s. lengthsWrong s (total s) w) w.anchor w.logs in
-    let found = (rows-restartable w (accepted-first checks _ after)).image in
-    let epoch = row-passed _ _ (sym (verdict-append checks _ (accepted-first checks _ after)) ∙ after) in
+pub restart_begin_passes : (c : Core) (w : World) → verdict (restart_begin_rows c w) ≡ accepted → Passing (restart_begin_task w).core
+unfolding restart_begin_rows image_rows restart_begin_task spent tail_of
+restart_begin_passes c w ok =
+    let s : Sizes = sizes_on w.anchor in
+    let after = (row_passed _ _ ok).1 in
+    let checks : List Row = image_rows (λ s. lengths_wrong s (total s) w) w.anchor w.logs in
+    let found = (rows_restartable w (accepted_first checks _ after)).image in
+    let epoch = row_passed _ _ (sym (verdict_append checks _ (accepted_first checks _ after)) ∙ after) in
     let bounds = found.bounds in
-    let eight = (bounded s bounds).disks-max in (
+    let eight = (bounded s bounds).disks_max in (
       record {
-        logs = record { starts = length-per-disk s (startOn w.anchor); tails = length-per-disk s (tailOn s w); fills = refl };
+        logs = record { starts = length_per_disk s (start_on w.anchor); tails = length_per_disk s (tail_on s w); fills = refl };
         table = record { numbers = refl; disks = refl; firsts = refl; reserved = refl; sums = refl };
         ends = refl;
-        positions = length-per-disk s (startOn w.anchor);
+        positions = length_per_disk s (start_on w.anchor);
       },
-      replaying-test (restartBeginTask w).core refl
+      replaying_test (restart_begin_task w).core refl
           (record {
             bounds = bounds;
-            bases = bases-made (restartBeginTask w).core refl;
+            bases = bases_made (restart_begin_task w).core refl;
             epoch = leb-false _ _ epoch.0;
             page = omega arith;
-            tails = λ d h. omega (arith, getD-per-disk s (tailOn s w) d eight h, found.whole.tails d h);
-            positions = λ d h. omega (arith, getD-per-disk s (tailOn s w) d eight h, getD-per-disk s (startOn w.anchor) d eight h, found.whole.tails d h);
+            tails = λ d h. omega (arith, get_d_per_disk s (tail_on s w) d eight h, found.whole.tails d h);
+            positions = λ d h. omega (arith, get_d_per_disk s (tail_on s w) d eight h, get_d_per_disk s (start_on w.anchor) d eight h, found.whole.tails d h);
           }),
     )
 
 -- Restart step: a log's next position is the end of a record that was read, and the next page is one of the pages.
-module _ (c : Core) (w : World) (sized : Sized c) (replaying : whenReplaying c.stage ≡ true) (s : sound c ≡ true) where
+module _ (c : Core) (w : World) (sized : Sized c) (replaying : when_replaying c.stage ≡ true) (s : sound c ≡ true) where
   k : ReplaySound c
-  k = replay-sound c replaying s
+  k = replay_sound_lem c replaying s
 
-  moved_passes : (d next : ℕ) → d < c.sizes.disks → next ≤ tailOf c.logs d → Passing (moved_to c d next)
-  unfolding moved_to withReplay
+  moved_passes : (d next : ℕ) → d < c.sizes.disks → next ≤ tail_of c.logs d → Passing (moved_to c d next)
+  unfolding moved_to with_replay
   moved_passes d next below near = (
     record { logs = sized.logs; table = sized.table; ends = sized.ends; positions = simp length-set sized.positions },
-    replaying-test (moved_to c d next) replaying
+    replaying_test (moved_to c d next) replaying
         (record {
           bounds = k.bounds;
-          bases = bases-carried c (moved_to c d next) refl refl k.bases;
+          bases = bases_carried c (moved_to c d next) refl refl k.bases;
           epoch = k.epoch;
           page = k.page;
           tails = k.tails;
@@ -131,65 +131,65 @@ module _ (c : Core) (w : World) (sized : Sized c) (replaying : whenReplaying c.s
         }),
   )
     where
-      go : (e : ℕ) → e < c.sizes.disks → Dec (e ≡ d) → get_or (set c.replay.positions d next) e 0 ≤ tailOf c.logs e
+      go : (e : ℕ) → e < c.sizes.disks → Dec (e ≡ d) → get_or (set c.replay.positions d next) e 0 ≤ tail_of c.logs e
       go e h (yes same) =
-          rw (same, get_or-set_same c.replay.positions d next 0 (omega (arith, sized.positions, (bounded c.sizes k.bounds).disks-max)))
+          rw (same, get_or-set_same c.replay.positions d next 0 (omega (arith, sized.positions, (bounded c.sizes k.bounds).disks_max)))
           near
       go e h (no ne) = rw (get_or-set_other c.replay.positions d e next 0 ne) (k.positions e h)
 
-  record-passes : (d : ℕ) → d < c.sizes.disks → (r : Decoded) → nextRecord c w d ≡ r → Passing (recordStep c w d r).core
-  unfolding nextRecord
-  record-passes d below (Change kind page slot number copy width next) e =
-      moved_passes d next below (found-change c.sizes (readDisk c w d) (tailOf c.logs d) e).next_le
-  record-passes d below (Close kind number next) e =
-      moved_passes d next below (found-close c.sizes (readDisk c w d) (tailOf c.logs d) e).next_le
-  record-passes d below Malformed e = (sized, s)
+  record_passes : (d : ℕ) → d < c.sizes.disks → (r : Decoded) → next_record c w d ≡ r → Passing (record_step c w d r).core
+  unfolding next_record
+  record_passes d below (Change kind page slot number copy width next) e =
+      moved_passes d next below (found_change c.sizes (read_disk c w d) (tail_of c.logs d) e).next_le
+  record_passes d below (Close kind number next) e =
+      moved_passes d next below (found_close c.sizes (read_disk c w d) (tail_of c.logs d) e).next_le
+  record_passes d below Malformed e = (sized, s)
 
-  backup-passes : c.replay.page < c.sizes.pages → Passing (backupStep c w).core
-  unfolding backupStep withReplay
-  backup-passes h = (
+  backup_passes : c.replay.page < c.sizes.pages → Passing (backup_step c w).core
+  unfolding backup_step with_replay
+  backup_passes h = (
     record { logs = sized.logs; table = sized.table; ends = sized.ends; positions = sized.positions },
-    replaying-test (backupStep c w).core replaying
-        (record { bounds = k.bounds; bases = bases-carried c (backupStep c w).core refl refl k.bases; epoch = k.epoch; page = omega arith; tails = k.tails; positions = k.positions }),
+    replaying_test (backup_step c w).core replaying
+        (record { bounds = k.bounds; bases = bases_carried c (backup_step c w).core refl refl k.bases; epoch = k.epoch; page = omega arith; tails = k.tails; positions = k.positions }),
   )
 
 -- of the backup, a page remains
-page-left : (c : Core) (source : ℕ) → c.sizes.disks ≡ source → eqb (remaining c source) 0 ≡ false → c.replay.page < c.sizes.pages
+page_left : (c : Core) (source : ℕ) → c.sizes.disks ≡ source → eqb (remaining c source) 0 ≡ false → c.replay.page < c.sizes.pages
 unfolding remaining
-page-left c source same e =
+page_left c source same e =
     let left : c.sizes.pages - c.replay.page ≡ 0 → ⊥ =
     eqb-false _ _ (rw (le-ltb source c.sizes.disks (omega arith), eq-eqb source c.sizes.disks (sym same)) at e) in
     omega (arith, left)
 
-pub restart-step-passes : (c : Core) (w : World) (source : ℕ) → Sized c → sound c ≡ true → verdict (restartStepRows c w source) ≡ accepted
-    → Passing (restartStepTask c w source).core
-unfolding restartStepRows restartStepTask sourceMissing
-restart-step-passes c w source sized s ok =
-    let stage = row-passed _ _ ok in
-    let anchor = row-passed _ _ stage.1 in
-    let lengths = row-passed _ _ anchor.1 in
-    let records = row-passed _ _ lengths.1 in
-    let missing = row-passed _ _ records.1 in
-    let rest = row-passed _ _ missing.1 in
-    go (stage-row whenReplaying _ c stage.0) missing.0 rest.0 (ltb source c.sizes.disks) refl
+pub restart_step_passes : (c : Core) (w : World) (source : ℕ) → Sized c → sound c ≡ true → verdict (restart_step_rows c w source) ≡ accepted
+    → Passing (restart_step_task c w source).core
+unfolding restart_step_rows restart_step_task source_missing
+restart_step_passes c w source sized s ok =
+    let stage = row_passed _ _ ok in
+    let anchor = row_passed _ _ stage.1 in
+    let lengths = row_passed _ _ anchor.1 in
+    let records = row_passed _ _ lengths.1 in
+    let missing = row_passed _ _ records.1 in
+    let rest = row_passed _ _ missing.1 in
+    go (stage_row when_replaying _ c stage.0) missing.0 rest.0 (ltb source c.sizes.disks) refl
   where
-    go : whenReplaying c.stage ≡ true → ltb c.sizes.disks source ≡ false → eqb (remaining c source) 0 ≡ false
+    go : when_replaying c.stage ≡ true → ltb c.sizes.disks source ≡ false → eqb (remaining c source) 0 ≡ false
         → (b : Bool) → ltb source c.sizes.disks ≡ b
-        → Passing (cond b (recordStep c w source (nextRecord c w source)) (backupStep c w)).core
+        → Passing (cond b (record_step c w source (next_record c w source)) (backup_step c w)).core
     go replaying near left true e =
-        record-passes c w sized replaying s source (ltb-true _ _ e) (nextRecord c w source) refl
+        record_passes c w sized replaying s source (ltb-true _ _ e) (next_record c w source) refl
     go replaying near left false e =
-        backup-passes c w sized replaying s
-        (page-left c source (omega (arith, ltb-false source c.sizes.disks e, ltb-false c.sizes.disks source near)) left)
+        backup_passes c w sized replaying s
+        (page_left c source (omega (arith, ltb-false source c.sizes.disks e, ltb-false c.sizes.disks source near)) left)
 
 -- A run of them.
-pub restart-run-passes : (c : Core) (w : World) (source most : ℕ) → Passing c → Passing (restartRunTask most c w source).core
-restart-run-passes c w source most p =
-    run-keeps most (λ k n v. Passing n) source (λ k n v ok now. restart-step-passes n v source now.0 now.1 ok) c w p
+pub restart_run_passes : (c : Core) (w : World) (source most : ℕ) → Passing c → Passing (restart_run_task most c w source).core
+restart_run_passes c w source most p =
+    run_keeps most (λ k n v. Passing n) source (λ k n v ok now. restart_step_passes n v source now.0 now.1 ok) c w p
 
 -- Restart end: the logs start at their tails.
-pub restart-end-passes : (c : Core) (w : World) → Sized c → sound c ≡ true → verdict (restartEndRows c w) ≡ accepted → Passing (restartEndTask c w).core
-unfolding restartEndRows restartEndTask tailOf
-restart-end-passes c w sized s ok =
-    let k = replay-sound c (stage-row whenReplaying _ c (row-passed _ _ ok).0) s in
-    open-passes c.sizes (c.epoch + 1) c.logs.tails k.bounds sized.logs.tails k.tails
+pub restart_end_passes : (c : Core) (w : World) → Sized c → sound c ≡ true → verdict (restart_end_rows c w) ≡ accepted → Passing (restart_end_task c w).core
+unfolding restart_end_rows restart_end_task tail_of
+restart_end_passes c w sized s ok =
+    let k = replay_sound_lem c (stage_row when_replaying _ c (row_passed _ _ ok).0) s in
+    open_passes c.sizes (c.epoch + 1) c.logs.tails k.bounds sized.logs.tails k.tails

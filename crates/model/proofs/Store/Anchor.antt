@@ -6,19 +6,19 @@ use native.Mathlib.Omega.{arith}
 use lib.ListN.{length, get_or, set, length-set}
 use lib.Seq.{sets, length-sets, get_or-set_same, get_or-set_other}
 use Rattle.model.specs.Word.{part}
-use Rattle.model.specs.Anchor.{epochWord, slotsAt, widthsAt, rows_at, epochOn, sizesOn}
-use Rattle.model.proofs.Parts.{part-cong, get_d_sets_before, getD-sets-inside}
+use Rattle.model.specs.Anchor.{epoch_word, slots_at, widths_at, rows_at, epoch_on, sizes_on}
+use Rattle.model.proofs.Parts.{part_cong, get_d_sets_before, get_d_sets_inside}
 use Rattle.model.proofs.Store.Puts.{first_word}
 
 -- The anchor as a format stores it: c := 0, the three numbers, both arrays, both rows, c := 1.
-unfoldable pub laidAnchor : List ℕ → List ℕ → List ℕ → List ℕ → List ℕ → List ℕ
-laidAnchor a front slots widths rows =
-    set (sets (sets (sets (sets (set a epochWord 0) 0 front) slotsAt slots) widthsAt widths) rows_at rows) epochWord 1
+unfoldable pub laid_anchor : List ℕ → List ℕ → List ℕ → List ℕ → List ℕ → List ℕ
+laid_anchor a front slots widths rows =
+    set (sets (sets (sets (sets (set a epoch_word 0) 0 front) slots_at slots) widths_at widths) rows_at rows) epoch_word 1
 
 -- What each of its words is.
 pub record Laid (a f l m z : List ℕ) : Type 0 where
   pub long : length a ≡ 148
-  pub epoch : epochOn a ≡ 1
+  pub epoch : epoch_on a ≡ 1
   pub front : (i : ℕ) → i < 3 → get_or a i 0 ≡ get_or f i 0
   pub slots : (i : ℕ) → i < 64 → get_or a (4 + i) 0 ≡ get_or l i 0
   pub widths : (i : ℕ) → i < 64 → get_or a (68 + i) 0 ≡ get_or m i 0
@@ -56,57 +56,57 @@ module _ (a front slots widths rows : List ℕ) (long : length a ≡ 148) (three
   l5 : length a5 ≡ 148
   l5 = length-sets a4 132 rows ∙ l4
 
-  laid-length : length (laidAnchor a front slots widths rows) ≡ 148
-  unfolding laidAnchor
-  laid-length = length-set a5 3 1 ∙ l5
+  laid_length : length (laid_anchor a front slots widths rows) ≡ 148
+  unfolding laid_anchor
+  laid_length = length-set a5 3 1 ∙ l5
 
-  laid-epoch : get_or (laidAnchor a front slots widths rows) 3 0 ≡ 1
-  unfolding laidAnchor
-  laid-epoch = get_or-set_same a5 3 1 0 (omega (arith, l5))
+  laid_epoch : get_or (laid_anchor a front slots widths rows) 3 0 ≡ 1
+  unfolding laid_anchor
+  laid_epoch = get_or-set_same a5 3 1 0 (omega (arith, l5))
 
-  laid-front : (i : ℕ) → i < 3 → get_or (laidAnchor a front slots widths rows) i 0 ≡ get_or front i 0
-  unfolding laidAnchor
-  laid-front i h =
+  laid_front : (i : ℕ) → i < 3 → get_or (laid_anchor a front slots widths rows) i 0 ≡ get_or front i 0
+  unfolding laid_anchor
+  laid_front i h =
       get_or-set_other a5 3 i 1 0 (omega arith) ∙ get_d_sets_before a4 132 rows i (omega arith) ∙ get_d_sets_before a3 68 widths i (omega arith)
       ∙ get_d_sets_before a2 4 slots i (omega arith) ∙ first_word a1 front i (omega (arith, l1)) (omega arith)
 
-  laid-slots : (i : ℕ) → i < 64 → get_or (laidAnchor a front slots widths rows) (4 + i) 0 ≡ get_or slots i 0
-  unfolding laidAnchor
-  laid-slots i h =
+  laid_slots : (i : ℕ) → i < 64 → get_or (laid_anchor a front slots widths rows) (4 + i) 0 ≡ get_or slots i 0
+  unfolding laid_anchor
+  laid_slots i h =
       get_or-set_other a5 3 (4 + i) 1 0 (omega arith) ∙ get_d_sets_before a4 132 rows (4 + i) (omega arith)
-      ∙ get_d_sets_before a3 68 widths (4 + i) (omega arith) ∙ getD-sets-inside a2 4 slots i (omega (arith, l2)) (omega arith)
+      ∙ get_d_sets_before a3 68 widths (4 + i) (omega arith) ∙ get_d_sets_inside a2 4 slots i (omega (arith, l2)) (omega arith)
 
-  laid-widths : (i : ℕ) → i < 64 → get_or (laidAnchor a front slots widths rows) (68 + i) 0 ≡ get_or widths i 0
-  unfolding laidAnchor
-  laid-widths i h =
+  laid_widths : (i : ℕ) → i < 64 → get_or (laid_anchor a front slots widths rows) (68 + i) 0 ≡ get_or widths i 0
+  unfolding laid_anchor
+  laid_widths i h =
       get_or-set_other a5 3 (68 + i) 1 0 (omega arith) ∙ get_d_sets_before a4 132 rows (68 + i) (omega arith)
-      ∙ getD-sets-inside a3 68 widths i (omega (arith, l3)) (omega arith)
+      ∙ get_d_sets_inside a3 68 widths i (omega (arith, l3)) (omega arith)
 
-  laid-rows : (i : ℕ) → i < 16 → get_or (laidAnchor a front slots widths rows) (132 + i) 0 ≡ get_or rows i 0
-  unfolding laidAnchor
-  laid-rows i h =
-      get_or-set_other a5 3 (132 + i) 1 0 (omega arith) ∙ getD-sets-inside a4 132 rows i (omega (arith, l4)) (omega arith)
+  laid_rows : (i : ℕ) → i < 16 → get_or (laid_anchor a front slots widths rows) (132 + i) 0 ≡ get_or rows i 0
+  unfolding laid_anchor
+  laid_rows i h =
+      get_or-set_other a5 3 (132 + i) 1 0 (omega arith) ∙ get_d_sets_inside a4 132 rows i (omega (arith, l4)) (omega arith)
 
-  pub laid-anchor : Laid (laidAnchor a front slots widths rows) front slots widths rows
-  unfolding epochOn
-  laid-anchor =
+  pub laid_anchor_lem : Laid (laid_anchor a front slots widths rows) front slots widths rows
+  unfolding epoch_on
+  laid_anchor_lem =
       record {
-        long = laid-length;
-        epoch = laid-epoch;
-        front = laid-front;
-        slots = laid-slots;
-        widths = laid-widths;
-        rows = laid-rows;
+        long = laid_length;
+        epoch = laid_epoch;
+        front = laid_front;
+        slots = laid_slots;
+        widths = laid_widths;
+        rows = laid_rows;
       }
 
 -- anchors that agree in the words of the sizes, 0 to 2 and 4 to 131
-pub sizes-same : (a b : List ℕ) → length a ≡ 148 → length b ≡ 148
-    → ((i : ℕ) → i < 132 → (i ≡ 3 → ⊥) → get_or a i 0 ≡ get_or b i 0) → sizesOn a ≡ sizesOn b
-unfolding sizesOn
-sizes-same a b long whole same =
-    let slots : part 4 64 a ≡ part 4 64 b = part-cong 4 64 a b (omega arith) (omega arith) (λ i h k. same i (omega arith) (omega arith)) in
+pub sizes_same : (a b : List ℕ) → length a ≡ 148 → length b ≡ 148
+    → ((i : ℕ) → i < 132 → (i ≡ 3 → ⊥) → get_or a i 0 ≡ get_or b i 0) → sizes_on a ≡ sizes_on b
+unfolding sizes_on
+sizes_same a b long whole same =
+    let slots : part 4 64 a ≡ part 4 64 b = part_cong 4 64 a b (omega arith) (omega arith) (λ i h k. same i (omega arith) (omega arith)) in
     let widths : part 68 64 a ≡ part 68 64 b =
-    part-cong 68 64 a b (omega arith) (omega arith) (λ i h k. same i (omega arith) (omega arith)) in
+    part_cong 68 64 a b (omega arith) (omega arith) (λ i h k. same i (omega arith) (omega arith)) in
     λ i.
     record {
       pages = same 0 (omega arith) (omega arith) i;

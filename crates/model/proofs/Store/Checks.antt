@@ -14,86 +14,86 @@ use Rattle.model.specs.declared.Decoded.TheVariants.{Change, Close, Malformed}
 use Rattle.model.specs.declared.Fate.TheVariants.{Closed}
 use Rattle.model.specs.declared.Fault.TheVariants.{NoFault}
 use Rattle.model.specs.Sizes.{total}
-use Rattle.model.specs.Anchor.{epochOn, sizesOn, startOn}
+use Rattle.model.specs.Anchor.{epoch_on, sizes_on, start_on}
 use Rattle.model.specs.Record.{change, close}
-use Rattle.model.specs.Scan.{Scan, end, bad, item, scan, fateIn}
+use Rattle.model.specs.Scan.{Scan, end, bad, item, scan, fate_in}
 use Rattle.model.specs.World.{World}
-use Rattle.model.specs.State.{tailOf}
+use Rattle.model.specs.State.{tail_of}
 use Rattle.model.specs.Refusal.{Row, row, accepted, rejected, verdict, Result, number_of}
-use Rattle.model.specs.Causes.{whenShut, whenReplaying, whenServing, stageForbids, lengthsWrong, faultFrom, spent}
-use Rattle.model.specs.Format.{formatRows}
-use Rattle.model.specs.Transaction.{beginRows, updateRows, readRows, commitRows}
-use Rattle.model.specs.Abort.{abortFault, abortRows}
-use Rattle.model.specs.Checkpoint.{checkpointBeginRows, checkpointStepRows, checkpointEndRows}
-use Rattle.model.specs.Restart.{imageRows, restartBeginRows, position_of, remaining, readDisk, fateFrom, nextRecord, fateFault, recordFault, stepFault, restartStepRows, restartEndRows}
-use Rattle.model.specs.Listing.{listRows}
-use Rattle.model.specs.SetClasses.{setClassesRows}
-use Rattle.model.specs.Call.{Call, format, begin, update, look, read, listLine, listLines, commit, abort, setClasses, checkpointBegin, checkpointStep, checkpointEnd, restartBegin, restartStep, restartRun, restartEnd, newState, rows_of, result_of}
-use Rattle.model.proofs.Storeless.{storeless-finishes}
-use Rattle.model.proofs.Scan.{scan-bad}
+use Rattle.model.specs.Causes.{when_shut, when_replaying, when_serving, stage_forbids, lengths_wrong, fault_from, spent}
+use Rattle.model.specs.Format.{format_rows}
+use Rattle.model.specs.Transaction.{begin_rows, update_rows, read_rows, commit_rows}
+use Rattle.model.specs.Abort.{abort_fault, abort_rows}
+use Rattle.model.specs.Checkpoint.{checkpoint_begin_rows, checkpoint_step_rows, checkpoint_end_rows}
+use Rattle.model.specs.Restart.{image_rows, restart_begin_rows, position_of, remaining, read_disk, fate_from, next_record, fate_fault, record_fault, step_fault, restart_step_rows, restart_end_rows}
+use Rattle.model.specs.Listing.{list_rows}
+use Rattle.model.specs.SetClasses.{set_classes_rows}
+use Rattle.model.specs.Call.{Call, format, begin, update, look, read, list_line, list_lines, commit, abort, set_classes, checkpoint_begin, checkpoint_step, checkpoint_end, restart_begin, restart_step, restart_run, restart_end, new_state, rows_of, result_of}
+use Rattle.model.proofs.Storeless.{storeless_finishes}
+use Rattle.model.proofs.Scan.{scan_bad}
 use Rattle.model.proofs.Reading.{ending}
-use Rattle.model.proofs.Checked.{whole-records, Restartable, restartable-rows}
-use Rattle.model.proofs.Restart.Progress.{logLeft, Progress}
-use Rattle.model.proofs.Restart.LogStep.{change-well}
-use Rattle.model.proofs.Restart.Steps.{remaining-log}
-use Rattle.model.proofs.Store.Cases.{call-cases}
-use Rattle.model.proofs.Store.Rows.{stage-row}
-use Rattle.model.proofs.Verdict.{verdict-append}
+use Rattle.model.proofs.Checked.{whole_records, Restartable, restartable_rows}
+use Rattle.model.proofs.Restart.Progress.{log_left, Progress}
+use Rattle.model.proofs.Restart.LogStep.{change_well}
+use Rattle.model.proofs.Restart.Steps.{remaining_log}
+use Rattle.model.proofs.Store.Cases.{call_cases}
+use Rattle.model.proofs.Store.Rows.{stage_row}
+use Rattle.model.proofs.Verdict.{verdict_append}
 
-pub begin-verdict : (c : Core) (w : World) → c.stage ≡ Shut → Restartable w
-    → verdict (restartBeginRows c w) ≡ cond (spent (epochOn w.anchor)) (rejected 13 0 0) accepted
-unfolding verdict restartBeginRows stageForbids
-begin-verdict c w e h =
-    rw e (verdict-append (imageRows (λ s. lengthsWrong s (total s) w) w.anchor w.logs) (row 13 (spent (epochOn w.anchor)) ∷ []) (restartable-rows w h))
+pub begin_verdict : (c : Core) (w : World) → c.stage ≡ Shut → Restartable w
+    → verdict (restart_begin_rows c w) ≡ cond (spent (epoch_on w.anchor)) (rejected 13 0 0) accepted
+unfolding verdict restart_begin_rows stage_forbids
+begin_verdict c w e h =
+    rw e (verdict_append (image_rows (λ s. lengths_wrong s (total s) w) w.anchor w.logs) (row 13 (spent (epoch_on w.anchor)) ∷ []) (restartable_rows w h))
 
 -- "restart begin in stage shut can give only 13"
-pub restart-begin-answers : (c : Core) (w : World) → c.stage ≡ Shut → Restartable w
-    → (eqb (number_of (result_of restartBegin c w).answer) 0 || eqb (number_of (result_of restartBegin c w).answer) 13) ≡ true
-restart-begin-answers c w e h =
-    call-cases (λ (r : Result). (eqb (number_of r.answer) 0 || eqb (number_of r.answer) 13) ≡ true) restartBegin c w
-    (λ number first second v. rw (only (spent (epochOn w.anchor)) number first second (sym (begin-verdict c w e h) ∙ v)))
+pub restart_begin_answers : (c : Core) (w : World) → c.stage ≡ Shut → Restartable w
+    → (eqb (number_of (result_of restart_begin c w).answer) 0 || eqb (number_of (result_of restart_begin c w).answer) 13) ≡ true
+restart_begin_answers c w e h =
+    call_cases (λ (r : Result). (eqb (number_of r.answer) 0 || eqb (number_of r.answer) 13) ≡ true) restart_begin c w
+    (λ number first second v. rw (only (spent (epoch_on w.anchor)) number first second (sym (begin_verdict c w e h) ∙ v)))
     (λ v f. refl)
-    (λ v f. absurd (true≢false (sym (storeless-finishes restartBegin c w refl) ∙ f)))
+    (λ v f. absurd (true≢false (sym (storeless_finishes restart_begin c w refl) ∙ f)))
   where
     only : (b : Bool) (number first second : ℕ) → cond b (rejected 13 0 0) accepted ≡ rejected number first second → number ≡ 13
     only true number first second f = cc
     only false number first second f = let z : ◌≡◌ {A = ℕ} 0 1 = cc in absurd (omega arith)
 
 -- A restart step: the record that it takes is well formed, and so is all that it reads to learn its transaction's fate.
-fate-well : (disk number : ℕ) (sc : Scan) → ending sc ≡ end → fateFault disk (fateIn number sc) ≡ NoFault
-unfolding ending fateIn
-fate-well disk number end e = refl
-fate-well disk number (bad p) e = let z : ◌≡◌ {A = ℕ} 0 1 = cc in absurd (omega arith)
-fate-well disk number (item p (change kind page slot n copy diff) rest) e = fate-well disk number rest e
-fate-well disk number (item p (close kind n) rest) e = go (eqb n number) (fate-well disk number rest e)
+fate_well : (disk number : ℕ) (sc : Scan) → ending sc ≡ end → fate_fault disk (fate_in number sc) ≡ NoFault
+unfolding ending fate_in
+fate_well disk number end e = refl
+fate_well disk number (bad p) e = let z : ◌≡◌ {A = ℕ} 0 1 = cc in absurd (omega arith)
+fate_well disk number (item p (change kind page slot n copy diff) rest) e = fate_well disk number rest e
+fate_well disk number (item p (close kind n) rest) e = go (eqb n number) (fate_well disk number rest e)
   where
-    go : (b : Bool) → fateFault disk (fateIn number rest) ≡ NoFault → fateFault disk (cond b Closed (fateIn number rest)) ≡ NoFault
+    go : (b : Bool) → fate_fault disk (fate_in number rest) ≡ NoFault → fate_fault disk (cond b Closed (fate_in number rest)) ≡ NoFault
     go true f = refl
     go false f = f
 
 module _ (c : Core) (w : World) (m : Progress c w) where
-  pub record-well : (d : ℕ) → d < c.sizes.disks → position_of c d < tailOf c.logs d → (r : Decoded) → nextRecord c w d ≡ r
-      → recordFault c w d r ≡ NoFault
-  unfolding nextRecord fateFrom logLeft ending
-  record-well d h k (Change kind page slot number copy width next) e =
-      fate-well d number (scan c.sizes (readDisk c w d) (tailOf c.logs d) next) (change-well c w m d h k e)
-  record-well d h k (Close kind number next) e = refl
-  record-well d h k Malformed e =
-      let f = rw (scan-bad c.sizes (readDisk c w d) (tailOf c.logs d) k e) at (m.clean d h) in
+  pub record_well : (d : ℕ) → d < c.sizes.disks → position_of c d < tail_of c.logs d → (r : Decoded) → next_record c w d ≡ r
+      → record_fault c w d r ≡ NoFault
+  unfolding next_record fate_from log_left ending
+  record_well d h k (Change kind page slot number copy width next) e =
+      fate_well d number (scan c.sizes (read_disk c w d) (tail_of c.logs d) next) (change_well c w m d h k e)
+  record_well d h k (Close kind number next) e = refl
+  record_well d h k Malformed e =
+      let f = rw (scan_bad c.sizes (read_disk c w d) (tail_of c.logs d) k e) at (m.clean d h) in
       let z : ◌≡◌ {A = ℕ} 0 1 = cc in
       absurd (omega arith)
 
-  pub step-never-bad : (source : ℕ) → stepFault c w source ≡ NoFault
-  unfolding stepFault
-  step-never-bad source = go (ltb source c.sizes.disks && ltb 0 (remaining c source)) refl
+  pub step_never_bad : (source : ℕ) → step_fault c w source ≡ NoFault
+  unfolding step_fault
+  step_never_bad source = go (ltb source c.sizes.disks && ltb 0 (remaining c source)) refl
     where
       go : (b : Bool) → ltb source c.sizes.disks && ltb 0 (remaining c source) ≡ b
-          → cond b (recordFault c w source (nextRecord c w source)) NoFault ≡ NoFault
+          → cond b (record_fault c w source (next_record c w source)) NoFault ≡ NoFault
       go true e =
           let both = (and-eq-true_iff (ltb source c.sizes.disks) (ltb 0 (remaining c source))).0 e in
           let l = ltb-true source c.sizes.disks both.0 in
           let some = ltb-true 0 (remaining c source) both.1 in
-          record-well source l (omega (arith, remaining-log c source l)) (nextRecord c w source) refl
+          record_well source l (omega (arith, remaining_log c source l)) (next_record c w source) refl
       go false e = refl
 
 -- a row with this number applies
@@ -101,10 +101,10 @@ unfoldable pub finds : ℕ → List Row → Bool
 finds n [] = false
 finds n (x ∷ rows) = eqb x.number n && x.applies || finds n rows
 
-refused-finds : (rows : List Row) (n first second : ℕ) → verdict rows ≡ rejected n first second → finds n rows ≡ true
+refused_finds : (rows : List Row) (n first second : ℕ) → verdict rows ≡ rejected n first second → finds n rows ≡ true
 unfolding verdict finds
-refused-finds [] n a b e = let z : ◌≡◌ {A = ℕ} 0 1 = cc in absurd (omega arith)
-refused-finds (x ∷ rows) n a b e = go x.applies (eqb x.number n) refl e (refused-finds rows n a b)
+refused_finds [] n a b e = let z : ◌≡◌ {A = ℕ} 0 1 = cc in absurd (omega arith)
+refused_finds (x ∷ rows) n a b e = go x.applies (eqb x.number n) refl e (refused_finds rows n a b)
   where
     go : (t f : Bool) → eqb x.number n ≡ f → cond t (rejected x.number x.first x.second) (verdict rows) ≡ rejected n a b
         → (verdict rows ≡ rejected n a b → finds n rows ≡ true) → (f && t || finds n rows) ≡ true
@@ -116,84 +116,84 @@ refused-finds (x ∷ rows) n a b e = go x.applies (eqb x.number n) refl e (refus
     go false false d e rest = rest e
 
 -- The number of an answer, but for 0 and 16, is that of a row that applies.
-pub number-row : (k : Call) (c : Core) (w : World) (n : ℕ) → 0 < n → n < 16 → number_of (result_of k c w).answer ≡ n
+pub number_row : (k : Call) (c : Core) (w : World) (n : ℕ) → 0 < n → n < 16 → number_of (result_of k c w).answer ≡ n
     → finds n (rows_of k c w) ≡ true
-number-row k c w n low high =
-    call-cases (λ (r : Result). number_of r.answer ≡ n → finds n (rows_of k c w) ≡ true) k c w
-    (λ number first second v e. refused-finds (rows_of k c w) n first second (v ∙ ap (λ (x : ℕ). rejected x first second) e))
+number_row k c w n low high =
+    call_cases (λ (r : Result). number_of r.answer ≡ n → finds n (rows_of k c w) ≡ true) k c w
+    (λ number first second v e. refused_finds (rows_of k c w) n first second (v ∙ ap (λ (x : ℕ). rejected x first second) e))
     (λ v f e. absurd (omega arith)) (λ v f e. absurd (omega arith))
 
-pub seven-row : (k : Call) (c : Core) (w : World) → number_of (result_of k c w).answer ≡ 7 → finds 7 (rows_of k c w) ≡ true
-seven-row k c w e = number-row k c w 7 (omega arith) (omega arith) e
+pub seven_row : (k : Call) (c : Core) (w : World) → number_of (result_of k c w).answer ≡ 7 → finds 7 (rows_of k c w) ≡ true
+seven_row k c w e = number_row k c w 7 (omega arith) (omega arith) e
 
 -- so no restart step answers 7
-pub step-never-seven : (c : Core) (w : World) → Progress c w → (source : ℕ) → number_of (result_of (restartStep source) c w).answer ≡ 7 → ⊥
-unfolding finds restartStepRows
-step-never-seven c w m source e =
-    let none : finds 7 (restartStepRows c w source) ≡ false = rw (step-never-bad c w m source) in
-    true≢false (sym (seven-row (restartStep source) c w e) ∙ none)
+pub step_never_seven : (c : Core) (w : World) → Progress c w → (source : ℕ) → number_of (result_of (restart_step source) c w).answer ≡ 7 → ⊥
+unfolding finds restart_step_rows
+step_never_seven c w m source e =
+    let none : finds 7 (restart_step_rows c w source) ≡ false = rw (step_never_bad c w m source) in
+    true≢false (sym (seven_row (restart_step source) c w e) ∙ none)
 
 -- a call checks its stage first
-stage-first : (k : Call) (c : Core) (w : World) (allowed : Stage → Bool) (fits : Bool) (rows : List Row)
-    → rows_of k c w ≡ row 1 (stageForbids allowed fits c) ∷ rows → (allowed c.stage ≡ true → finds 7 rows ≡ false)
+stage_first : (k : Call) (c : Core) (w : World) (allowed : Stage → Bool) (fits : Bool) (rows : List Row)
+    → rows_of k c w ≡ row 1 (stage_forbids allowed fits c) ∷ rows → (allowed c.stage ≡ true → finds 7 rows ≡ false)
     → number_of (result_of k c w).answer ≡ 7 → ⊥
 unfolding result_of verdict finds
-stage-first k c w allowed fits rows e none seven = go (stageForbids allowed fits c) refl
+stage_first k c w allowed fits rows e none seven = go (stage_forbids allowed fits c) refl
   where
-    go : (b : Bool) → stageForbids allowed fits c ≡ b → ⊥
+    go : (b : Bool) → stage_forbids allowed fits c ≡ b → ⊥
     go true f =
         let n = rw (e, f) at seven in
         omega arith
     go false f =
-        let found = rw e at (seven-row k c w seven) in
-        true≢false (sym found ∙ none (stage-row allowed _ c f))
+        let found = rw e at (seven_row k c w seven) in
+        true≢false (sym found ∙ none (stage_row allowed _ c f))
 
-pub shut-stage : (s : Stage) → whenShut s ≡ true → s ≡ Shut
-shut-stage Shut e = refl
-shut-stage Replaying e = absurd (true≢false (sym e))
-shut-stage Open e = absurd (true≢false (sym e))
-shut-stage Copying e = absurd (true≢false (sym e))
+pub shut_stage : (s : Stage) → when_shut s ≡ true → s ≡ Shut
+shut_stage Shut e = refl
+shut_stage Replaying e = absurd (true≢false (sym e))
+shut_stage Open e = absurd (true≢false (sym e))
+shut_stage Copying e = absurd (true≢false (sym e))
 
-replaying-stage : (s : Stage) → whenReplaying s ≡ true → s ≡ Replaying
-replaying-stage Shut e = absurd (true≢false (sym e))
-replaying-stage Replaying e = refl
-replaying-stage Open e = absurd (true≢false (sym e))
-replaying-stage Copying e = absurd (true≢false (sym e))
+replaying_stage : (s : Stage) → when_replaying s ≡ true → s ≡ Replaying
+replaying_stage Shut e = absurd (true≢false (sym e))
+replaying_stage Replaying e = refl
+replaying_stage Open e = absurd (true≢false (sym e))
+replaying_stage Copying e = absurd (true≢false (sym e))
 
 -- what a restart begin and a listing read is well formed
-shut-records : (c : Core) (w : World) → (c.stage ≡ Shut → Restartable w) → whenShut c.stage ≡ true
-    → faultFrom (sizesOn w.anchor) (startOn w.anchor) w.logs (sizesOn w.anchor).disks 0 ≡ NoFault
-shut-records c w shut s =
-    whole-records (sizesOn w.anchor) (startOn w.anchor) w.logs (shut (shut-stage c.stage s)).image.whole
+shut_records : (c : Core) (w : World) → (c.stage ≡ Shut → Restartable w) → when_shut c.stage ≡ true
+    → fault_from (sizes_on w.anchor) (start_on w.anchor) w.logs (sizes_on w.anchor).disks 0 ≡ NoFault
+shut_records c w shut s =
+    whole_records (sizes_on w.anchor) (start_on w.anchor) w.logs (shut (shut_stage c.stage s)).image.whole
 
 -- No call finds a malformed record where, in its stage, the devices can be restarted from, the restart goes on as it began, and
 -- aborts find what was put there.
-pub never-seven : (k : Call) (c : Core) (w : World) → (c.stage ≡ Shut → Restartable w) → (c.stage ≡ Replaying → Progress c w)
-    → (whenServing c.stage ≡ true → (number : ℕ) → abortFault c w number ≡ NoFault) → number_of (result_of k c w).answer ≡ 7 → ⊥
-unfolding finds stageForbids formatRows beginRows updateRows readRows commitRows abortRows setClassesRows checkpointBeginRows checkpointStepRows checkpointEndRows imageRows listRows restartBeginRows restartStepRows restartEndRows
-never-seven (format s budget) c w shut replaying serving e = true≢false (sym (seven-row (format s budget) c w e))
-never-seven (begin class) c w shut replaying serving e = true≢false (sym (seven-row (begin class) c w e))
-never-seven (update number page slot value budget) c w shut replaying serving e =
-    true≢false (sym (seven-row (update number page slot value budget) c w e))
-never-seven (look (read reader page slot)) c w shut replaying serving e = true≢false (sym (seven-row (look (read reader page slot)) c w e))
-never-seven (look (listLine number bytes)) c w shut replaying serving e =
-    stage-first (look (listLine number bytes)) c w whenShut _ _ refl (λ s. rw (shut-records c w shut s)) e
-never-seven (look (listLines first bytes)) c w shut replaying serving e =
-    stage-first (look (listLines first bytes)) c w whenShut _ _ refl (λ s. rw (shut-records c w shut s)) e
-never-seven (commit number budget) c w shut replaying serving e = true≢false (sym (seven-row (commit number budget) c w e))
-never-seven (abort number budget) c w shut replaying serving e =
-    stage-first (abort number budget) c w whenServing _ _ refl (λ s. rw (serving s number)) e
-never-seven (setClasses lines) c w shut replaying serving e = true≢false (sym (seven-row (setClasses lines) c w e))
-never-seven checkpointBegin c w shut replaying serving e = true≢false (sym (seven-row checkpointBegin c w e))
-never-seven (checkpointStep budget) c w shut replaying serving e = true≢false (sym (seven-row (checkpointStep budget) c w e))
-never-seven (checkpointEnd budget) c w shut replaying serving e = true≢false (sym (seven-row (checkpointEnd budget) c w e))
-never-seven restartBegin c w shut replaying serving e =
-    stage-first restartBegin c w whenShut _ _ refl (λ s. rw (shut-records c w shut s)) e
-never-seven (restartStep source) c w shut replaying serving e =
-    stage-first (restartStep source) c w whenReplaying _ _ refl
-    (λ s. rw (step-never-bad c w (replaying (replaying-stage c.stage s)) source)) e
-never-seven (restartRun source most) c w shut replaying serving e =
-    stage-first (restartRun source most) c w whenReplaying _ _ refl
-    (λ s. rw (step-never-bad c w (replaying (replaying-stage c.stage s)) source)) e
-never-seven (restartEnd budget) c w shut replaying serving e = true≢false (sym (seven-row (restartEnd budget) c w e))
-never-seven newState c w shut replaying serving e = true≢false (sym (seven-row newState c w e))
+pub never_seven : (k : Call) (c : Core) (w : World) → (c.stage ≡ Shut → Restartable w) → (c.stage ≡ Replaying → Progress c w)
+    → (when_serving c.stage ≡ true → (number : ℕ) → abort_fault c w number ≡ NoFault) → number_of (result_of k c w).answer ≡ 7 → ⊥
+unfolding finds stage_forbids format_rows begin_rows update_rows read_rows commit_rows abort_rows set_classes_rows checkpoint_begin_rows checkpoint_step_rows checkpoint_end_rows image_rows list_rows restart_begin_rows restart_step_rows restart_end_rows
+never_seven (format s budget) c w shut replaying serving e = true≢false (sym (seven_row (format s budget) c w e))
+never_seven (begin class) c w shut replaying serving e = true≢false (sym (seven_row (begin class) c w e))
+never_seven (update number page slot value budget) c w shut replaying serving e =
+    true≢false (sym (seven_row (update number page slot value budget) c w e))
+never_seven (look (read reader page slot)) c w shut replaying serving e = true≢false (sym (seven_row (look (read reader page slot)) c w e))
+never_seven (look (list_line number bytes)) c w shut replaying serving e =
+    stage_first (look (list_line number bytes)) c w when_shut _ _ refl (λ s. rw (shut_records c w shut s)) e
+never_seven (look (list_lines first bytes)) c w shut replaying serving e =
+    stage_first (look (list_lines first bytes)) c w when_shut _ _ refl (λ s. rw (shut_records c w shut s)) e
+never_seven (commit number budget) c w shut replaying serving e = true≢false (sym (seven_row (commit number budget) c w e))
+never_seven (abort number budget) c w shut replaying serving e =
+    stage_first (abort number budget) c w when_serving _ _ refl (λ s. rw (serving s number)) e
+never_seven (set_classes lines) c w shut replaying serving e = true≢false (sym (seven_row (set_classes lines) c w e))
+never_seven checkpoint_begin c w shut replaying serving e = true≢false (sym (seven_row checkpoint_begin c w e))
+never_seven (checkpoint_step budget) c w shut replaying serving e = true≢false (sym (seven_row (checkpoint_step budget) c w e))
+never_seven (checkpoint_end budget) c w shut replaying serving e = true≢false (sym (seven_row (checkpoint_end budget) c w e))
+never_seven restart_begin c w shut replaying serving e =
+    stage_first restart_begin c w when_shut _ _ refl (λ s. rw (shut_records c w shut s)) e
+never_seven (restart_step source) c w shut replaying serving e =
+    stage_first (restart_step source) c w when_replaying _ _ refl
+    (λ s. rw (step_never_bad c w (replaying (replaying_stage c.stage s)) source)) e
+never_seven (restart_run source most) c w shut replaying serving e =
+    stage_first (restart_run source most) c w when_replaying _ _ refl
+    (λ s. rw (step_never_bad c w (replaying (replaying_stage c.stage s)) source)) e
+never_seven (restart_end budget) c w shut replaying serving e = true≢false (sym (seven_row (restart_end budget) c w e))
+never_seven new_state c w shut replaying serving e = true≢false (sym (seven_row new_state c w e))

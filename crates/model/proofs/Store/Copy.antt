@@ -10,46 +10,46 @@ use lib.ListN.{length-set}
 use lib.Seq.{sets, length-sets}
 use borrow.Author.Tests.{ltb-true, ltb-false, lt-ltb, le-ltb}
 use Rattle.model.specs.declared.Core.{Core}
-use Rattle.model.specs.Sizes.{pageBase, pageWords, total}
+use Rattle.model.specs.Sizes.{page_base, page_words, total}
 use Rattle.model.specs.World.{World, backups, work, store, write, perform, run, finishes, each}
-use Rattle.model.specs.Memory.{copy_at, copy_of, lengthsRight}
-use Rattle.model.specs.State.{keptOf, fillOf, end_of, sound}
+use Rattle.model.specs.Memory.{copy_at, copy_of, lengths_right}
+use Rattle.model.specs.State.{kept_of, fill_of, end_of, sound}
 use Rattle.model.specs.Refusal.{accepted, verdict}
-use Rattle.model.specs.Causes.{whenOpen, tailIn}
-use Rattle.model.specs.Checkpoint.{checkpointBeginRows, checkpointBeginTask, lowestToCopy, checkpointStepRows, copyPage, checkpointStepTask}
+use Rattle.model.specs.Causes.{when_open, tail_in}
+use Rattle.model.specs.Checkpoint.{checkpoint_begin_rows, checkpoint_begin_task, lowest_to_copy, checkpoint_step_rows, copy_page, checkpoint_step_task}
 use Rattle.model.specs.Reference.{Reference}
 use Rattle.model.specs.History.{Told, marked}
-use Rattle.model.proofs.Geometry.{page_of, page-of, page-in, slotStart, slot-in}
+use Rattle.model.proofs.Geometry.{page_of, page_of_lem, page_in, slot_start, slot_in}
 use Rattle.model.proofs.Ledger.Entry.{Entry, All, spanning}
 use Rattle.model.proofs.Ledger.State.{Same, copied}
 use Rattle.model.proofs.Ledger.Order.{on}
 use Rattle.model.proofs.Ledger.Positions.{boundary_end}
 use Rattle.model.proofs.Ledger.Sums.{all_map}
-use Rattle.model.proofs.Ledger.Good.{Good, good-same}
-use Rattle.model.proofs.Ledger.Checkpoint.{copy-good}
-use Rattle.model.proofs.Link.Words.{Link, log-end}
-use Rattle.model.proofs.Restart.Aside.{Aside, aside-append, aside-backup}
+use Rattle.model.proofs.Ledger.Good.{Good, good_same}
+use Rattle.model.proofs.Ledger.Checkpoint.{copy_good}
+use Rattle.model.proofs.Link.Words.{Link, log_end}
+use Rattle.model.proofs.Restart.Aside.{Aside, aside_append, aside_backup}
 use Rattle.model.proofs.Store.View.{Kept, view, before, Devices, Copies, Serving, Served}
-use Rattle.model.proofs.Store.Rows.{stage-row, copying-not-open, serving-sound, disk-sound}
-use Rattle.model.proofs.Store.Page.{at, words, after, copying, page-lt, page-first, stepped, fits, size-words, other_word, current-word, epoch-page, epoch-other, owner-word, buffer-words}
-use Rattle.model.proofs.Store.Same.{devices-same, accounts-same, sets_same, owners-same}
-use Rattle.model.proofs.Store.Steady.{kept-aside}
-use Rattle.model.proofs.Store.LogEnd.{end-told}
-use Rattle.model.proofs.Booleans.{true-false}
-use Rattle.model.proofs.Parts.{spanning-true, spanning-in}
-use Rattle.model.proofs.Verdict.{row-passed}
-use Rattle.model.proofs.PerDisk.{getD-per-disk}
+use Rattle.model.proofs.Store.Rows.{stage_row, copying_not_open, serving_sound_lem, disk_sound_lem}
+use Rattle.model.proofs.Store.Page.{at, words, after, copying, page_lt, page_first, stepped, fits, size_words_lem, other_word, current_word, epoch_page, epoch_other, owner_word, buffer_words_lem}
+use Rattle.model.proofs.Store.Same.{devices_same, accounts_same, sets_same, owners_same}
+use Rattle.model.proofs.Store.Steady.{kept_aside}
+use Rattle.model.proofs.Store.LogEnd.{end_told}
+use Rattle.model.proofs.Booleans.{true_false}
+use Rattle.model.proofs.Parts.{spanning_true, spanning_in}
+use Rattle.model.proofs.Verdict.{row_passed}
+use Rattle.model.proofs.PerDisk.{get_d_per_disk}
 
 -- ---- checkpoint begin
 
 module _ {home : ℕ → ℕ} {puts : Told} {c : Core} {w : World} {r : Reference} {F B : List Entry}
-    (ok : verdict (checkpointBeginRows c w) ≡ accepted) (v : Serving 0 home puts c w r F B) where
-  opened : whenOpen c.stage ≡ true
-  unfolding checkpointBeginRows
-  opened = stage-row whenOpen _ c (row-passed _ _ ok).0
+    (ok : verdict (checkpoint_begin_rows c w) ≡ accepted) (v : Serving 0 home puts c w r F B) where
+  opened : when_open c.stage ≡ true
+  unfolding checkpoint_begin_rows
+  opened = stage_row when_open _ c (row_passed _ _ ok).0
 
-  remembering : Copies (checkpointBeginTask c w).core w F B
-  unfolding checkpointBeginTask before
+  remembering : Copies (checkpoint_begin_task c w).core w F B
+  unfolding checkpoint_begin_task before
   remembering =
       record {
         copied = λ e. refl;
@@ -57,17 +57,17 @@ module _ {home : ℕ → ℕ} {puts : Told} {c : Core} {w : World} {r : Referenc
         capped = v.copies.capped;
         early = all_map (λ e h b. h (rw opened refl)) (F ++ B) v.copies.early;
         ends = λ e d h.
-            rw (getD-per-disk c.sizes (end_of c.logs) d v.safe.devices.bounds.disks-max h, log-end v.safe.link d h)
-            (boundary_end (keptOf c.logs d) (on d F ++ on d B));
+            rw (get_d_per_disk c.sizes (end_of c.logs) d v.safe.devices.bounds.disks_max h, log_end v.safe.link d h)
+            (boundary_end (kept_of c.logs d) (on d F ++ on d B));
       }
 
-  begin-serving : Serving 0 home (marked puts) (checkpointBeginTask c w).core w r F B
-  unfolding checkpointBeginTask view
-  begin-serving =
+  begin_serving : Serving 0 home (marked puts) (checkpoint_begin_task c w).core w r F B
+  unfolding checkpoint_begin_task view
+  begin_serving =
       record {
         stage = refl;
         safe = record {
-          devices = devices-same refl refl refl refl refl v.safe.devices.lengths v.safe.devices;
+          devices = devices_same refl refl refl refl refl v.safe.devices.lengths v.safe.devices;
           good = v.safe.good;
           link = v.safe.link;
           ordered = v.safe.ordered;
@@ -76,77 +76,77 @@ module _ {home : ℕ → ℕ} {puts : Told} {c : Core} {w : World} {r : Referenc
           sizes = v.safe.sizes;
           shaped = v.safe.shaped;
         };
-        accounts = accounts-same refl refl refl refl v.accounts;
+        accounts = accounts_same refl refl refl refl v.accounts;
         copies = remembering;
         sets = sets_same refl refl v.sets;
-        owners = owners-same v.safe.devices.bounds refl refl refl (λ i h. refl) v.owners;
+        owners = owners_same v.safe.devices.bounds refl refl refl (λ i h. refl) v.owners;
         told = v.told;
-        marks = λ e d h. getD-per-disk c.sizes (end_of c.logs) d v.safe.devices.bounds.disks-max h ∙ end-told v d h;
+        marks = λ e d h. get_d_per_disk c.sizes (end_of c.logs) d v.safe.devices.bounds.disks_max h ∙ end_told v d h;
       }
 
-pub checkpoint-begin-serves : {puts : Told} {c : Core} {w : World} {r : Reference} → Served puts c w r → verdict (checkpointBeginRows c w) ≡ accepted
-    → Served (marked puts) (checkpointBeginTask c w).core w r
-checkpoint-begin-serves s ok =
-    record { home = s.home; flushed = s.flushed; buffered = s.buffered; serving = begin-serving ok s.serving }
+pub checkpoint_begin_serves : {puts : Told} {c : Core} {w : World} {r : Reference} → Served puts c w r → verdict (checkpoint_begin_rows c w) ≡ accepted
+    → Served (marked puts) (checkpoint_begin_task c w).core w r
+checkpoint_begin_serves s ok =
+    record { home = s.home; flushed = s.flushed; buffered = s.buffered; serving = begin_serving ok s.serving }
 
 -- ---- checkpoint step
 -- a number other than k lies below k + 1 as it lies below k
-ltb-other : (q k : ℕ) → (q ≡ k → ⊥) → ltb q k ≡ ltb q (k + 1)
-ltb-other q k ne = go (ltb q k) refl
+ltb_other : (q k : ℕ) → (q ≡ k → ⊥) → ltb q k ≡ ltb q (k + 1)
+ltb_other q k ne = go (ltb q k) refl
   where
     go : (b : Bool) → ltb q k ≡ b → b ≡ ltb q (k + 1)
     go true e = sym (lt-ltb q (k + 1) (omega (arith, ltb-true q k e)))
     go false e = sym (le-ltb q (k + 1) (omega (arith, ltb-false q k e)))
 
 module _ {home : ℕ → ℕ} {puts : Told} {c : Core} {w : World} {r : Reference} {F B : List Entry}
-    (ok : verdict (checkpointStepRows c w) ≡ accepted) (s : sound c ≡ true) (v : Serving 0 home puts c w r F B) where
+    (ok : verdict (checkpoint_step_rows c w) ≡ accepted) (s : sound c ≡ true) (v : Serving 0 home puts c w r F B) where
   abbrev u : World
   u = after ok v.safe.devices
 
   abbrev p : ℕ
-  p = lowestToCopy c
+  p = lowest_to_copy c
 
   below : p < c.sizes.pages
-  below = page-lt ok v.safe.devices
+  below = page_lt ok v.safe.devices
 
-  inPage : ℕ → Bool
-  inPage i = spanning (pageBase c.sizes p) (pageWords c.sizes p) i
+  in_page : ℕ → Bool
+  in_page i = spanning (page_base c.sizes p) (page_words c.sizes p) i
 
-  page-word : (i : ℕ) → inPage i ≡ true → page_of c.sizes i ≡ p
-  unfolding inPage
-  page-word i e =
-      let near = spanning-true (pageBase c.sizes p) (pageWords c.sizes p) i e in
-      page-of c.sizes p i below near.0 near.1
+  page_word : (i : ℕ) → in_page i ≡ true → page_of c.sizes i ≡ p
+  unfolding in_page
+  page_word i e =
+      let near = spanning_true (page_base c.sizes p) (page_words c.sizes p) i e in
+      page_of_lem c.sizes p i below near.0 near.1
 
-  other-page : (i : ℕ) → i < total c.sizes → inPage i ≡ false → page_of c.sizes i ≡ p → ⊥
-  unfolding inPage
-  other-page i h e same =
-      let near = rw same at (page-in c.sizes i h) in
-      true-false (spanning-in (pageBase c.sizes p) (pageWords c.sizes p) i near.1 near.2) e
+  other_page : (i : ℕ) → i < total c.sizes → in_page i ≡ false → page_of c.sizes i ≡ p → ⊥
+  unfolding in_page
+  other_page i h e same =
+      let near = rw same at (page_in c.sizes i h) in
+      true_false (spanning_in (page_base c.sizes p) (page_words c.sizes p) i near.1 near.2) e
 
   -- the page was not copied before, and is now
-  old-epoch : copy_of c.sizes w.work p ≡ c.epoch
-  old-epoch = v.copies.pages p below ∙ rw (le-ltb p c.checkpoint.copied (omega (arith, page-first ok v.safe.devices)))
+  old_epoch : copy_of c.sizes w.work p ≡ c.epoch
+  old_epoch = v.copies.pages p below ∙ rw (le-ltb p c.checkpoint.copied (omega (arith, page_first ok v.safe.devices)))
 
-  new-epoch : (i : ℕ) → i < total c.sizes → (b : Bool) → inPage i ≡ b
+  new_epoch : (i : ℕ) → i < total c.sizes → (b : Bool) → in_page i ≡ b
       → cond b (c.epoch + 1) (copy_of c.sizes w.work (page_of c.sizes i)) ≡ copy_of c.sizes u.work (page_of c.sizes i)
-  new-epoch i h true e = rw (page-word i e) (sym (epoch-page ok v.safe.devices))
-  new-epoch i h false e = sym (epoch-other ok v.safe.devices (page_of c.sizes i) (other-page i h e))
+  new_epoch i h true e = rw (page_word i e) (sym (epoch_page ok v.safe.devices))
+  new_epoch i h false e = sym (epoch_other ok v.safe.devices (page_of c.sizes i) (other_page i h e))
 
-  good : Good 0 (total c.sizes) (view (checkpointStepTask c w).core u r F B)
-  unfolding checkpointStepTask view copied inPage
-  good = good-same same (copy-good inPage (λ i h e. rw (page-word i e, old-epoch) (omega arith)) v.safe.good)
+  good : Good 0 (total c.sizes) (view (checkpoint_step_task c w).core u r F B)
+  unfolding checkpoint_step_task view copied in_page
+  good = good_same same (copy_good in_page (λ i h e. rw (page_word i e, old_epoch) (omega arith)) v.safe.good)
     where
-      same : Same (total c.sizes) (copied (view c w r F B) inPage) (view (checkpointStepTask c w).core u r F B)
+      same : Same (total c.sizes) (copied (view c w r F B) in_page) (view (checkpoint_step_task c w).core u r F B)
       same =
           record {
             epoch = refl;
             next = refl;
             pages = λ i h. refl;
-            current = current-word ok v.safe.devices;
-            other = λ i h. other_word ok v.safe.devices i h (inPage i) refl;
-            copies = λ i h. new-epoch i h (inPage i) refl;
-            owners = λ i h. sym (owner-word ok v.safe.devices (slotStart c.sizes i) (slot-in c.sizes i h).start-lt);
+            current = current_word ok v.safe.devices;
+            other = λ i h. other_word ok v.safe.devices i h (in_page i) refl;
+            copies = λ i h. new_epoch i h (in_page i) refl;
+            owners = λ i h. sym (owner_word ok v.safe.devices (slot_start c.sizes i) (slot_in c.sizes i h).start_lt);
             committed = λ i h. refl;
             writes = λ t o. refl;
             opened = λ t. refl;
@@ -154,27 +154,27 @@ module _ {home : ℕ → ℕ} {puts : Told} {c : Core} {w : World} {r : Referenc
             buffered = refl;
           }
 
-  stepped-lengths : lengthsRight c.sizes (total c.sizes) u ≡ true
-  unfolding lengthsRight
-  stepped-lengths = simp (length-sets, length-set) v.safe.devices.lengths
+  stepped_lengths : lengths_right c.sizes (total c.sizes) u ≡ true
+  unfolding lengths_right
+  stepped_lengths = simp (length-sets, length-set) v.safe.devices.lengths
 
-  stepped-link : Link c.sizes c.logs u F B
-  unfolding tailIn
-  stepped-link =
-      let right = serving-sound c v.stage s in
+  stepped_link : Link c.sizes c.logs u F B
+  unfolding tail_in
+  stepped_link =
+      let right = serving_sound_lem c v.stage s in
       record {
         held = v.safe.link.held;
         tail = v.safe.link.tail;
         stored = v.safe.link.stored;
-        buffer = λ d h. buffer-words ok v.safe.devices d (fillOf c.logs d) h (disk-sound c d right h).fill ∙ v.safe.link.buffer d h;
+        buffer = λ d h. buffer_words_lem ok v.safe.devices d (fill_of c.logs d) h (disk_sound_lem c d right h).fill ∙ v.safe.link.buffer d h;
         fill = v.safe.link.fill;
       }
 
-  copy-copies : Copies (checkpointStepTask c w).core u F B
-  unfolding checkpointStepTask before
-  copy-copies =
+  copy_copies : Copies (checkpoint_step_task c w).core u F B
+  unfolding checkpoint_step_task before
+  copy_copies =
       record {
-        copied = λ e. true-false e (copying-not-open c (copying ok v.safe.devices));
+        copied = λ e. true_false e (copying_not_open c (copying ok v.safe.devices));
         pages = λ q h. go q h (ℕ_discrete q p);
         capped = v.copies.capped;
         early = v.copies.early;
@@ -182,54 +182,54 @@ module _ {home : ℕ → ℕ} {puts : Told} {c : Core} {w : World} {r : Referenc
       }
     where
       first : p ≡ c.checkpoint.copied
-      first = page-first ok v.safe.devices
+      first = page_first ok v.safe.devices
 
       go : (q : ℕ) → q < c.sizes.pages → Dec (q ≡ p)
           → copy_of c.sizes u.work q ≡ cond (ltb q (c.checkpoint.copied + 1)) (c.epoch + 1) c.epoch
-      go q h (yes e) = rw (e, lt-ltb p (c.checkpoint.copied + 1) (omega (arith, first))) (epoch-page ok v.safe.devices)
+      go q h (yes e) = rw (e, lt-ltb p (c.checkpoint.copied + 1) (omega (arith, first))) (epoch_page ok v.safe.devices)
       go q h (no ne) =
-          epoch-other ok v.safe.devices q ne ∙ v.copies.pages q h
-          ∙ ap (λ (b : Bool). cond b (c.epoch + 1) c.epoch) (ltb-other q c.checkpoint.copied (λ e. ne (e ∙ sym first)))
+          epoch_other ok v.safe.devices q ne ∙ v.copies.pages q h
+          ∙ ap (λ (b : Bool). cond b (c.epoch + 1) c.epoch) (ltb_other q c.checkpoint.copied (λ e. ne (e ∙ sym first)))
 
-  step-serving : Serving 0 home puts (checkpointStepTask c w).core u r F B
-  unfolding checkpointStepTask
-  step-serving =
+  step_serving : Serving 0 home puts (checkpoint_step_task c w).core u r F B
+  unfolding checkpoint_step_task
+  step_serving =
       record {
         stage = v.stage;
         safe = record {
-          devices = devices-same refl refl refl refl refl stepped-lengths v.safe.devices;
+          devices = devices_same refl refl refl refl refl stepped_lengths v.safe.devices;
           good = good;
-          link = stepped-link;
+          link = stepped_link;
           ordered = v.safe.ordered;
           fit = v.safe.fit;
           ends = v.safe.ends;
           sizes = v.safe.sizes;
           shaped = v.safe.shaped;
         };
-        accounts = accounts-same refl refl refl refl v.accounts;
-        copies = copy-copies;
+        accounts = accounts_same refl refl refl refl v.accounts;
+        copies = copy_copies;
         sets = sets_same refl refl v.sets;
-        owners = owners-same v.safe.devices.bounds refl refl refl (owner-word ok v.safe.devices) v.owners;
+        owners = owners_same v.safe.devices.bounds refl refl refl (owner_word ok v.safe.devices) v.owners;
         told = v.told;
         marks = v.marks;
       }
 
-pub checkpoint-step-serves : {puts : Told} {c : Core} {w : World} {r : Reference} → Served puts c w r → sound c ≡ true
-    → verdict (checkpointStepRows c w) ≡ accepted → Served puts (checkpointStepTask c w).core (perform (checkpointStepTask c w).actions w) r
-checkpoint-step-serves g s ok =
+pub checkpoint_step_serves : {puts : Told} {c : Core} {w : World} {r : Reference} → Served puts c w r → sound c ≡ true
+    → verdict (checkpoint_step_rows c w) ≡ accepted → Served puts (checkpoint_step_task c w).core (perform (checkpoint_step_task c w).actions w) r
+checkpoint_step_serves g s ok =
     rw (stepped ok g.serving.safe.devices)
-    (record { home = g.home; flushed = g.flushed; buffered = g.buffered; serving = step-serving ok s g.serving })
+    (record { home = g.home; flushed = g.flushed; buffered = g.buffered; serving = step_serving ok s g.serving })
 
 -- Cut short, it has stored in the other backup only, so a restart finds what it found before.
-step-aside : {c : Core} {w : World} → Devices c w → verdict (checkpointStepRows c w) ≡ accepted → All (Aside c.sizes c.epoch) (checkpointStepTask c w).actions
-unfolding checkpointStepTask copyPage
-step-aside {c} {w} v ok =
-    aside-append c.sizes c.epoch (each (store backups) (at ok v) (words ok v))
-    (write work (copy_at c.sizes (lowestToCopy c)) (c.epoch + 1) ∷ [])
-    (aside-backup c.sizes c.epoch (at ok v) (words ok v) (omega arith) (omega (arith, size-words ok v, fits ok v))) (tt, tt)
+step_aside : {c : Core} {w : World} → Devices c w → verdict (checkpoint_step_rows c w) ≡ accepted → All (Aside c.sizes c.epoch) (checkpoint_step_task c w).actions
+unfolding checkpoint_step_task copy_page
+step_aside {c} {w} v ok =
+    aside_append c.sizes c.epoch (each (store backups) (at ok v) (words ok v))
+    (write work (copy_at c.sizes (lowest_to_copy c)) (c.epoch + 1) ∷ [])
+    (aside_backup c.sizes c.epoch (at ok v) (words ok v) (omega arith) (omega (arith, size_words_lem ok v, fits ok v))) (tt, tt)
 
-pub checkpoint-step-cut : {puts : Told} {c : Core} {w : World} {r : Reference} (budget : ℕ) → Served puts c w r → verdict (checkpointStepRows c w) ≡ accepted → Kept puts w r
-    → finishes budget (checkpointStepTask c w).actions ≡ false → Kept puts (run budget (checkpointStepTask c w).actions w) r
-checkpoint-step-cut {c = c} {w = w} budget s ok k cut =
+pub checkpoint_step_cut : {puts : Told} {c : Core} {w : World} {r : Reference} (budget : ℕ) → Served puts c w r → verdict (checkpoint_step_rows c w) ≡ accepted → Kept puts w r
+    → finishes budget (checkpoint_step_task c w).actions ≡ false → Kept puts (run budget (checkpoint_step_task c w).actions w) r
+checkpoint_step_cut {c = c} {w = w} budget s ok k cut =
     let v : Devices c w = s.serving.safe.devices in
-    kept-aside budget (checkpointStepTask c w).actions (rw (v.sizes, v.epoch) (step-aside v ok)) k
+    kept_aside budget (checkpoint_step_task c w).actions (rw (v.sizes, v.epoch) (step_aside v ok)) k

@@ -9,49 +9,49 @@ use lib.Seq.{sets, ext_get_or}
 use borrow.Author.Tests.{eqb-true, not-false}
 use Rattle.model.specs.declared.Sizes.{Sizes}
 use Rattle.model.specs.declared.Core.{Core}
-use Rattle.model.specs.Below.{listBelow}
+use Rattle.model.specs.Below.{list_below}
 use Rattle.model.specs.Word.{part}
-use Rattle.model.specs.Sizes.{total, tailWord, sizesInBounds}
-use Rattle.model.specs.Anchor.{epochWord, slotsAt, widthsAt, rows_at, epochOn, sizesOn, startWord, startOn, backupAt}
+use Rattle.model.specs.Sizes.{total, tail_word, sizes_in_bounds}
+use Rattle.model.specs.Anchor.{epoch_word, slots_at, widths_at, rows_at, epoch_on, sizes_on, start_word, start_on, backup_at}
 use Rattle.model.specs.World.{World, store, write, anchor, backups, logs, pages, work, act, perform, each}
-use Rattle.model.specs.Memory.{copy_at, lengthsRight, ownerAt}
+use Rattle.model.specs.Memory.{copy_at, lengths_right, owner_at}
 use Rattle.model.specs.Refusal.{accepted, verdict}
-use Rattle.model.specs.Causes.{anchorWrong, sizesWrong, lengthsWrong, tailOn, tailIn}
-use Rattle.model.specs.Format.{formatRows, formatStores, freshMemory, freshWork, formatTask}
-use Rattle.model.specs.History.{nothingTold}
+use Rattle.model.specs.Causes.{anchor_wrong, sizes_wrong, lengths_wrong, tail_on, tail_in}
+use Rattle.model.specs.Format.{format_rows, format_stores, fresh_memory, fresh_work, format_task}
+use Rattle.model.specs.History.{nothing_told}
 use Rattle.model.specs.Reference.{blank}
-use Rattle.model.proofs.Run.{perform-append, perform-anchor, perform-backups, perform-pages, perform-work}
+use Rattle.model.proofs.Run.{perform_append, perform_anchor, perform_backups, perform_pages, perform_work}
 use Rattle.model.proofs.Bounds.{Bounded, bounded}
-use Rattle.model.proofs.Lengths.{Lengths, lengths-right}
-use Rattle.model.proofs.Ring.{tails-apart, disk-within}
-use Rattle.model.proofs.Slots.{blank-shaped, blank-words}
-use Rattle.model.proofs.Restart.Image.{backup-within}
-use Rattle.model.proofs.Link.Words.{lengths-perform}
+use Rattle.model.proofs.Lengths.{Lengths, lengths_right_lem}
+use Rattle.model.proofs.Ring.{tails_apart, disk_within}
+use Rattle.model.proofs.Slots.{blank_shaped, blank_words}
+use Rattle.model.proofs.Restart.Image.{backup_within}
+use Rattle.model.proofs.Link.Words.{lengths_perform}
 use Rattle.model.proofs.Store.View.{Served}
-use Rattle.model.proofs.Store.Puts.{setEach, set-each-in, perform-each-log, lengths-made, same_word, fresh-is, fresh-copy, fresh-owner}
-use Rattle.model.proofs.Store.Anchor.{laidAnchor, Laid, laid-anchor}
-use Rattle.model.proofs.Store.Fresh.{Freshly, fresh-serving}
+use Rattle.model.proofs.Store.Puts.{set_each, set_each_in, perform_each_log, lengths_made, same_word, fresh_is, fresh_copy, fresh_owner}
+use Rattle.model.proofs.Store.Anchor.{laid_anchor, Laid, laid_anchor_lem}
+use Rattle.model.proofs.Store.Fresh.{Freshly, fresh_serving}
 use Rattle.model.proofs.Parts.{length_part, get_d_part}
-use Rattle.model.proofs.Verdict.{row-passed}
+use Rattle.model.proofs.Verdict.{row_passed}
 
 -- what a format's actions do, for any words that they put
-laid-world : (s : Sizes) (w : World) (front slots widths rows zeros owners copies : List ℕ)
+laid_world : (s : Sizes) (w : World) (front slots widths rows zeros owners copies : List ℕ)
     → perform
-    ((store anchor epochWord 0 ∷ []) ++ each (store anchor) 0 front ++ each (store anchor) slotsAt slots
-    ++ each (store anchor) widthsAt widths ++ each (store anchor) rows_at rows
-    ++ listBelow (λ d. store logs (tailWord s d) 0) s.disks
-    ++ each (store backups) (backupAt s 1) zeros ++ (store anchor epochWord 1 ∷ [])
-    ++ each (write pages) 0 zeros ++ (each (write work) (ownerAt s 0) owners ++ each (write work) (copy_at s 0) copies)) w
+    ((store anchor epoch_word 0 ∷ []) ++ each (store anchor) 0 front ++ each (store anchor) slots_at slots
+    ++ each (store anchor) widths_at widths ++ each (store anchor) rows_at rows
+    ++ list_below (λ d. store logs (tail_word s d) 0) s.disks
+    ++ each (store backups) (backup_at s 1) zeros ++ (store anchor epoch_word 1 ∷ [])
+    ++ each (write pages) 0 zeros ++ (each (write work) (owner_at s 0) owners ++ each (write work) (copy_at s 0) copies)) w
     ≡ record {
-      anchor = laidAnchor w.anchor front slots widths rows;
+      anchor = laid_anchor w.anchor front slots widths rows;
       pages = sets w.pages 0 zeros;
-      backups = sets w.backups (backupAt s 1) zeros;
-      logs = setEach (tailWord s) (λ d. 0) s.disks w.logs;
-      work = sets (sets w.work (ownerAt s 0) owners) (copy_at s 0) copies;
+      backups = sets w.backups (backup_at s 1) zeros;
+      logs = set_each (tail_word s) (λ d. 0) s.disks w.logs;
+      work = sets (sets w.work (owner_at s 0) owners) (copy_at s 0) copies;
     }
-unfolding perform act laidAnchor
-laid-world s w front slots widths rows zeros owners copies =
-    simp (perform-append, perform-anchor, perform-backups, perform-pages, perform-work, perform-each-log (tailWord s) (λ d. 0))
+unfolding perform act laid_anchor
+laid_world s w front slots widths rows zeros owners copies =
+    simp (perform_append, perform_anchor, perform_backups, perform_pages, perform_work, perform_each_log (tail_word s) (λ d. 0))
 
 -- The world after a format.
 module _ (s : Sizes) (w : World) (b : Bounded s) (long : length w.anchor ≡ 148) (right : Lengths s (total s) w) where
@@ -64,19 +64,19 @@ module _ (s : Sizes) (w : World) (b : Bounded s) (long : length w.anchor ≡ 148
   abbrev formatted : World
   formatted =
       record {
-        anchor = laidAnchor w.anchor front s.slots s.widths (replicate 16 0);
+        anchor = laid_anchor w.anchor front s.slots s.widths (replicate 16 0);
         pages = sets w.pages 0 zeros;
-        backups = sets w.backups (backupAt s 1) zeros;
-        logs = setEach (tailWord s) (λ d. 0) s.disks w.logs;
-        work = freshWork s 1 w.work;
+        backups = sets w.backups (backup_at s 1) zeros;
+        logs = set_each (tail_word s) (λ d. 0) s.disks w.logs;
+        work = fresh_work s 1 w.work;
       }
 
-  format-world : perform (formatTask s).actions w ≡ formatted
-  unfolding formatTask formatStores freshMemory
-  format-world = rw (fresh-is s 1 w.work) (laid-world s w front s.slots s.widths (replicate 16 0) zeros zeros (replicate 64 1))
+  format_world : perform (format_task s).actions w ≡ formatted
+  unfolding format_task format_stores fresh_memory
+  format_world = rw (fresh_is s 1 w.work) (laid_world s w front s.slots s.widths (replicate 16 0) zeros zeros (replicate 64 1))
 
   words : Laid formatted.anchor front s.slots s.widths (replicate 16 0)
-  words = laid-anchor w.anchor front s.slots s.widths (replicate 16 0) long refl b.slots_length b.widths-length refl
+  words = laid_anchor_lem w.anchor front s.slots s.widths (replicate 16 0) long refl b.slots_length b.widths_length refl
 
   -- 64 words of the anchor as a list
   array : (at : ℕ) (l : List ℕ) → length l ≡ 64 → at + 64 ≤ 148
@@ -86,84 +86,84 @@ module _ (s : Sizes) (w : World) (b : Bounded s) (long : length w.anchor ≡ 148
       ext_get_or 0 (part at 64 formatted.anchor) l (n ∙ sym e)
       (λ i h. get_d_part at 64 formatted.anchor i (omega arith) ∙ same i (omega arith))
 
-  format-sizes : sizesOn formatted.anchor ≡ s
-  unfolding sizesOn
-  format-sizes =
+  format_sizes : sizes_on formatted.anchor ≡ s
+  unfolding sizes_on
+  format_sizes =
       λ i.
       record {
         pages = words.front 0 (omega arith) i;
         disks = words.front 1 (omega arith) i;
         ring = words.front 2 (omega arith) i;
         slots = array 4 s.slots b.slots_length (omega arith) words.slots i;
-        widths = array 68 s.widths b.widths-length (omega arith) words.widths i;
+        widths = array 68 s.widths b.widths_length (omega arith) words.widths i;
       }
 
   -- every log starts, and ends, at position 0
-  format-start : (d : ℕ) → d < s.disks → startOn formatted.anchor d ≡ 0
-  unfolding startOn startWord epochOn
-  format-start d h =
-      let eight : d < 8 = omega (arith, b.disks-max) in
+  format_start : (d : ℕ) → d < s.disks → start_on formatted.anchor d ≡ 0
+  unfolding start_on start_word epoch_on
+  format_start d h =
+      let eight : d < 8 = omega (arith, b.disks_max) in
       let here : 132 + 8 * 1 + d ≡ 132 + (8 + d) = omega arith in
-      ap (λ (c : ℕ). get_or formatted.anchor (startWord c d) 0) words.epoch
+      ap (λ (c : ℕ). get_or formatted.anchor (start_word c d) 0) words.epoch
       ∙ ap (λ (k : ℕ). get_or formatted.anchor k 0) here
       ∙ words.rows (8 + d) (omega arith)
       ∙ get_or-replicate 16 (8 + d) 0 0 (omega arith)
 
-  format-tail : (d : ℕ) → d < s.disks → tailOn s formatted d ≡ 0
-  unfolding tailIn tailWord
-  format-tail d h =
-      set-each-in (tailWord s) (λ d. 0) s.disks w.logs (tails-apart s) d h (omega (arith, disk-within s d h, right.logs))
+  format_tail : (d : ℕ) → d < s.disks → tail_on s formatted d ≡ 0
+  unfolding tail_in tail_word
+  format_tail d h =
+      set_each_in (tail_word s) (λ d. 0) s.disks w.logs (tails_apart s) d h (omega (arith, disk_within s d h, right.logs))
 
-  zero-page : (i : ℕ) → i < total s → get_or formatted.pages i 0 ≡ 0
-  zero-page i h =
+  zero_page : (i : ℕ) → i < total s → get_or formatted.pages i 0 ≡ 0
+  zero_page i h =
       ap (λ (k : ℕ). get_or formatted.pages k 0) (omega arith) ∙ same_word w.pages 0 (total s) 0 i (omega (arith, right.pages)) h
 
-  format-fresh : Freshly s 1 (replicate 8 0) formatted (blank s)
-  unfolding blank epochOn
-  format-fresh =
+  format_fresh : Freshly s 1 (replicate 8 0) formatted (blank s)
+  unfolding blank epoch_on
+  format_fresh =
       let eight : (d : ℕ) → d < s.disks → ◌≡◌ {A = ℕ} 0 (get_or (replicate 8 0) d 0) =
-      λ d h. sym (get_or-replicate 8 d 0 0 (omega (arith, b.disks-max))) in
+      λ d h. sym (get_or-replicate 8 d 0 0 (omega (arith, b.disks_max))) in
       record {
         bounds = b;
         anchor = words.long;
-        lengths = lengths-made s formatted (rw format-world at (lengths-perform (formatTask s).actions right));
+        lengths = lengths_made s formatted (rw format_world at (lengths_perform (format_task s).actions right));
         eight = refl;
-        sizes = format-sizes;
+        sizes = format_sizes;
         epoch = words.epoch;
         formatted = omega arith;
-        starts = λ d h. format-start d h ∙ eight d h;
-        stored = λ d h. format-tail d h ∙ eight d h;
+        starts = λ d h. format_start d h ∙ eight d h;
+        stored = λ d h. format_tail d h ∙ eight d h;
         short = λ d h. rw (sym (eight d h)) (omega arith);
         backup =
             λ i h.
-            same_word w.backups (backupAt s 1) (total s) 0 i (omega (arith, backup-within s 1, right.backups)) h
-            ∙ sym (zero-page i h);
-        pages = λ i h. zero-page i h ∙ sym (ap (λ (l : List ℕ). get_or l i 0) (blank-words s) ∙ get_or-replicate (total s) i 0 0 h);
-        copies = λ p h. fresh-copy s 1 w.work right.work p (omega (arith, b.pages-max));
-        owners = fresh-owner s 1 w.work right.work;
+            same_word w.backups (backup_at s 1) (total s) 0 i (omega (arith, backup_within s 1, right.backups)) h
+            ∙ sym (zero_page i h);
+        pages = λ i h. zero_page i h ∙ sym (ap (λ (l : List ℕ). get_or l i 0) (blank_words s) ∙ get_or-replicate (total s) i 0 0 h);
+        copies = λ p h. fresh_copy s 1 w.work right.work p (omega (arith, b.pages_max));
+        owners = fresh_owner s 1 w.work right.work;
         reference = refl;
-        shaped = blank-shaped s;
+        shaped = blank_shaped s;
         none = refl;
       }
 
 -- What a format that is accepted found: the anchor has 148 words, the sizes are in bounds, the lengths are theirs.
-pub format-rows : (c : Core) (w : World) (s : Sizes) → verdict (formatRows c w s) ≡ accepted
-    → (length w.anchor ≡ 148) × (sizesInBounds s ≡ true) × (lengthsRight s (total s) w ≡ true)
-unfolding formatRows anchorWrong sizesWrong lengthsWrong
-format-rows c w s e =
-    let first = row-passed _ _ e in
-    let second = row-passed _ _ first.1 in
-    let third = row-passed _ _ second.1 in
-    let fourth = row-passed _ _ third.1 in
+pub format_rows_lem : (c : Core) (w : World) (s : Sizes) → verdict (format_rows c w s) ≡ accepted
+    → (length w.anchor ≡ 148) × (sizes_in_bounds s ≡ true) × (lengths_right s (total s) w ≡ true)
+unfolding format_rows anchor_wrong sizes_wrong lengths_wrong
+format_rows_lem c w s e =
+    let first = row_passed _ _ e in
+    let second = row_passed _ _ first.1 in
+    let third = row_passed _ _ second.1 in
+    let fourth = row_passed _ _ third.1 in
     (eqb-true _ _ (not-false _ second.0), not-false _ third.0, not-false _ fourth.0)
 
 -- A format that is taken leaves an open store with the blank reference.
-pub format-serves : (c : Core) (w : World) (s : Sizes) → verdict (formatRows c w s) ≡ accepted
-    → Served nothingTold (formatTask s).core (perform (formatTask s).actions w) (blank s)
-unfolding formatTask nothingTold
-format-serves c w s v =
-    let rows = format-rows c w s v in
-    let right = lengths-right s (total s) w rows.2 in
-    rw (format-world s w (bounded s rows.1) rows.0 right)
-    (fresh-serving (format-fresh s w (bounded s rows.1) rows.0 right) (λ d. 0)
-    (λ d h. get_or-replicate 8 d 0 0 (omega (arith, (bounded s rows.1).disks-max))))
+pub format_serves : (c : Core) (w : World) (s : Sizes) → verdict (format_rows c w s) ≡ accepted
+    → Served nothing_told (format_task s).core (perform (format_task s).actions w) (blank s)
+unfolding format_task nothing_told
+format_serves c w s v =
+    let rows = format_rows_lem c w s v in
+    let right = lengths_right_lem s (total s) w rows.2 in
+    rw (format_world s w (bounded s rows.1) rows.0 right)
+    (fresh_serving (format_fresh s w (bounded s rows.1) rows.0 right) (λ d. 0)
+    (λ d h. get_or-replicate 8 d 0 0 (omega (arith, (bounded s rows.1).disks_max))))

@@ -11,20 +11,20 @@ use borrow.Author.Tests.{leb-true, leb-false, le-leb, lt-leb}
 use Rattle.model.specs.declared.Logs.{Logs}
 use Rattle.model.specs.declared.Core.{Core}
 use Rattle.model.specs.World.{World, Action, perform, run, stores}
-use Rattle.model.specs.State.{keptOf, fillOf, end_of, afterFlush, withLog}
+use Rattle.model.specs.State.{kept_of, fill_of, end_of, after_flush, with_log}
 use Rattle.model.specs.Append.{append, flush}
 use Rattle.model.specs.Reference.{Reference}
 use Rattle.model.specs.History.{Told}
-use Rattle.model.proofs.Flush.{OnlyLogs, none-changed}
-use Rattle.model.proofs.Ledger.Entry.{Entry, sum, onDisk}
+use Rattle.model.proofs.Flush.{OnlyLogs, none_changed}
+use Rattle.model.proofs.Ledger.Entry.{Entry, sum, on_disk}
 use Rattle.model.proofs.Ledger.Order.{on}
-use Rattle.model.proofs.Link.Flush.{flush-only}
+use Rattle.model.proofs.Link.Flush.{flush_only}
 use Rattle.model.proofs.Store.View.{Kept, Serving}
 use Rattle.model.proofs.Store.Crash.{kept}
-use Rattle.model.proofs.Store.Flush.{left, flush-serving, cut-safe}
-use Rattle.model.proofs.Growth.{fill-flushed, ends-flushed, kept-flushed, Small, flush-longer, Longer}
-use Rattle.model.proofs.Link.Words.{below-eight}
-use Rattle.model.proofs.Ledger.Lists.{sum-flush}
+use Rattle.model.proofs.Store.Flush.{left, flush_serving, cut_safe}
+use Rattle.model.proofs.Growth.{fill_flushed, ends_flushed, kept_flushed, Small, flush_longer, Longer}
+use Rattle.model.proofs.Link.Words.{below_eight}
+use Rattle.model.proofs.Ledger.Lists.{sum_flush}
 
 -- The store with room for n words in the buffer of disk d: `flushing` is the flush, or nothing.
 pub record Ready (x : ℕ) (home : ℕ → ℕ) (puts : Told) (c : Core) (w : World) (r : Reference) (d n : ℕ) : Type 0 where
@@ -32,10 +32,10 @@ pub record Ready (x : ℕ) (home : ℕ → ℕ) (puts : Told) (c : Core) (w : Wo
   pub logs : Logs
   pub flushed : List Entry
   pub buffered : List Entry
-  pub serving : Serving x home puts (withLog c logs c.table) (perform flushing w) r flushed buffered
-  pub room : fillOf logs d + n ≤ 64
+  pub serving : Serving x home puts (with_log c logs c.table) (perform flushing w) r flushed buffered
+  pub room : fill_of logs d + n ≤ 64
   pub small : Small c.sizes logs
-  pub kept : (e : ℕ) → keptOf logs e ≡ keptOf c.logs e
+  pub kept : (e : ℕ) → kept_of logs e ≡ kept_of c.logs e
   pub ends : end_of logs d ≡ end_of c.logs d
   pub only : OnlyLogs w (perform flushing w)
   -- an append is the flush and an append to the room
@@ -49,8 +49,8 @@ pub record Ready (x : ℕ) (home : ℕ → ℕ) (puts : Told) (c : Core) (w : Wo
 
 module _ {x : ℕ} {home : ℕ → ℕ} {puts : Told} {c : Core} {w : World} {r : Reference} {F B : List Entry} (g : Serving x home puts c w r F B)
     (d n : ℕ) (below : d < c.sizes.disks) (small : Small c.sizes c.logs) (short : n ≤ 64) where
-  fits : fillOf c.logs d + n ≤ 64 → Ready x home puts c w r d n
-  unfolding perform withLog stores
+  fits : fill_of c.logs d + n ≤ 64 → Ready x home puts c w r d n
+  unfolding perform with_log stores
   fits h =
       record {
         flushing = [];
@@ -62,7 +62,7 @@ module _ {x : ℕ} {home : ℕ → ℕ} {puts : Told} {c : Core} {w : World} {r 
         small = small;
         kept = λ e. refl;
         ends = refl;
-        only = none-changed w;
+        only = none_changed w;
         split = λ words e. refl;
         cut = λ k l. absurd (omega arith);
       }
@@ -71,25 +71,25 @@ module _ {x : ℕ} {home : ℕ → ℕ} {puts : Told} {c : Core} {w : World} {r 
   flushing = flush c.sizes c.logs w.work d
 
   only : OnlyLogs w (perform flushing w)
-  only = flush-only c.sizes c.logs w d
+  only = flush_only c.sizes c.logs w d
 
-  longer : Longer c.sizes d 0 c.logs (afterFlush c.logs d)
-  longer = flush-longer c.sizes c.logs d g.safe.devices.arrays.sized small (below-eight g.safe.devices.arrays below)
+  longer : Longer c.sizes d 0 c.logs (after_flush c.logs d)
+  longer = flush_longer c.sizes c.logs d g.safe.devices.arrays.sized small (below_eight g.safe.devices.arrays below)
 
-  emptied : fillOf (afterFlush c.logs d) d ≡ 0
-  emptied = fill-flushed c.logs d g.safe.devices.arrays.sized (below-eight g.safe.devices.arrays below)
+  emptied : fill_of (after_flush c.logs d) d ≡ 0
+  emptied = fill_flushed c.logs d g.safe.devices.arrays.sized (below_eight g.safe.devices.arrays below)
 
-  split : 64 < fillOf c.logs d + n → (words : List ℕ) → length words ≡ n
+  split : 64 < fill_of c.logs d + n → (words : List ℕ) → length words ≡ n
       → append c.sizes c.logs w.work d words
       ≡ record {
-        actions = flushing ++ (append c.sizes (afterFlush c.logs d) (perform flushing w).work d words).actions;
-        logs = (append c.sizes (afterFlush c.logs d) (perform flushing w).work d words).logs;
+        actions = flushing ++ (append c.sizes (after_flush c.logs d) (perform flushing w).work d words).actions;
+        logs = (append c.sizes (after_flush c.logs d) (perform flushing w).work d words).logs;
       }
   unfolding append
   split over words e =
       rw (
-        only.work-same,
-        lt-leb (fillOf c.logs d + length words) 64 (omega arith),
+        only.work_same,
+        lt-leb (fill_of c.logs d + length words) 64 (omega arith),
         emptied,
         zero-add (length words),
         le-leb (length words) 64 (omega arith),
@@ -97,37 +97,37 @@ module _ {x : ℕ} {home : ℕ → ℕ} {puts : Told} {c : Core} {w : World} {r 
         zero-add (length words),
       )
 
-  full : 64 < fillOf c.logs d + n → Ready x home puts c w r d n
+  full : 64 < fill_of c.logs d + n → Ready x home puts c w r d n
   full over =
       record {
         flushing = flushing;
-        logs = afterFlush c.logs d;
+        logs = after_flush c.logs d;
         flushed = F ++ on d B;
         buffered = left d B;
-        serving = flush-serving g d below;
+        serving = flush_serving g d below;
         room = omega (arith, emptied);
         small = longer.small;
-        kept = kept-flushed c.logs d;
-        ends = ends-flushed c.logs d g.safe.devices.arrays.sized (below-eight g.safe.devices.arrays below) d;
+        kept = kept_flushed c.logs d;
+        ends = ends_flushed c.logs d g.safe.devices.arrays.sized (below_eight g.safe.devices.arrays below) d;
         only = only;
         split = split over;
-        cut = λ k l. kept (cut-safe g.safe d below k l) puts g.told;
+        cut = λ k l. kept (cut_safe g.safe d below k l) puts g.told;
       }
 
-  choose : (b : Bool) → leb (fillOf c.logs d + n) 64 ≡ b → Ready x home puts c w r d n
+  choose : (b : Bool) → leb (fill_of c.logs d + n) 64 ≡ b → Ready x home puts c w r d n
   choose true e = fits (leb-true _ _ e)
   choose false e = full (leb-false _ _ e)
 
   pub ready : Ready x home puts c w r d n
-  ready = choose (leb (fillOf c.logs d + n) 64) refl
+  ready = choose (leb (fill_of c.logs d + n) 64) refl
 
   -- its entries are those that there were: they have the same sums
-  choose-sums : (f : Entry → ℕ) (b : Bool) (e : leb (fillOf c.logs d + n) 64 ≡ b)
+  choose_sums : (f : Entry → ℕ) (b : Bool) (e : leb (fill_of c.logs d + n) 64 ≡ b)
       → sum f ((choose b e).flushed ++ (choose b e).buffered) ≡ sum f (F ++ B)
   unfolding choose fits full on
-  choose-sums f true e = refl
-  choose-sums f false e = sum-flush (onDisk d) f F B
+  choose_sums f true e = refl
+  choose_sums f false e = sum_flush (on_disk d) f F B
 
-  pub ready-sums : (f : Entry → ℕ) → sum f (ready.flushed ++ ready.buffered) ≡ sum f (F ++ B)
+  pub ready_sums : (f : Entry → ℕ) → sum f (ready.flushed ++ ready.buffered) ≡ sum f (F ++ B)
   unfolding ready
-  ready-sums f = choose-sums f (leb (fillOf c.logs d + n) 64) refl
+  ready_sums f = choose_sums f (leb (fill_of c.logs d + n) 64) refl

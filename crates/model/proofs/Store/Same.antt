@@ -6,25 +6,25 @@ use Prim.Native.Nat.{ℕ, ◌<◌}
 use native.Mathlib.Omega.{arith}
 use Rattle.model.specs.declared.Sizes.{Sizes}
 use Rattle.model.specs.declared.Core.{Core}
-use Rattle.model.specs.Sizes.{total, slotsIn, slotBase}
+use Rattle.model.specs.Sizes.{total, slots_in, slot_base}
 use Rattle.model.specs.World.{World}
-use Rattle.model.specs.Memory.{ownerOf, lengthsRight}
+use Rattle.model.specs.Memory.{owner_of, lengths_right}
 use Rattle.model.specs.Reference.{Reference}
-use Rattle.model.specs.Transaction.{diskOf}
-use Rattle.model.proofs.KeptBases.{bases-carried}
+use Rattle.model.specs.Transaction.{disk_of}
+use Rattle.model.proofs.KeptBases.{bases_carried}
 use Rattle.model.proofs.Bounds.{Bounded}
-use Rattle.model.proofs.Geometry.{slot-end-total}
+use Rattle.model.proofs.Geometry.{slot_end_total}
 use Rattle.model.proofs.Ledger.Entry.{Entry}
 use Rattle.model.proofs.Ledger.Sums.{all_map}
 use Rattle.model.proofs.Store.View.{Devices, Own, Accounts, Sets, Owners}
 
 -- the sizes, the epoch and the logs, with the anchor: what the slices say of them
-pub devices-same : {c e : Core} {w u : World} → e.sizes ≡ c.sizes → e.bases ≡ c.bases → e.epoch ≡ c.epoch → e.logs ≡ c.logs → u.anchor ≡ w.anchor
-    → lengthsRight c.sizes (total c.sizes) u ≡ true → Devices c w → Devices e u
-devices-same {c} {e} {w} {u} sizes bases epoch logs anchor lengths v =
+pub devices_same : {c e : Core} {w u : World} → e.sizes ≡ c.sizes → e.bases ≡ c.bases → e.epoch ≡ c.epoch → e.logs ≡ c.logs → u.anchor ≡ w.anchor
+    → lengths_right c.sizes (total c.sizes) u ≡ true → Devices c w → Devices e u
+devices_same {c} {e} {w} {u} sizes bases epoch logs anchor lengths v =
     record {
       bounds = rw sizes v.bounds;
-      bases = bases-carried c e bases sizes v.bases;
+      bases = bases_carried c e bases sizes v.bases;
       anchor = rw anchor v.anchor;
       lengths = rw sizes lengths;
       sizes = rw (anchor, sizes) v.sizes;
@@ -35,11 +35,11 @@ devices-same {c} {e} {w} {u} sizes bases epoch logs anchor lengths v =
     }
 
 -- the table, the logs and the next number: the table against the log
-pub accounts-same : {x : ℕ} {home : ℕ → ℕ} {c e : Core} {F B : List Entry} → e.table ≡ c.table → e.logs ≡ c.logs → e.next ≡ c.next
+pub accounts_same : {x : ℕ} {home : ℕ → ℕ} {c e : Core} {F B : List Entry} → e.table ≡ c.table → e.logs ≡ c.logs → e.next ≡ c.next
     → e.sizes ≡ c.sizes
     → Accounts x home c F B → Accounts x home e F B
-unfolding diskOf
-accounts-same {x} {home} {c} {e} {F} {B} table logs next sizes v =
+unfolding disk_of
+accounts_same {x} {home} {c} {e} {F} {B} table logs next sizes v =
     record {
       tabled = rw table v.tabled;
       homes = λ t. rw table (v.homes t);
@@ -48,7 +48,7 @@ accounts-same {x} {home} {c} {e} {F} {B} table logs next sizes v =
       disks = λ t. rw (table, sizes) (v.disks t);
       started = λ t. rw table (v.started t);
       reserved = λ t. rw table (v.reserved t);
-      closed-or-open = all_map (λ r h. rw table h) (F ++ B) v.closed-or-open;
+      closed_or_open = all_map (λ r h. rw table h) (F ++ B) v.closed_or_open;
       numbered = all_map (λ r h. rw next h) (F ++ B) v.numbered;
     }
   where
@@ -60,18 +60,18 @@ pub sets_same : {c e : Core} {r : Reference} → e.table ≡ c.table → e.sizes
 sets_same table sizes v = record { distinct = v.distinct; has = λ t. rw table (v.has t); fits = rw sizes v.fits }
 
 -- a slot begins within the pages
-pub slot_lt : (s : Sizes) → Bounded s → (page slot : ℕ) → page < s.pages → slot < slotsIn s page → slotBase s page slot < total s
-slot_lt s b page slot p q = omega (arith, slot-end-total s page slot p q, (b.used page p).width-min)
+pub slot_lt : (s : Sizes) → Bounded s → (page slot : ℕ) → page < s.pages → slot < slots_in s page → slot_base s page slot < total s
+slot_lt s b page slot p q = omega (arith, slot_end_total s page slot p q, (b.used page p).width_min)
 
 -- the table, the next number and the owners
-pub owners-same : {c e : Core} {w u : World} {r : Reference} → Bounded c.sizes → e.sizes ≡ c.sizes → e.table ≡ c.table → e.next ≡ c.next
-    → ((i : ℕ) → i < total c.sizes → ownerOf c.sizes u.work i ≡ ownerOf c.sizes w.work i) → Owners c w r → Owners e u r
-owners-same {c} {e} {w} {u} bounds sizes table next same v =
+pub owners_same : {c e : Core} {w u : World} {r : Reference} → Bounded c.sizes → e.sizes ≡ c.sizes → e.table ≡ c.table → e.next ≡ c.next
+    → ((i : ℕ) → i < total c.sizes → owner_of c.sizes u.work i ≡ owner_of c.sizes w.work i) → Owners c w r → Owners e u r
+owners_same {c} {e} {w} {u} bounds sizes table next same v =
     record {
       below = rw (sizes, next) (λ page slot p q. rw (word page slot p q) (v.below page slot p q));
       written = rw (sizes, table) (λ page slot p q. rw (word page slot p q) (v.written page slot p q));
     }
   where
-    word : (page slot : ℕ) → page < c.sizes.pages → slot < slotsIn c.sizes page
-        → ownerOf c.sizes u.work (slotBase c.sizes page slot) ≡ ownerOf c.sizes w.work (slotBase c.sizes page slot)
+    word : (page slot : ℕ) → page < c.sizes.pages → slot < slots_in c.sizes page
+        → owner_of c.sizes u.work (slot_base c.sizes page slot) ≡ owner_of c.sizes w.work (slot_base c.sizes page slot)
     word page slot p q = same _ (slot_lt c.sizes bounds page slot p q)

@@ -11,27 +11,27 @@ use lib.Seq.{get_or-set_same, get_or-set_other}
 use borrow.Author.Tests.{eq-eqb}
 use Rattle.model.specs.declared.Sizes.{Sizes}
 use Rattle.model.specs.declared.Core.{Core}
-use Rattle.model.specs.Sizes.{total, slotsIn, slotBase}
+use Rattle.model.specs.Sizes.{total, slots_in, slot_base}
 use Rattle.model.specs.World.{World}
-use Rattle.model.specs.Memory.{ownerAt, ownerOf, workWords}
-use Rattle.model.specs.State.{isOpen}
-use Rattle.model.specs.Reference.{Reference, Write, WriteSet, writes_of, writesSlot, added, hasSet}
+use Rattle.model.specs.Memory.{owner_at, owner_of, work_words}
+use Rattle.model.specs.State.{is_open}
+use Rattle.model.specs.Reference.{Reference, Write, WriteSet, writes_of, writes_slot, added, has_set}
 use Rattle.model.proofs.Bounds.{Bounded}
-use Rattle.model.proofs.Geometry.{page_of, slot-start, slot-base-step, slot-base-mono}
+use Rattle.model.proofs.Geometry.{page_of, slot_start_lem, slot_base_step, slot_base_mono}
 use Rattle.model.proofs.Slots.{Fits}
-use Rattle.model.proofs.WriteSets.{added-writes, writes-added}
+use Rattle.model.proofs.WriteSets.{added_writes, writes_added}
 use Rattle.model.proofs.Ledger.Entry.{All}
 use Rattle.model.proofs.Ledger.Sums.{all_append}
 use Rattle.model.proofs.Store.View.{Owners}
 use Rattle.model.proofs.Store.Same.{slot_lt}
-use Rattle.model.proofs.Store.UpdateRoom.{Allowed, slotChanged, noted}
+use Rattle.model.proofs.Store.UpdateRoom.{Allowed, slot_changed, noted}
 
 -- a write that fits, added to sets of writes that do
-pub fits-added : (s : Sizes) (n : ℕ) (e : Write) → Fits s e → (sets : List WriteSet) → All (λ (x : WriteSet). All (Fits s) x.writes) sets
+pub fits_added : (s : Sizes) (n : ℕ) (e : Write) → Fits s e → (sets : List WriteSet) → All (λ (x : WriteSet). All (Fits s) x.writes) sets
     → All (λ (x : WriteSet). All (Fits s) x.writes) (added n e sets)
 unfolding added
-fits-added s n e fit [] h = tt
-fits-added s n e fit (x ∷ xs) h = go (eqb x.number n) (fits-added s n e fit xs h.1)
+fits_added s n e fit [] h = tt
+fits_added s n e fit (x ∷ xs) h = go (eqb x.number n) (fits_added s n e fit xs h.1)
   where
     go : (b : Bool) → All (λ (x : WriteSet). All (Fits s) x.writes) (added n e xs)
         → All (λ (x : WriteSet). All (Fits s) x.writes) (cond b (record { number = n; writes = x.writes ++ e ∷ [] } ∷ xs) (x ∷ added n e xs))
@@ -40,112 +40,112 @@ fits-added s n e fit (x ∷ xs) h = go (eqb x.number n) (fits-added s n e fit xs
 
 -- two slots that begin at the same word are one
 module _ (s : Sizes) (b : Bounded s) where
-  later-slot : (page i j : ℕ) → page < s.pages → i < j → slotBase s page i < slotBase s page j
-  later-slot page i j p h =
-      omega (arith, slot-base-step s page i, slot-base-mono s page (i + 1) j (omega arith), (b.used page p).width-min)
+  later_slot : (page i j : ℕ) → page < s.pages → i < j → slot_base s page i < slot_base s page j
+  later_slot page i j p h =
+      omega (arith, slot_base_step s page i, slot_base_mono s page (i + 1) j (omega arith), (b.used page p).width_min)
 
-  page-at : (page slot : ℕ) → page < s.pages → slot < slotsIn s page → page_of s (slotBase s page slot) ≡ page
-  page-at page slot p q =
-      let width = (b.used page p).width-min in
-      (slot-start s page slot (slotBase s page slot) p q (omega arith) (omega arith)).1
+  page_at_lem : (page slot : ℕ) → page < s.pages → slot < slots_in s page → page_of s (slot_base s page slot) ≡ page
+  page_at_lem page slot p q =
+      let width = (b.used page p).width_min in
+      (slot_start_lem s page slot (slot_base s page slot) p q (omega arith) (omega arith)).1
 
-  slot_same : (page i j : ℕ) → page < s.pages → slotBase s page i ≡ slotBase s page j → i ≡ j
+  slot_same : (page i j : ℕ) → page < s.pages → slot_base s page i ≡ slot_base s page j → i ≡ j
   slot_same page i j p e = go (dec_lt i j) (dec_lt j i)
     where
       go : Dec (i < j) → Dec (j < i) → i ≡ j
-      go (yes h) d = absurd (omega (arith, later-slot page i j p h))
-      go (no h) (yes k) = absurd (omega (arith, later-slot page j i p k))
+      go (yes h) d = absurd (omega (arith, later_slot page i j p h))
+      go (no h) (yes k) = absurd (omega (arith, later_slot page j i p k))
       go (no h) (no k) = omega arith
 
-  pub one-slot : (p i q j : ℕ) → p < s.pages → i < slotsIn s p → q < s.pages → j < slotsIn s q → slotBase s p i ≡ slotBase s q j
+  pub one_slot : (p i q j : ℕ) → p < s.pages → i < slots_in s p → q < s.pages → j < slots_in s q → slot_base s p i ≡ slot_base s q j
       → (p ≡ q) × (i ≡ j)
-  one-slot p i q j hp hi hq hj e =
-      let same : p ≡ q = sym (page-at p i hp hi) ∙ ap (page_of s) e ∙ page-at q j hq hj in
+  one_slot p i q j hp hi hq hj e =
+      let same : p ≡ q = sym (page_at_lem p i hp hi) ∙ ap (page_of s) e ∙ page_at_lem q j hq hj in
       (same, slot_same q i j hq (rw same at e))
 
 -- a write set with one write more
-pub writes-slot-more : (page slot : ℕ) (l : List Write) (e : Write)
-    → writesSlot page slot (l ++ e ∷ []) ≡ writesSlot page slot l || (eqb e.page page && eqb e.slot slot)
-unfolding writesSlot
-writes-slot-more page slot [] e = or-false _
-writes-slot-more page slot (x ∷ l) e = go (eqb x.page page && eqb x.slot slot) (writes-slot-more page slot l e)
+pub writes_slot_more : (page slot : ℕ) (l : List Write) (e : Write)
+    → writes_slot page slot (l ++ e ∷ []) ≡ writes_slot page slot l || (eqb e.page page && eqb e.slot slot)
+unfolding writes_slot
+writes_slot_more page slot [] e = or-false _
+writes_slot_more page slot (x ∷ l) e = go (eqb x.page page && eqb x.slot slot) (writes_slot_more page slot l e)
   where
     new : Bool
     new = eqb e.page page && eqb e.slot slot
 
-    go : (t : Bool) → writesSlot page slot (l ++ e ∷ []) ≡ writesSlot page slot l || new
-        → t || writesSlot page slot (l ++ e ∷ []) ≡ (t || writesSlot page slot l) || new
+    go : (t : Bool) → writes_slot page slot (l ++ e ∷ []) ≡ writes_slot page slot l || new
+        → t || writes_slot page slot (l ++ e ∷ []) ≡ (t || writes_slot page slot l) || new
     go true h = refl
     go false h = h
 
 -- a write set has the writes that it had
-writes-slot-kept : (page slot number : ℕ) (e : Write) (r : Reference) → hasSet number r.writeSets ≡ true → (t : ℕ)
-    → writesSlot page slot (writes_of t r.writeSets) ≡ true → writesSlot page slot (writes_of t (added number e r.writeSets)) ≡ true
-writes-slot-kept page slot number e r has t h = rw (added-writes number e r.writeSets has t) (go (eqb t number))
+writes_slot_kept : (page slot number : ℕ) (e : Write) (r : Reference) → has_set number r.write_sets ≡ true → (t : ℕ)
+    → writes_slot page slot (writes_of t r.write_sets) ≡ true → writes_slot page slot (writes_of t (added number e r.write_sets)) ≡ true
+writes_slot_kept page slot number e r has t h = rw (added_writes number e r.write_sets has t) (go (eqb t number))
   where
-    go : (b : Bool) → writesSlot page slot (cond b (writes_of t r.writeSets ++ e ∷ []) (writes_of t r.writeSets)) ≡ true
-    go true = rw (writes-slot-more page slot (writes_of t r.writeSets) e, h)
+    go : (b : Bool) → writes_slot page slot (cond b (writes_of t r.write_sets ++ e ∷ []) (writes_of t r.write_sets)) ≡ true
+    go true = rw (writes_slot_more page slot (writes_of t r.write_sets) e, h)
     go false = h
 
 -- The world v has the owners of w.
 module _ {c : Core} {w : World} {r : Reference} (own : Owners c w r) (bounds : Bounded c.sizes)
     (number page slot : ℕ) (value : List ℕ) (may : Allowed c w number page slot value)
-    (has : hasSet number r.writeSets ≡ true) (less : number < c.next)
-    (v : World) (long : workWords c.sizes (total c.sizes) ≤ length v.work)
-    (same : (i : ℕ) → i < total c.sizes → ownerOf c.sizes v.work i ≡ ownerOf c.sizes w.work i) where
+    (has : has_set number r.write_sets ≡ true) (less : number < c.next)
+    (v : World) (long : work_words c.sizes (total c.sizes) ≤ length v.work)
+    (same : (i : ℕ) → i < total c.sizes → owner_of c.sizes v.work i ≡ owner_of c.sizes w.work i) where
   abbrev s : Sizes
   s = c.sizes
 
   abbrev at : ℕ
-  at = slotBase s page slot
+  at = slot_base s page slot
 
   abbrev write : Write
   write = record { page = page; slot = slot; value = value }
 
   abbrev owner : ℕ → ℕ → ℕ
-  owner p i = ownerOf s (set v.work (ownerAt s at) number) (slotBase s p i)
+  owner p i = owner_of s (set v.work (owner_at s at) number) (slot_base s p i)
 
-  module _ (p i : ℕ) (hp : p < s.pages) (hi : i < slotsIn s p) where
-    mine : slotBase s p i ≡ at → owner p i ≡ number
-    unfolding ownerOf ownerAt workWords
-    mine e = rw e (get_or-set_same v.work (ownerAt s at) number 0 (omega (arith, slot_lt s bounds page slot may.page-lt may.slot_lt)))
+  module _ (p i : ℕ) (hp : p < s.pages) (hi : i < slots_in s p) where
+    mine : slot_base s p i ≡ at → owner p i ≡ number
+    unfolding owner_of owner_at work_words
+    mine e = rw e (get_or-set_same v.work (owner_at s at) number 0 (omega (arith, slot_lt s bounds page slot may.page_lt may.slot_lt)))
 
-    others : (slotBase s p i ≡ at → ⊥) → owner p i ≡ ownerOf s w.work (slotBase s p i)
-    unfolding ownerOf ownerAt
+    others : (slot_base s p i ≡ at → ⊥) → owner p i ≡ owner_of s w.work (slot_base s p i)
+    unfolding owner_of owner_at
     others ne =
-        get_or-set_other v.work (ownerAt s at) (ownerAt s (slotBase s p i)) number 0 (λ x. ne (omega arith))
-        ∙ same (slotBase s p i) (slot_lt s bounds p i hp hi)
+        get_or-set_other v.work (owner_at s at) (owner_at s (slot_base s p i)) number 0 (λ x. ne (omega arith))
+        ∙ same (slot_base s p i) (slot_lt s bounds p i hp hi)
 
-    owner-below : owner p i < c.next
-    owner-below = go (ℕ_discrete (slotBase s p i) at)
+    owner_below : owner p i < c.next
+    owner_below = go (ℕ_discrete (slot_base s p i) at)
       where
-        go : Dec (slotBase s p i ≡ at) → owner p i < c.next
+        go : Dec (slot_base s p i ≡ at) → owner p i < c.next
         go (yes e) = rw (mine e) less
         go (no ne) = rw (others ne) (own.below p i hp hi)
 
-    owner-writes : isOpen c.table (owner p i) ≡ true → writesSlot p i (writes_of (owner p i) (added number write r.writeSets)) ≡ true
-    owner-writes o = go (ℕ_discrete (slotBase s p i) at)
+    owner_writes : is_open c.table (owner p i) ≡ true → writes_slot p i (writes_of (owner p i) (added number write r.write_sets)) ≡ true
+    owner_writes o = go (ℕ_discrete (slot_base s p i) at)
       where
-        go : Dec (slotBase s p i ≡ at) → writesSlot p i (writes_of (owner p i) (added number write r.writeSets)) ≡ true
+        go : Dec (slot_base s p i ≡ at) → writes_slot p i (writes_of (owner p i) (added number write r.write_sets)) ≡ true
         go (yes e) =
-            let one = one-slot s bounds p i page slot hp hi may.page-lt may.slot_lt e in
+            let one = one_slot s bounds p i page slot hp hi may.page_lt may.slot_lt e in
             rw (
               mine e,
-              writes-added number write r.writeSets has,
-              writes-slot-more p i (writes_of number r.writeSets) write,
+              writes_added number write r.write_sets has,
+              writes_slot_more p i (writes_of number r.write_sets) write,
               eq-eqb page p (sym one.0),
               eq-eqb slot i (sym one.1),
             )
-            (or-true (writesSlot p i (writes_of number r.writeSets)))
+            (or-true (writes_slot p i (writes_of number r.write_sets)))
         go (no ne) =
             rw (others ne)
-            (writes-slot-kept p i number write r has (ownerOf s w.work (slotBase s p i)) (own.written p i hp hi (rw (others ne) at o)))
+            (writes_slot_kept p i number write r has (owner_of s w.work (slot_base s p i)) (own.written p i hp hi (rw (others ne) at o)))
 
   -- f is the state after the update
-  pub owners-updated : (f : Core) → f.sizes ≡ c.sizes → f.next ≡ c.next → ((t : ℕ) → isOpen f.table t ≡ isOpen c.table t)
-      → Owners f (slotChanged s v at value number) (noted r number page slot value)
-  owners-updated f sizes next opened =
+  pub owners_updated : (f : Core) → f.sizes ≡ c.sizes → f.next ≡ c.next → ((t : ℕ) → is_open f.table t ≡ is_open c.table t)
+      → Owners f (slot_changed s v at value number) (noted r number page slot value)
+  owners_updated f sizes next opened =
       record {
-        below = rw (sizes, next) owner-below;
-        written = rw sizes (λ p i hp hi o. owner-writes p i hp hi (sym (opened (owner p i)) ∙ o));
+        below = rw (sizes, next) owner_below;
+        written = rw sizes (λ p i hp hi o. owner_writes p i hp hi (sym (opened (owner p i)) ∙ o));
       }

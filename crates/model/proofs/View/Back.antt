@@ -10,16 +10,16 @@ use borrow.Author.Tests.{eq-eqb}
 use Rattle.model.specs.declared.Core.{Core}
 use Rattle.model.specs.declared.Carried.{Carried}
 use Rattle.model.specs.Word.{part}
-use Rattle.model.specs.Memory.{bufferAt, copy_at, ownerAt, workWords}
-use Rattle.model.specs.State.{newCore}
-use Rattle.model.specs.Causes.{whenShut}
-use Rattle.model.specs.View.{headWords, coreIn, ownWork, core_of, carried_of, headLists, head_of}
-use Rattle.model.proofs.View.Laid.{cutFrom, flat-cut}
-use Rattle.model.proofs.View.Head.{HeadSized, own_view, lists-cut, length-head}
+use Rattle.model.specs.Memory.{buffer_at, copy_at, owner_at, work_words}
+use Rattle.model.specs.State.{new_core}
+use Rattle.model.specs.Causes.{when_shut}
+use Rattle.model.specs.View.{head_words, core_in, own_work, core_of, carried_of, head_lists, head_of}
+use Rattle.model.proofs.View.Laid.{cut_from, flat_cut}
+use Rattle.model.proofs.View.Head.{HeadSized, own_view, lists_cut, length_head}
 
 -- a state is what is carried of it and the lists of its head
-unfoldable coreFrom : Carried → List (List ℕ) → Core
-coreFrom h ls =
+unfoldable core_from : Carried → List (List ℕ) → Core
+core_from h ls =
     record {
       stage = h.stage;
       sizes = record { pages = h.pages; disks = h.disks; ring = h.ring; slots = get_or ls 0 []; widths = get_or ls 1 [] };
@@ -34,37 +34,37 @@ coreFrom h ls =
       classes = h.classes;
     }
 
-from-own : (c : Core) → coreFrom (carried_of c) (headLists c) ≡ c
-unfolding coreFrom
-from-own c = refl
+from_own : (c : Core) → core_from (carried_of c) (head_lists c) ≡ c
+unfolding core_from
+from_own c = refl
 
 module _ (c : Core) (body : List ℕ) (sized : HeadSized c) where
-  pub length-behind : length (head_of c ++ body) ≡ headWords + length body
-  length-behind = length-append (head_of c) body ∙ ap (λ (n : ℕ). n + length body) (length-head c sized)
+  pub length_behind : length (head_of c ++ body) ≡ head_words + length body
+  length_behind = length-append (head_of c) body ∙ ap (λ (n : ℕ). n + length body) (length_head c sized)
 
-  pub body_back : drop headWords (head_of c ++ body) ≡ body
-  body_back = drop_at (head_of c) body headWords (length-head c sized)
+  pub body_back : drop head_words (head_of c ++ body) ≡ body
+  body_back = drop_at (head_of c) body head_words (length_head c sized)
 
-  lists_back : headLists (coreIn (carried_of c) (head_of c ++ body)) ≡ headLists c
+  lists_back : head_lists (core_in (carried_of c) (head_of c ++ body)) ≡ head_lists c
   unfolding HeadSized head_of
   lists_back =
-      lists-cut (carried_of c) (head_of c ++ body) (omega (arith, length-behind))
-      ∙ ap (λ (ns : List ℕ). cutFrom 0 ns (head_of c ++ body)) (sym sized) ∙ flat-cut 0 (headLists c) (head_of c ++ body) body refl
+      lists_cut (carried_of c) (head_of c ++ body) (omega (arith, length_behind))
+      ∙ ap (λ (ns : List ℕ). cut_from 0 ns (head_of c ++ body)) (sym sized) ∙ flat_cut 0 (head_lists c) (head_of c ++ body) body refl
 
-  own_back : whenShut c.stage ≡ false → length body ≡ workWords c.sizes c.bases.total
-      → ownWork (carried_of c) (head_of c ++ body) ≡ true
-  unfolding ownWork workWords ownerAt copy_at bufferAt
+  own_back : when_shut c.stage ≡ false → length body ≡ work_words c.sizes c.bases.total
+      → own_work (carried_of c) (head_of c ++ body) ≡ true
+  unfolding own_work work_words owner_at copy_at buffer_at
   own_back serving long =
-      rw (serving, eq-eqb (length (head_of c ++ body)) _ (length-behind ∙ ap (λ (n : ℕ). headWords + n) long)) refl
+      rw (serving, eq-eqb (length (head_of c ++ body)) _ (length_behind ∙ ap (λ (n : ℕ). head_words + n) long)) refl
 
-  pub view-back : whenShut c.stage ≡ false → length body ≡ workWords c.sizes c.bases.total
+  pub view_back : when_shut c.stage ≡ false → length body ≡ work_words c.sizes c.bases.total
       → core_of (carried_of c) (head_of c ++ body) ≡ c
-  unfolding coreFrom
-  view-back serving long =
+  unfolding core_from
+  view_back serving long =
       own_view (carried_of c) (head_of c ++ body) (own_back serving long)
-      ∙ ap (coreFrom (carried_of c)) lists_back ∙ from-own c
+      ∙ ap (core_from (carried_of c)) lists_back ∙ from_own c
 
 -- A new state is a new state, whatever is lent.
-pub view-new : (work : List ℕ) → core_of (carried_of newCore) work ≡ newCore
-unfolding core_of ownWork newCore part
-view-new work = refl
+pub view_new : (work : List ℕ) → core_of (carried_of new_core) work ≡ new_core
+unfolding core_of own_work new_core part
+view_new work = refl

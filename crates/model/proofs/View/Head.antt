@@ -12,83 +12,83 @@ use borrow.Author.Tests.{eqb-true, not-true}
 use Rattle.model.specs.declared.Core.{Core}
 use Rattle.model.specs.declared.Carried.{Carried}
 use Rattle.model.specs.Word.{part}
-use Rattle.model.specs.Memory.{workWords}
-use Rattle.model.specs.Causes.{whenShut}
-use Rattle.model.specs.View.{headPage, headWords, coreIn, ownWork, core_of, carried_of, headLists, head_of}
+use Rattle.model.specs.Memory.{work_words}
+use Rattle.model.specs.Causes.{when_shut}
+use Rattle.model.specs.View.{head_page, head_words, core_in, own_work, core_of, carried_of, head_lists, head_of}
 use Rattle.model.proofs.Booleans.{both}
 use Rattle.model.proofs.Parts.{length_part}
-use Rattle.model.proofs.View.Laid.{sum, cutFrom, length-flat, cut-flat}
+use Rattle.model.proofs.View.Laid.{sum, cut_from, length_flat, cut_flat}
 
 -- the lists' lengths, in their order
-abbrev pub headLengths : List ℕ
-headLengths = 64 ∷ 64 ∷ 64 ∷ 8 ∷ 8 ∷ 8 ∷ 1 ∷ 16 ∷ 16 ∷ 16 ∷ 16 ∷ []
+abbrev pub head_lengths : List ℕ
+head_lengths = 64 ∷ 64 ∷ 64 ∷ 8 ∷ 8 ∷ 8 ∷ 1 ∷ 16 ∷ 16 ∷ 16 ∷ 16 ∷ []
 
 -- The lists of a state that lie in the head have their lengths.
 unfoldable pub HeadSized : Core → Type 0
-HeadSized c = map length (headLists c) ≡ headLengths
+HeadSized c = map length (head_lists c) ≡ head_lengths
 
 -- A work memory that is the state's own: it is not shut, and the length is right.
 pub record Own (h : Carried) (work : List ℕ) : Type 0 where
-  pub serving : whenShut h.stage ≡ false
-  pub long : length work ≡ headWords + workWords (coreIn h work).sizes h.total
+  pub serving : when_shut h.stage ≡ false
+  pub long : length work ≡ head_words + work_words (core_in h work).sizes h.total
 
-pub own-work : (h : Carried) (work : List ℕ) → ownWork h work ≡ true → Own h work
-unfolding ownWork
-own-work h work e =
-    let t = both (not (whenShut h.stage)) (eqb (length work) (headWords + workWords (coreIn h work).sizes h.total)) e in
-    record { serving = not-true (whenShut h.stage) t.0; long = eqb-true _ _ t.1 }
+pub own_work_lem : (h : Carried) (work : List ℕ) → own_work h work ≡ true → Own h work
+unfolding own_work
+own_work_lem h work e =
+    let t = both (not (when_shut h.stage)) (eqb (length work) (head_words + work_words (core_in h work).sizes h.total)) e in
+    record { serving = not-true (when_shut h.stage) t.0; long = eqb-true _ _ t.1 }
 
-pub own-long : (h : Carried) (work : List ℕ) → ownWork h work ≡ true → headWords ≤ length work
-own-long h work e = omega (arith, (own-work h work e).long)
+pub own_long : (h : Carried) (work : List ℕ) → own_work h work ≡ true → head_words ≤ length work
+own_long h work e = omega (arith, (own_work_lem h work e).long)
 
 -- the view of it, and of any other
-pub own_view : (h : Carried) (work : List ℕ) → ownWork h work ≡ true → core_of h work ≡ coreIn h work
+pub own_view : (h : Carried) (work : List ℕ) → own_work h work ≡ true → core_of h work ≡ core_in h work
 unfolding core_of
 own_view h work e = rw e refl
 
-pub other-view : (h : Carried) (work : List ℕ) → ownWork h work ≡ false → core_of h work ≡ coreIn h (replicate headWords 0)
+pub other_view : (h : Carried) (work : List ℕ) → own_work h work ≡ false → core_of h work ≡ core_in h (replicate head_words 0)
 unfolding core_of
-other-view h work e = rw e refl
+other_view h work e = rw e refl
 
 -- A shut state does not depend on the work memory at all.
-pub shut-view : (h : Carried) (work other : List ℕ) → whenShut h.stage ≡ true → core_of h work ≡ core_of h other
-unfolding core_of ownWork
-shut-view h work other e = rw e refl
+pub shut_view : (h : Carried) (work other : List ℕ) → when_shut h.stage ≡ true → core_of h work ≡ core_of h other
+unfolding core_of own_work
+shut_view h work other e = rw e refl
 
 -- What is carried is as it was.
-pub carried-back : (h : Carried) (work : List ℕ) → carried_of (core_of h work) ≡ h
+pub carried_back : (h : Carried) (work : List ℕ) → carried_of (core_of h work) ≡ h
 unfolding core_of
-carried-back h work = refl
+carried_back h work = refl
 
 -- The lists of the view are the head cut at their lengths.
-pub lists-cut : (h : Carried) (head : List ℕ) → headWords ≤ length head → headLists (coreIn h head) ≡ cutFrom 0 headLengths head
-unfolding cutFrom part
-lists-cut h head long =
-    let page : take 1 (drop headPage head) ≡ get_or head headPage 0 ∷ [] = ap (λ (r : List ℕ). take 1 r) (drop-cons head headPage 0 (omega arith)) in
+pub lists_cut : (h : Carried) (head : List ℕ) → head_words ≤ length head → head_lists (core_in h head) ≡ cut_from 0 head_lengths head
+unfolding cut_from part
+lists_cut h head long =
+    let page : take 1 (drop head_page head) ≡ get_or head head_page 0 ∷ [] = ap (λ (r : List ℕ). take 1 r) (drop-cons head head_page 0 (omega arith)) in
     rw page refl
 
-lengths-cut : (at : ℕ) (ns l : List ℕ) → at + sum ns ≤ length l → map length (cutFrom at ns l) ≡ ns
-unfolding cutFrom
-lengths-cut at [] l h = refl
-lengths-cut at (n ∷ ns) l h = rw (length_part at n l (omega arith), lengths-cut (at + n) ns l (omega arith)) refl
+lengths_cut : (at : ℕ) (ns l : List ℕ) → at + sum ns ≤ length l → map length (cut_from at ns l) ≡ ns
+unfolding cut_from
+lengths_cut at [] l h = refl
+lengths_cut at (n ∷ ns) l h = rw (length_part at n l (omega arith), lengths_cut (at + n) ns l (omega arith)) refl
 
-in-sized : (h : Carried) (head : List ℕ) → headWords ≤ length head → HeadSized (coreIn h head)
+in_sized : (h : Carried) (head : List ℕ) → head_words ≤ length head → HeadSized (core_in h head)
 unfolding HeadSized
-in-sized h head long = ap (map length) (lists-cut h head long) ∙ lengths-cut 0 headLengths head long
+in_sized h head long = ap (map length) (lists_cut h head long) ∙ lengths_cut 0 head_lengths head long
 
-pub view-sized : (h : Carried) (work : List ℕ) → HeadSized (core_of h work)
-view-sized h work = go (ownWork h work) refl
+pub view_sized : (h : Carried) (work : List ℕ) → HeadSized (core_of h work)
+view_sized h work = go (own_work h work) refl
   where
-    go : (b : Bool) → ownWork h work ≡ b → HeadSized (core_of h work)
-    go true e = subst HeadSized (sym (own_view h work e)) (in-sized h work (own-long h work e))
-    go false e = subst HeadSized (sym (other-view h work e)) (in-sized h (replicate headWords 0) (omega arith))
+    go : (b : Bool) → own_work h work ≡ b → HeadSized (core_of h work)
+    go true e = subst HeadSized (sym (own_view h work e)) (in_sized h work (own_long h work e))
+    go false e = subst HeadSized (sym (other_view h work e)) (in_sized h (replicate head_words 0) (omega arith))
 
 -- The view loses nothing: its lists, laid one after the other, are the head.
-pub head-whole : (h : Carried) (work : List ℕ) → ownWork h work ≡ true → head_of (core_of h work) ≡ take headWords work
+pub head_whole : (h : Carried) (work : List ℕ) → own_work h work ≡ true → head_of (core_of h work) ≡ take head_words work
 unfolding head_of part
-head-whole h work e =
-    ap head_of (own_view h work e) ∙ ap flatten (lists-cut h work (own-long h work e)) ∙ cut-flat 0 headLengths work
+head_whole h work e =
+    ap head_of (own_view h work e) ∙ ap flatten (lists_cut h work (own_long h work e)) ∙ cut_flat 0 head_lengths work
 
-pub length-head : (c : Core) → HeadSized c → length (head_of c) ≡ headWords
+pub length_head : (c : Core) → HeadSized c → length (head_of c) ≡ head_words
 unfolding HeadSized head_of
-length-head c sized = length-flat (headLists c) ∙ ap sum sized
+length_head c sized = length_flat (head_lists c) ∙ ap sum sized

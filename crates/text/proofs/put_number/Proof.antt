@@ -5,15 +5,15 @@ use mathlib.Core.Path.{◌≡◌, refl, sym, ◌∙◌}
 use Prim.Native.Nat.{◌-◌, ◌≤◌}
 use mathlib.Core.List.{◌++◌}
 use lib.ListN.{length, drop, length-set}
-use Rattle.model.specs.Text.{lastDigits}
-use Rattle.text.proofs.Putting.{put-ends, digit-last, digit-more, digits-none}
+use Rattle.model.specs.Text.{last_digits}
+use Rattle.text.proofs.Putting.{put_ends, digit_last, digit_more, digits_none}
 use Rattle.text.proofs.put_number.Statement.{statement}
 use Rattle.text.proofs.put_number.Tie as tie
 
 abbrev invariant-loop : tie.invariant-loop
 invariant-loop out₀ end most n least i₀ rest₀ out i rest =
     (least ≤ i) × (i ≤ end) × (length out ≡ length out₀)
-    × (lastDigits (i - least) rest ++ drop i out ≡ lastDigits most n ++ drop end out₀)
+    × (last_digits (i - least) rest ++ drop i out ≡ last_digits most n ++ drop end out₀)
 
 abbrev decreases-loop : tie.decreases-loop
 decreases-loop out₀ end most n least i₀ rest₀ out i rest = i - least
@@ -34,9 +34,9 @@ returns c =
     let l = c.before.before in
     let s = l.before in
     let q = l.loop.invariant.2 in
-    let e = sym (digit-last l.loop.out l.loop.i (s.args.end - s.args.most) l.loop.rest (omega arith) (omega arith) c.if1.true)
+    let e = sym (digit_last l.loop.out l.loop.i (s.args.end - s.args.most) l.loop.rest (omega arith) (omega arith) c.if1.true)
     ∙ l.loop.invariant.3 in
-    (put-ends _ s.args.out.now (lastDigits s.args.most s.args.n) _ s.args.end (omega arith) (omega arith) (simp length-set q) e, e)
+    (put_ends _ s.args.out.now (last_digits s.args.most s.args.n) _ s.args.end (omega arith) (omega arith) (simp length-set q) e, e)
 
 loop-again : tie.Need-loop-preserved invariant-loop decreases-loop
 loop-again c =
@@ -46,15 +46,15 @@ loop-again c =
       omega arith,
       omega arith,
       simp length-set q,
-      digit-more l.loop.out l.loop.i (s.args.end - s.args.most) l.loop.rest (omega arith) (omega arith) c.if1.false ∙ l.loop.invariant.3,
+      digit_more l.loop.out l.loop.i (s.args.end - s.args.most) l.loop.rest (omega arith) (omega arith) c.if1.false ∙ l.loop.invariant.3,
     )
 
 returns-2 : tie.Need-returns-2 invariant-loop decreases-loop
 returns-2 c =
     let l = c.before in
     let s = l.before in
-    let e = sym (digits-none l.loop.out l.loop.i (s.args.end - s.args.most) l.loop.rest (omega arith)) ∙ l.loop.invariant.3 in
-    (put-ends l.loop.out s.args.out.now (lastDigits s.args.most s.args.n) l.loop.i s.args.end (omega arith) (omega arith) l.loop.invariant.2 e, e)
+    let e = sym (digits_none l.loop.out l.loop.i (s.args.end - s.args.most) l.loop.rest (omega arith)) ∙ l.loop.invariant.3 in
+    (put_ends l.loop.out s.args.out.now (last_digits s.args.most s.args.n) l.loop.i s.args.end (omega arith) (omega arith) l.loop.invariant.2 e, e)
 
 pub put-number-spec : {M : Type 1} → statement M
 put-number-spec =

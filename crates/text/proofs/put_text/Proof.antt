@@ -6,7 +6,7 @@ use Prim.Native.Nat.{◌+◌, ◌-◌, ◌≤◌}
 use mathlib.Core.List.{◌++◌}
 use lib.ListN.{length, drop, length-set}
 use lib.Seq.{drop-length}
-use Rattle.text.proofs.Putting.{text-more}
+use Rattle.text.proofs.Putting.{text_more}
 use Rattle.text.proofs.put_text.Statement.{statement}
 use Rattle.text.proofs.put_text.Tie as tie
 
@@ -31,7 +31,7 @@ loop-again c =
     let q = l.loop.invariant.1 in (
       omega arith,
       simp length-set q,
-      text-more l.loop.out s.args.text.now (drop s.args.end s.args.out.now) (s.args.end - length s.args.text.now) l.loop.left
+      text_more l.loop.out s.args.text.now (drop s.args.end s.args.out.now) (s.args.end - length s.args.text.now) l.loop.left
           (omega arith) l.loop.invariant.0 (omega arith) l.loop.invariant.2,
     )
 

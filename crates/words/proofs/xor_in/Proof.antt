@@ -3,20 +3,20 @@ use mathlib.Core.Path.{◌≡◌}
 use Prim.Native.Nat.{◌-◌, ◌≤◌}
 use native.Mathlib.Omega.{arith}
 use Rattle.model.specs.Word.{part}
-use Rattle.model.specs.Image.{xorAt}
-use Rattle.model.proofs.Restart.Words.{length-xor-at}
-use Rattle.words.proofs.Laws.{xor-in-none, xor-in-more}
+use Rattle.model.specs.Image.{xor_at}
+use Rattle.model.proofs.Restart.Words.{length_xor_at}
+use Rattle.words.proofs.Laws.{xor_in_none, xor_in_more}
 use Rattle.words.proofs.xor_in.Statement.{statement}
 use Rattle.words.proofs.xor_in.Tie as tie
 
 abbrev invariant-loop : tie.invariant-loop
-invariant-loop target₀ at source from n i₀ target i = (i ≤ n) × (target ≡ xorAt at (part from i source) target₀)
+invariant-loop target₀ at source from n i₀ target i = (i ≤ n) × (target ≡ xor_at at (part from i source) target₀)
 
 abbrev decreases-loop : tie.decreases-loop
 decreases-loop target₀ at source from n i₀ target i = n - i
 
 loop-holds : tie.Need-loop-init invariant-loop decreases-loop
-loop-holds c = (omega arith, xor-in-none _ _ _ _)
+loop-holds c = (omega arith, xor_in_none _ _ _ _)
 
 add-target : tie.Need-overflow-add-target invariant-loop decreases-loop
 add-target c = omega arith
@@ -34,10 +34,10 @@ mul-target-2 : tie.Need-overflow-mul-target-2 invariant-loop decreases-loop
 mul-target-2 c = omega arith
 
 slice-read-target : tie.Need-slice-read-target invariant-loop decreases-loop
-slice-read-target c = rw (c.before.before.before.loop.invariant.1, length-xor-at) (omega arith)
+slice-read-target c = rw (c.before.before.before.loop.invariant.1, length_xor_at) (omega arith)
 
 slice-write-target : tie.Need-slice-write-target invariant-loop decreases-loop
-slice-write-target c = rw (c.before.before.before.loop.invariant.1, length-xor-at) (omega arith)
+slice-write-target c = rw (c.before.before.before.loop.invariant.1, length_xor_at) (omega arith)
 
 add-i : tie.Need-overflow-add-i invariant-loop decreases-loop
 add-i c = omega arith
@@ -49,10 +49,10 @@ loop-again : tie.Need-loop-preserved invariant-loop decreases-loop
 loop-again c =
     let s = c.before.before.before.before.args in
     let l = c.before.before.before.loop in
-    (omega arith, rw l.invariant.1 (xor-in-more s.target.now s.at s.source.now s.from l.i (omega arith) (omega arith)))
+    (omega arith, rw l.invariant.1 (xor_in_more s.target.now s.at s.source.now s.from l.i (omega arith) (omega arith)))
 
 same_length : tie.Need-same-length invariant-loop decreases-loop
-same_length c = rw c.before.loop.invariant.1 (length-xor-at _ _ _)
+same_length c = rw c.before.loop.invariant.1 (length_xor_at _ _ _)
 
 returns : tie.Need-returns invariant-loop decreases-loop
 returns c =

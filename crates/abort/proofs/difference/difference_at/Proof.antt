@@ -1,8 +1,8 @@
 -- `abort::difference::difference_at` meets its contract: the words that are copied out of the log, and their bits. Assumes nothing.
 use lib.ListN.{replicate}
 use native.Mathlib.Omega.{arith}
-use Rattle.abort.proofs.Disks.{asked, extended, lies, lent-end, lent-lies, lent-to, lent-reader, lent-readable}
-use Rattle.abort.proofs.Spans.{take-span}
+use Rattle.abort.proofs.Disks.{asked, extended, lies, lent_end, lent_lies, lent_to, lent_reader, lent_readable}
+use Rattle.abort.proofs.Spans.{take_span}
 use borrow.Author.Rules.{rules}
 use Rattle.abort.proofs.difference.difference_at.Statement.{statement}
 use Rattle.abort.proofs.difference.difference_at.Tie as tie
@@ -35,7 +35,7 @@ copy-words-of-log-requires c κs =
     let pre = c.before.before.before.before.before.before.requires in
     let e = c.before.before.before.window-of.ensures in
     let x = c.before.before.extent-of.ensures in
-    (lent-readable pre.0 e _ x (omega arith), (rw (lent-to pre.0 e _ x, lent-end pre.0 e) pre.1.0, pre.1.1, pre.1.1))
+    (lent_readable pre.0 e _ x (omega arith), (rw (lent_to pre.0 e _ x, lent_end pre.0 e) pre.1.0, pre.1.1, pre.1.1))
 
 returns : tie.Need-returns
 returns c =
@@ -43,9 +43,9 @@ returns c =
     let e = c.before.before.before.before.before.window-of.ensures in
     let x = c.before.before.before.before.extent-of.ensures in
     let copied = c.before.copy-words-of-log.ensures in
-    let words = copied.0 _ _ (lent-lies pre.0 e _ x) in (
-      rw (words.0, lent-reader pre.0 e _ x) (take-span (replicate 32 0) _ _ _ (omega (arith, pre.1.1))),
-      rw (words.1, lent-reader pre.0 e _ x),
+    let words = copied.0 _ _ (lent_lies pre.0 e _ x) in (
+      rw (words.0, lent_reader pre.0 e _ x) (take_span (replicate 32 0) _ _ _ (omega (arith, pre.1.1))),
+      rw (words.1, lent_reader pre.0 e _ x),
       omega (arith, copied.1, pre.1.1),
     )
 

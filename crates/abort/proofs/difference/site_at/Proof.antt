@@ -1,8 +1,8 @@
 -- `abort::difference::site_at` meets its contract: the fields of the word that is read. Assumes nothing.
 use mathlib.Core.Path.{refl}
 use native.Mathlib.Omega.{arith}
-use Rattle.abort.specs.Undo.{siteAt}
-use Rattle.abort.proofs.Disks.{asked, extended, lies, lent-end, lent-lies, lent-to, lent-tail, lent-here, lent-readable}
+use Rattle.abort.specs.Undo.{site_at}
+use Rattle.abort.proofs.Disks.{asked, extended, lies, lent_end, lent_lies, lent_to, lent_tail, lent_here, lent_readable}
 use Rattle.abort.proofs.difference.site_at.Statement.{statement}
 use Rattle.abort.proofs.difference.site_at.Tie as tie
 
@@ -16,16 +16,16 @@ read-word-requires c κs =
     let pre = c.before.before.before.before.before.requires in
     let e = c.before.before.window-of.ensures in
     let x = c.before.extent-of.ensures in
-    let to = lent-readable pre.0 e _ x (omega arith) in
-    (to.ring-pos, to.ring-fits, omega (arith, pre.1, lent-end pre.0 e, lent-to pre.0 e _ x, to.end-le, lent-tail pre.0 e _ x))
+    let to = lent_readable pre.0 e _ x (omega arith) in
+    (to.ring_pos, to.ring_fits, omega (arith, pre.1, lent_end pre.0 e, lent_to pre.0 e _ x, to.end_le, lent_tail pre.0 e _ x))
 
 returns : tie.Need-returns
-unfolding siteAt
+unfolding site_at
 returns c =
     let pre = c.before.before.before.before.before.before.requires in
     let e = c.before.before.before.window-of.ensures in
     let x = c.before.before.extent-of.ensures in
-    rw (c.read_word.ensures _ _ (lent-lies pre.0 e _ x), lent-here pre.0 e) refl
+    rw (c.read_word.ensures _ _ (lent_lies pre.0 e _ x), lent_here pre.0 e) refl
 
 pub site-at-spec : {M : Type 1} → statement M
 site-at-spec =

@@ -1,19 +1,19 @@
 -- `abort::fault::examine` meets its contract: one survey of the log, then the test of the updates' words. Assumes nothing.
 use borrow.Author.Rules.{rules}
-use Rattle.abort.proofs.Examining.{examined-malformed, examined-long, examined-none}
+use Rattle.abort.proofs.Examining.{examined_malformed, examined_long, examined_none}
 use Rattle.abort.proofs.fault.examine.Statement.{statement}
 use Rattle.abort.proofs.fault.examine.Tie as tie
 
 returns : tie.Need-returns
-returns c = examined-malformed _ _ _ _ _ _ c.before.before.before.before.survey-from.ensures _ _ c.before.malformed.given.1
+returns c = examined_malformed _ _ _ _ _ _ c.before.before.before.before.survey-from.ensures _ _ c.before.malformed.given.1
 
 returns-2 : tie.Need-returns-2
 returns-2 c =
-    examined-long _ _ _ _ _ _ c.before.before.before.before.before.before.survey-from.ensures c.before.before.before.enum_told.given.1 c.if1.true
+    examined_long _ _ _ _ _ _ c.before.before.before.before.before.before.survey-from.ensures c.before.before.before.enum_told.given.1 c.if1.true
 
 returns-3 : tie.Need-returns-3
 returns-3 c =
-    examined-none _ _ _ _ _ _ c.before.before.before.before.before.before.survey-from.ensures c.before.before.before.enum_told.given.1 c.if1.false
+    examined_none _ _ _ _ _ _ c.before.before.before.before.before.before.survey-from.ensures c.before.before.before.enum_told.given.1 c.if1.false
 
 pub examine-spec : {M : Type 1} → statement M
 examine-spec =

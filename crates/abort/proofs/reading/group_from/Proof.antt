@@ -1,7 +1,7 @@
 -- `abort::reading::group_from` meets its contract: the search is lent the ring and the buffered words. Assumes nothing.
 use native.Mathlib.Omega.{arith}
-use Rattle.model.specs.Sizes.{ringOf}
-use Rattle.abort.proofs.Disks.{asked, extended, bounds, lies, lent-end, lent-lies, lent-to, lent-reader, lent-readable}
+use Rattle.model.specs.Sizes.{ring_of}
+use Rattle.abort.proofs.Disks.{asked, extended, bounds, lies, lent_end, lent_lies, lent_to, lent_reader, lent_readable}
 use Rattle.abort.proofs.reading.group_from.Statement.{statement}
 use Rattle.abort.proofs.reading.group_from.Tie as tie
 
@@ -11,20 +11,20 @@ mul-next-updates c =
     omega arith
 
 next-updates-requires : tie.Need-next-updates-requires
-unfolding ringOf
+unfolding ring_of
 next-updates-requires c κs =
     let start = c.before.before.before.before.before in
     let at = start.requires.0.0 in
     let e = c.before.before.window-of.ensures in
     let x = c.before.extent-of.ensures in (
-      lent-readable at e _ x (omega (arith, start.requires.0.1, lent-end at e)),
+      lent_readable at e _ x (omega (arith, start.requires.0.1, lent_end at e)),
       record {
         sizes = start.args.sizes;
         disk = start.args.disk;
-        lies = lent-lies at e _ x;
-        many = rw (lent-reader at e _ x, lent-to at e _ x) start.requires.1;
+        lies = lent_lies at e _ x;
+        many = rw (lent_reader at e _ x, lent_to at e _ x) start.requires.1;
       },
-      omega (arith, (lent-lies at e _ x).same-ring, (bounds at).ring-max),
+      omega (arith, (lent_lies at e _ x).same_ring, (bounds at).ring_max),
       start.requires.0.2,
     )
 
@@ -34,8 +34,8 @@ returns c =
     let at = pre.0.0 in
     let e = c.before.before.before.window-of.ensures in
     let x = c.before.before.extent-of.ensures in
-    rw (lent-reader at e _ x, lent-to at e _ x)
-    at (c.next-updates.ensures _ _ (lent-lies at e _ x) (rw (lent-reader at e _ x, lent-to at e _ x) pre.1))
+    rw (lent_reader at e _ x, lent_to at e _ x)
+    at (c.next-updates.ensures _ _ (lent_lies at e _ x) (rw (lent_reader at e _ x, lent_to at e _ x) pre.1))
 
 pub group-from-spec : {M : Type 1} → statement M
 group-from-spec =

@@ -2,8 +2,8 @@
 use mathlib.Core.Path.{refl}
 use native.Mathlib.Omega.{arith}
 use borrow.Author.Rules.{rules}
-use Rattle.model.specs.Sizes.{ringOf}
-use Rattle.abort.proofs.Disks.{asked, extended, bounds, lies, lent-end, lent-ordered, lent-lies, lent-tail, lent-to, lent-readable}
+use Rattle.model.specs.Sizes.{ring_of}
+use Rattle.abort.proofs.Disks.{asked, extended, bounds, lies, lent_end, lent_ordered, lent_lies, lent_tail, lent_to, lent_readable}
 use Rattle.abort.proofs.Malformed.{lent_found}
 use Rattle.abort.proofs.reading.survey_from.Statement.{statement}
 use Rattle.abort.proofs.reading.survey_from.Tie as tie
@@ -12,17 +12,17 @@ mul-buffer : tie.Need-overflow-mul-buffer
 mul-buffer c = let f = lies c.before.before.before.before.requires.0 c.before.window-of.ensures in omega arith
 
 survey-log-requires : tie.Need-survey-log-requires
-unfolding ringOf
+unfolding ring_of
 survey-log-requires c κs =
     let pre = c.before.before.before.before.before.before.requires in
     let e = c.before.before.before.window-of.ensures in
     let x = c.before.before.extent-of.ensures in
-    let to = lent-to pre.0 e _ x in (
-      (lent-readable pre.0 e _ x (omega arith), lent-lies pre.0 e _ x, pre.0.sizes),
+    let to = lent_to pre.0 e _ x in (
+      (lent_readable pre.0 e _ x (omega arith), lent_lies pre.0 e _ x, pre.0.sizes),
       (
-        omega (arith, (lent-lies pre.0 e _ x).same-ring, (bounds pre.0).ring-max),
-        omega (arith, lent-tail pre.0 e _ x, to, lent-ordered pre.0 e),
-        omega (arith, to, lent-end pre.0 e, pre.1),
+        omega (arith, (lent_lies pre.0 e _ x).same_ring, (bounds pre.0).ring_max),
+        omega (arith, lent_tail pre.0 e _ x, to, lent_ordered pre.0 e),
+        omega (arith, to, lent_end pre.0 e, pre.1),
         refl,
       ),
     )

@@ -3,18 +3,18 @@ use mathlib.Core.Path.{refl}
 use native.Mathlib.Omega.{arith}
 use borrow.Author.Rules.{rules}
 use borrow.Author.Tests.{lt-ltb, le-ltb}
-use Rattle.abort.specs.Scope.{scopeIn}
+use Rattle.abort.specs.Scope.{scope_in}
 use Rattle.abort.proofs.scope.scope_at.Statement.{statement}
 use Rattle.abort.proofs.scope.scope_at.Tie as tie
 
 returns : tie.Need-returns
-unfolding scopeIn
+unfolding scope_in
 returns c =
     let start = c.before.before.before in
     rw (le-ltb 2 start.args.entry.reserved (omega (arith, c.before.if1.true))) refl
 
 returns-2 : tie.Need-returns-2
-unfolding scopeIn
+unfolding scope_in
 returns-2 c =
     let start = c.before.before in
     rw (lt-ltb 2 start.args.entry.reserved (omega (arith, c.if1.false))) refl

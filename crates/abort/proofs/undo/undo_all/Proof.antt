@@ -9,14 +9,14 @@ use lib.Seq.{take_all}
 use borrow.Author.Tests.{not-true, not-false}
 use Rattle.model.specs.Scan.{scan}
 use Rattle.model.specs.State.{end_of}
-use Rattle.model.proofs.Booleans.{true-false}
-use Rattle.log.specs.Reading.{positionsIn}
-use Rattle.abort.specs.Undo.{onlyLog, reader}
-use Rattle.abort.proofs.Tips.{tip-sized, tip-end}
+use Rattle.model.proofs.Booleans.{true_false}
+use Rattle.disk_log.specs.Reading.{positions_in}
+use Rattle.abort.specs.Undo.{only_log, reader}
+use Rattle.abort.proofs.Tips.{tip_sized, tip_end}
 use Rattle.abort.proofs.Disks.{small}
-use Rattle.abort.proofs.Undone.{did-lengths}
-use Rattle.abort.proofs.Pending.{Pending, Counted, pending-start, pending-last, all-counted}
-use Rattle.abort.proofs.Noting.{all-updates, all-takeable, all-few, all_held, here-many, group-takeable, group-counted, group-cut, group-step}
+use Rattle.abort.proofs.Undone.{did_lengths}
+use Rattle.abort.proofs.Pending.{Pending, Counted, pending_start, pending_last, all_counted}
+use Rattle.abort.proofs.Noting.{all_updates, all_takeable, all_few, all_held, here_many, group_takeable, group_counted, group_cut, group_step}
 use borrow.Author.Rules.{rules}
 use Rattle.abort.proofs.undo.undo_all.Statement.{statement}
 use Rattle.abort.proofs.undo.undo_all.Tie as tie
@@ -24,11 +24,11 @@ use Rattle.abort.proofs.undo.undo_all.Tie as tie
 abbrev invariant-loop : tie.invariant-loop
 invariant-loop sizes disk number pages₀ logs₀ work₀ budget₀ notes end after₀ ones₀ k₀ pages logs work budget after ones k =
     (k ≤ k₀)
-    × Pending sizes disk number (onlyLog disk after₀) pages₀ logs₀ work₀ budget₀
-    (positionsIn number (scan sizes (reader sizes (onlyLog disk after₀) disk logs₀ work₀) (end_of (onlyLog disk after₀) disk) notes.from)) (onlyLog disk after) pages logs work budget
-    (take (128 * k) (positionsIn number (scan sizes (reader sizes (onlyLog disk after₀) disk logs₀ work₀) (end_of (onlyLog disk after₀) disk) notes.from)))
-    × Counted (reader sizes (onlyLog disk after₀) disk logs₀ work₀) (positionsIn number (scan sizes (reader sizes (onlyLog disk after₀) disk logs₀ work₀) (end_of (onlyLog disk after₀) disk) notes.from)) ones
-    (take (128 * k) (positionsIn number (scan sizes (reader sizes (onlyLog disk after₀) disk logs₀ work₀) (end_of (onlyLog disk after₀) disk) notes.from)))
+    × Pending sizes disk number (only_log disk after₀) pages₀ logs₀ work₀ budget₀
+    (positions_in number (scan sizes (reader sizes (only_log disk after₀) disk logs₀ work₀) (end_of (only_log disk after₀) disk) notes.from)) (only_log disk after) pages logs work budget
+    (take (128 * k) (positions_in number (scan sizes (reader sizes (only_log disk after₀) disk logs₀ work₀) (end_of (only_log disk after₀) disk) notes.from)))
+    × Counted (reader sizes (only_log disk after₀) disk logs₀ work₀) (positions_in number (scan sizes (reader sizes (only_log disk after₀) disk logs₀ work₀) (end_of (only_log disk after₀) disk) notes.from)) ones
+    (take (128 * k) (positions_in number (scan sizes (reader sizes (only_log disk after₀) disk logs₀ work₀) (end_of (only_log disk after₀) disk) notes.from)))
     × (ones + 262144 * k ≤ 33554432)
 
 abbrev decreases-loop : tie.decreases-loop
@@ -37,19 +37,19 @@ decreases-loop sizes disk number pages₀ logs₀ work₀ budget₀ notes end af
 add-end : tie.Need-overflow-add-end invariant-loop decreases-loop
 add-end c =
     let pre = c.before.before.before.before.requires in
-    omega (arith, tip-end _ c.before.before.before.before.args.tip (small pre.0.serving).below, pre.0.serving.end-small)
+    omega (arith, tip_end _ c.before.before.before.before.args.tip (small pre.0.serving).below, pre.0.serving.end_small)
 
 add-k : tie.Need-overflow-add-k invariant-loop decreases-loop
-add-k c = let pre = c.before.before.before.before.requires in omega (arith, pre.1.all, all-few _ _ _ _ _ _ _ _ pre.0)
+add-k c = let pre = c.before.before.before.before.requires in omega (arith, pre.1.all, all_few _ _ _ _ _ _ _ _ pre.0)
 
 loop-holds : tie.Need-loop-init invariant-loop decreases-loop
 loop-holds c =
     let pre = c.before.before.before.before.requires in (
       omega arith,
       rw (take_all _ _ (all_held _ _ _ _ _ _ _ _ pre.0 pre.1))
-          (pending-start _ _ _ _ _ _ _ _ _ (all-takeable _ _ _ _ _ _ _ _ pre.0) (tip-sized _ _)),
+          (pending_start _ _ _ _ _ _ _ _ _ (all_takeable _ _ _ _ _ _ _ _ pre.0) (tip_sized _ _)),
       rw (take_all _ _ (all_held _ _ _ _ _ _ _ _ pre.0 pre.1)) (omega arith),
-      omega (arith, pre.1.all, all-few _ _ _ _ _ _ _ _ pre.0),
+      omega (arith, pre.1.all, all_few _ _ _ _ _ _ _ _ pre.0),
     )
 
 mul-smaller : tie.Need-overflow-mul-smaller invariant-loop decreases-loop
@@ -59,7 +59,7 @@ mul-smaller c =
     let noted = start.requires.1 in
     let turn = c.before.loop in
     let some = c.loop-test.true in
-    let few = all-few _ _ _ _ _ _ _ _ ok in
+    let few = all_few _ _ _ _ _ _ _ _ ok in
     omega (arith, few, noted.all, turn.invariant.0)
 
 sub-smaller : tie.Need-overflow-sub-smaller invariant-loop decreases-loop
@@ -78,7 +78,7 @@ mul-p c =
     let noted = start.requires.1 in
     let turn = c.before.before.loop in
     let some = c.before.loop-test.true in
-    let few = all-few _ _ _ _ _ _ _ _ ok in
+    let few = all_few _ _ _ _ _ _ _ _ ok in
     omega (arith, few, noted.all, turn.invariant.0)
 
 element-copy-out-p : tie.Need-element-copy-out-p invariant-loop decreases-loop
@@ -88,7 +88,7 @@ element-copy-out-p c =
     let noted = start.requires.1 in
     let turn = c.before.before.loop in
     let some = c.before.loop-test.true in
-    let few = all-few _ _ _ _ _ _ _ _ ok in
+    let few = all_few _ _ _ _ _ _ _ _ ok in
     omega (arith, few, noted.all, turn.invariant.0, some)
 
 group-from-requires : tie.Need-group-from-requires invariant-loop decreases-loop
@@ -99,10 +99,10 @@ group-from-requires c κs =
     let turn = c.before.before.before.before.before.loop in
     let some = c.before.before.before.before.loop-test.true in
     let size = c.before.before.before.smaller.ensures in
-    let ends = tip-end _ start.args.tip (small ok.serving).below in
+    let ends = tip_end _ start.args.tip (small ok.serving).below in
     let p = turn.invariant.1 in (
       (p.serving, omega (arith, ends, p.longer), omega (arith, size)),
-      rw (← ends) (omega (arith, size, here-many _ _ _ _ _ _ _ _ ok turn.k (omega (arith, some)) p noted turn.invariant.0)),
+      rw (← ends) (omega (arith, size, here_many _ _ _ _ _ _ _ _ ok turn.k (omega (arith, some)) p noted turn.invariant.0)),
     )
 
 undo-group-requires : tie.Need-undo-group-requires invariant-loop decreases-loop
@@ -112,22 +112,22 @@ undo-group-requires c κs =
     let noted = start.requires.1 in
     let turn = c.before.before.before.before.before.before.before.before.before.before.loop in
     let some = c.before.before.before.before.before.before.before.before.before.loop-test.true in
-    let ends = tip-end _ start.args.tip (small ok.serving).below in
+    let ends = tip_end _ start.args.tip (small ok.serving).below in
     let got = rw (← ends) at c.before.before.before.before.group-from.ensures in
     let size = c.before.before.before.before.before.before.before.before.smaller.ensures in
-    (omega (arith, got.many, size), group-takeable _ _ _ _ _ _ _ _ ok turn.k (omega (arith, some)) turn.invariant.1 noted turn.invariant.0 size got)
+    (omega (arith, got.many, size), group_takeable _ _ _ _ _ _ _ _ ok turn.k (omega (arith, some)) turn.invariant.1 noted turn.invariant.0 size got)
 
 same_length : tie.Need-same-length invariant-loop decreases-loop
 same_length c =
-    (did-lengths (c.before.before.before.before.before.before.before.before.undo-group.ensures.0 [] [])).pages ∙ c.before.before.before.before.before.before.before.before.before.before.before.before.before.before.before.before.before.before.before.loop.invariant.1.page-words ∙ sym c.before.before.before.before.before.before.before.before.before.before.before.before.before.before.before.before.before.before.before.before.before.before.before.before.requires.0.page-words
+    (did_lengths (c.before.before.before.before.before.before.before.before.undo-group.ensures.0 [] [])).pages ∙ c.before.before.before.before.before.before.before.before.before.before.before.before.before.before.before.before.before.before.before.loop.invariant.1.page_words_lem ∙ sym c.before.before.before.before.before.before.before.before.before.before.before.before.before.before.before.before.before.before.before.before.before.before.before.before.requires.0.page_words_lem
 
 same-length-2 : tie.Need-same-length-2 invariant-loop decreases-loop
 same-length-2 c =
-    (did-lengths (c.before.before.before.before.before.before.before.before.undo-group.ensures.0 [] [])).logs ∙ c.before.before.before.before.before.before.before.before.before.before.before.before.before.before.before.before.before.before.before.loop.invariant.1.serving.log-words ∙ sym c.before.before.before.before.before.before.before.before.before.before.before.before.before.before.before.before.before.before.before.before.before.before.before.before.requires.0.serving.log-words
+    (did_lengths (c.before.before.before.before.before.before.before.before.undo-group.ensures.0 [] [])).logs ∙ c.before.before.before.before.before.before.before.before.before.before.before.before.before.before.before.before.before.before.before.loop.invariant.1.serving.log_words_lem ∙ sym c.before.before.before.before.before.before.before.before.before.before.before.before.before.before.before.before.before.before.before.before.before.before.before.before.requires.0.serving.log_words_lem
 
 same-length-3 : tie.Need-same-length-3 invariant-loop decreases-loop
 same-length-3 c =
-    (did-lengths (c.before.before.before.before.before.before.before.before.undo-group.ensures.0 [] [])).work ∙ c.before.before.before.before.before.before.before.before.before.before.before.before.before.before.before.before.before.before.before.loop.invariant.1.serving.work-words ∙ sym c.before.before.before.before.before.before.before.before.before.before.before.before.before.before.before.before.before.before.before.before.before.before.before.before.requires.0.serving.work-words
+    (did_lengths (c.before.before.before.before.before.before.before.before.undo-group.ensures.0 [] [])).work ∙ c.before.before.before.before.before.before.before.before.before.before.before.before.before.before.before.before.before.before.before.loop.invariant.1.serving.work_words_lem ∙ sym c.before.before.before.before.before.before.before.before.before.before.before.before.before.before.before.before.before.before.before.before.before.before.before.before.requires.0.serving.work_words_lem
 
 returns : tie.Need-returns invariant-loop decreases-loop
 returns c =
@@ -136,14 +136,14 @@ returns c =
     let noted = start.requires.1 in
     let turn = c.before.before.before.before.before.before.before.before.before.before.before.before.before.before.before.before.before.before.before.loop in
     let some = c.before.before.before.before.before.before.before.before.before.before.before.before.before.before.before.before.before.before.loop-test.true in
-    let ends = tip-end _ start.args.tip (small ok.serving).below in
+    let ends = tip_end _ start.args.tip (small ok.serving).below in
     let got = rw (← ends) at c.before.before.before.before.before.before.before.before.before.before.before.before.before.group-from.ensures in
     let size = c.before.before.before.before.before.before.before.before.before.before.before.before.before.before.before.before.before.smaller.ensures in
     let part = c.before.before.before.before.before.before.before.before.undo-group.ensures in
     let cut = not-true _ c.if1.true in (
       λ anchor backups.
-          group-cut _ _ _ _ _ _ _ _ ok turn.k (omega (arith, some)) turn.invariant.1 noted turn.invariant.0 size got anchor backups (part.0 anchor backups) cut,
-      λ f. true-false f cut,
+          group_cut _ _ _ _ _ _ _ _ ok turn.k (omega (arith, some)) turn.invariant.1 noted turn.invariant.0 size got anchor backups (part.0 anchor backups) cut,
+      λ f. true_false f cut,
     )
 
 add-ones : tie.Need-overflow-add-ones invariant-loop decreases-loop
@@ -159,34 +159,34 @@ loop-again c =
     let noted = start.requires.1 in
     let turn = c.before.before.before.before.before.before.before.before.before.before.before.before.before.before.before.before.before.before.before.before.before.loop in
     let some = c.before.before.before.before.before.before.before.before.before.before.before.before.before.before.before.before.before.before.before.before.loop-test.true in
-    let ends = tip-end _ start.args.tip (small ok.serving).below in
+    let ends = tip_end _ start.args.tip (small ok.serving).below in
     let got = rw (← ends) at c.before.before.before.before.before.before.before.before.before.before.before.before.before.before.before.group-from.ensures in
     let size = c.before.before.before.before.before.before.before.before.before.before.before.before.before.before.before.before.before.before.before.smaller.ensures in
     let part = c.before.before.before.before.before.before.before.before.before.before.undo-group.ensures in
     let whole = not-false _ c.before.before.if1.false in (
       omega (arith, turn.invariant.0),
-      group-step _ _ _ _ _ _ _ _ ok turn.k (omega (arith, some)) turn.invariant.1 noted turn.invariant.0 size got whole part.0,
-      group-counted _ _ _ _ _ _ _ _ ok turn.k (omega (arith, some)) turn.invariant.1 noted turn.invariant.0 size got turn.ones turn.invariant.2 (part.1.0 whole),
+      group_step _ _ _ _ _ _ _ _ ok turn.k (omega (arith, some)) turn.invariant.1 noted turn.invariant.0 size got whole part.0,
+      group_counted _ _ _ _ _ _ _ _ ok turn.k (omega (arith, some)) turn.invariant.1 noted turn.invariant.0 size got turn.ones turn.invariant.2 (part.1.0 whole),
       omega (arith, turn.invariant.3, some, part.1.1),
     )
 
 same-length-4 : tie.Need-same-length-4 invariant-loop decreases-loop
-same-length-4 c = c.before.loop.invariant.1.page-words ∙ sym c.before.before.before.before.before.before.requires.0.page-words
+same-length-4 c = c.before.loop.invariant.1.page_words_lem ∙ sym c.before.before.before.before.before.before.requires.0.page_words_lem
 
 same-length-5 : tie.Need-same-length-5 invariant-loop decreases-loop
-same-length-5 c = c.before.loop.invariant.1.serving.log-words ∙ sym c.before.before.before.before.before.before.requires.0.serving.log-words
+same-length-5 c = c.before.loop.invariant.1.serving.log_words_lem ∙ sym c.before.before.before.before.before.before.requires.0.serving.log_words_lem
 
 same-length-6 : tie.Need-same-length-6 invariant-loop decreases-loop
-same-length-6 c = c.before.loop.invariant.1.serving.work-words ∙ sym c.before.before.before.before.before.before.requires.0.serving.work-words
+same-length-6 c = c.before.loop.invariant.1.serving.work_words_lem ∙ sym c.before.before.before.before.before.before.requires.0.serving.work_words_lem
 
 returns-2 : tie.Need-returns-2 invariant-loop decreases-loop
 returns-2 c =
     let ok = c.before.before.before.before.before.before.requires.0 in
     let turn = c.before.loop in
     let none : turn.k ≡ 0 = omega arith in
-    let all = all-updates _ _ _ _ _ _ _ _ ok in (
-      λ anchor backups. rw all (pending-last _ _ _ _ _ _ _ _ _ (all-takeable _ _ _ _ _ _ _ _ ok) (rw none at turn.invariant.1) anchor backups),
-      λ f. rw all (all-counted _ _ turn.ones (rw none at turn.invariant.2)),
+    let all = all_updates _ _ _ _ _ _ _ _ ok in (
+      λ anchor backups. rw all (pending_last _ _ _ _ _ _ _ _ _ (all_takeable _ _ _ _ _ _ _ _ ok) (rw none at turn.invariant.1) anchor backups),
+      λ f. rw all (all_counted _ _ turn.ones (rw none at turn.invariant.2)),
     )
 
 pub undo-all-spec : {M : Type 1} → statement M

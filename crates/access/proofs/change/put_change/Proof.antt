@@ -3,7 +3,7 @@ use mathlib.Core.Path.{refl, sym, ◌∙◌}
 use native.Mathlib.Omega.{arith}
 use lib.ListN.{length-set}
 use lib.Seq.{length-sets}
-use Rattle.access.proofs.Differences.{difference-length, change-put}
+use Rattle.access.proofs.Differences.{difference_length, change_put}
 use borrow.Author.Rules.{rules}
 use Rattle.access.proofs.change.put_change.Statement.{statement}
 use Rattle.access.proofs.change.put_change.Tie as tie
@@ -27,7 +27,7 @@ returns c =
     let start = c.before.before.before.before.before.before.before.before.before.before in
     let x = start.args in
     let counted = c.before.before.difference.ensures in (
-      counted.0 ∙ change-put x.work.now x.to _ x.head _ (sym (difference-length x.at x.value.now x.pages.now start.requires.2)),
+      counted.0 ∙ change_put x.work.now x.to _ x.head _ (sym (difference_length x.at x.value.now x.pages.now start.requires.2)),
       counted.1,
     )
 

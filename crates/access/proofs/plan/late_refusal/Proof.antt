@@ -2,8 +2,8 @@
 use mathlib.Core.Path.{refl}
 use native.Mathlib.Omega.{arith}
 use borrow.Author.Rules.{rules}
-use Rattle.model.specs.Record.{updateKind}
-use Rattle.model.proofs.RecordSizes.{words-most}
+use Rattle.model.specs.Record.{update_kind}
+use Rattle.model.proofs.RecordSizes.{words_most}
 use Rattle.access.proofs.plan.late_refusal.Statement.{statement}
 use Rattle.access.proofs.plan.late_refusal.Tie as tie
 
@@ -13,12 +13,12 @@ returns c h own same = rw (← c.before.is-locked.ensures h own same, c.if1.true
 mul-need : tie.Need-overflow-mul-need
 mul-need c =
     let start = c.before.before.before.before in
-    omega (arith, c.words_of.ensures, words-most updateKind start.args.found.width, start.requires.0.2)
+    omega (arith, c.words_of.ensures, words_most update_kind start.args.found.width, start.requires.0.2)
 
 fits-ring-requires : tie.Need-fits-ring-requires
 fits-ring-requires c κs =
     let start = c.before.before.before.before.before in
-    omega (arith, c.before.words_of.ensures, words-most updateKind start.args.found.width, start.requires.0.2, start.requires.1)
+    omega (arith, c.before.words_of.ensures, words_most update_kind start.args.found.width, start.requires.0.2, start.requires.1)
 
 returns-2 : tie.Need-returns-2
 returns-2 c h own same = rw (← c.before.before.before.before.before.is-locked.ensures h own same, c.before.before.before.before.if1.false, ← c.before.before.before.words_of.ensures, ← c.before.fits-ring.ensures, c.if2.true) refl

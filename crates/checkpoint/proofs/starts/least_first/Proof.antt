@@ -2,20 +2,20 @@
 use native.Mathlib.Omega.{arith}
 use Prim.Native.Nat.{◌-◌, ◌≤◌}
 use mathlib.Core.Path.{◌≡◌}
-use Rattle.model.specs.Checkpoint.{leastFirst}
-use Rattle.checkpoint.proofs.Least.{least-none, least_more}
+use Rattle.model.specs.Checkpoint.{least_first}
+use Rattle.checkpoint.proofs.Least.{least_none, least_more}
 use borrow.Author.Rules.{rules}
-use Rattle.checkpoint.proofs.starts.least_first.Statement.{statement}
-use Rattle.checkpoint.proofs.starts.least_first.Tie as tie
+use Rattle.checkpoint.proofs.starts.least_first_lem.Statement.{statement}
+use Rattle.checkpoint.proofs.starts.least_first_lem.Tie as tie
 
 abbrev invariant-loop : tie.invariant-loop
-invariant-loop disk remembered table least₀ i₀ least i = (i ≤ 16) × (least ≡ leastFirst table disk remembered i)
+invariant-loop disk remembered table least₀ i₀ least i = (i ≤ 16) × (least ≡ least_first table disk remembered i)
 
 abbrev decreases-loop : tie.decreases-loop
 decreases-loop disk remembered table least₀ i₀ least i = 16 - i
 
 loop-holds : tie.Need-loop-init invariant-loop decreases-loop
-loop-holds c = (omega arith, least-none _ _ _)
+loop-holds c = (omega arith, least_none _ _ _)
 
 loop-again : tie.Need-loop-preserved invariant-loop decreases-loop
 loop-again c = (omega arith, least_more _ _ _ _ _ _ _ c.before.before.before.before.before.before.before.loop.invariant.1 c.before.first_of.ensures c.smaller.ensures)

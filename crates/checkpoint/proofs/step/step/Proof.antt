@@ -1,19 +1,19 @@
 -- `checkpoint::step::step` meets its contract: each refusal is the first row that applies. Assumes nothing.
 use mathlib.Core.Path.{refl}
-use Rattle.model.specs.Checkpoint.{checkpointStepRows}
-use Rattle.model.specs.Call.{checkpointStep}
-use Rattle.frame.proofs.Given.{given-first}
-use Rattle.checkpoint.proofs.Waiting.{step-none, step_given, steppable}
+use Rattle.model.specs.Checkpoint.{checkpoint_step_rows}
+use Rattle.model.specs.Call.{checkpoint_step}
+use Rattle.frame.proofs.Given.{given_first}
+use Rattle.checkpoint.proofs.Waiting.{step_none, step_given, steppable}
 use borrow.Author.Rules.{rules}
 use Rattle.checkpoint.proofs.step.step.Statement.{statement}
 use Rattle.checkpoint.proofs.step.step.Tie as tie
 
 returns : tie.Need-returns
-unfolding checkpointStepRows
-returns c = given-first c.before.before.common-refusal.ensures (checkpointStep _) refl c.before.if1.true c.refuse.ensures
+unfolding checkpoint_step_rows
+returns c = given_first c.before.before.common-refusal.ensures (checkpoint_step _) refl c.before.if1.true c.refuse.ensures
 
 returns-2 : tie.Need-returns-2
-returns-2 c = step-none c.before.before.before.before.before.before.common-refusal.ensures c.before.before.before.before.before.if1.false _ c.before.if2.true c.refuse2.ensures
+returns-2 c = step_none c.before.before.before.before.before.before.common-refusal.ensures c.before.before.before.before.before.if1.false _ c.before.if2.true c.refuse2.ensures
 
 copy-next-requires : tie.Need-copy-next-requires
 copy-next-requires c κs = steppable c.before.before.before.before.before.before.before.before.common-refusal.ensures c.before.before.before.before.before.before.before.if1.false c.before.before.before.if2.false

@@ -6,7 +6,7 @@ use borrow.Author.Rules.{rules}
 use borrow.Author.Count.{below_more}
 use lib.ListN.{length, get_or, length-set}
 use lib.Seq.{ext_get_or, get_or-set_same, get_or-set_other}
-use Rattle.model.proofs.Below.{length-list, getD-list}
+use Rattle.model.proofs.Below.{length_list, get_d_list}
 use Rattle.classes.proofs.kept.column.Statement.{statement}
 use Rattle.classes.proofs.kept.column.Tie as tie
 
@@ -28,7 +28,7 @@ loop-again c =
 returns : tie.Need-returns invariant-loop decreases-loop
 returns c =
     let l = c.before.loop in
-    ext_get_or 0 l.out _ (l.invariant.1 ∙ sym (length-list _ 16)) (λ k h. l.invariant.2 k (omega arith) ∙ sym (getD-list _ 16 k 0 (omega arith)))
+    ext_get_or 0 l.out _ (l.invariant.1 ∙ sym (length_list _ 16)) (λ k h. l.invariant.2 k (omega arith) ∙ sym (get_d_list _ 16 k 0 (omega arith)))
 
 pub column-spec : {M : Type 1} → statement M
 column-spec =

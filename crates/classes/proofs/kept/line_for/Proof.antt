@@ -7,7 +7,7 @@ use borrow.Author.Rules.{rules}
 use borrow.Author.Count.{below_none, below_more}
 use lib.ListN.{get_or}
 use Rattle.model.specs.Below.{within}
-use Rattle.model.proofs.Below.{first-unique, first-none}
+use Rattle.model.proofs.Below.{first_unique, first_none}
 use Rattle.classes.proofs.kept.line_for.Statement.{statement}
 use Rattle.classes.proofs.kept.line_for.Tie as tie
 
@@ -23,7 +23,7 @@ loop-holds c = (search rules, below_none _)
 returns : tie.Need-returns invariant-loop decreases-loop
 returns c =
     let l = c.before.before.before.loop in
-    sym (first-unique _ _ l.i (omega arith) (sym c.before.covers.ensures ∙ c.if1.true) l.invariant.1)
+    sym (first_unique _ _ l.i (omega arith) (sym c.before.covers.ensures ∙ c.if1.true) l.invariant.1)
 
 loop-again : tie.Need-loop-preserved invariant-loop decreases-loop
 loop-again c =
@@ -33,7 +33,7 @@ loop-again c =
 returns-2 : tie.Need-returns-2 invariant-loop decreases-loop
 returns-2 c =
     let l = c.before.loop in
-    sym (first-none _ _ (λ j h. l.invariant.1 j (omega arith)))
+    sym (first_none _ _ (λ j h. l.invariant.1 j (omega arith)))
 
 pub line-for-spec : {M : Type 1} → statement M
 line-for-spec =

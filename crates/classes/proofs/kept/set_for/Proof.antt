@@ -7,23 +7,23 @@ use mir.Syntax.{w8}
 use mir.Val.{Fits}
 use borrow.Author.Rules.{rules}
 use borrow.Author.Tests.{eq-eqb, ne_eqb}
-use Rattle.model.specs.Classes.{setFor, line_for}
+use Rattle.model.specs.Classes.{set_for, line_for}
 use Rattle.classes.proofs.kept.set_for.Statement.{statement}
 use Rattle.classes.proofs.kept.set_for.Tie as tie
 
 returns : tie.Need-returns
-unfolding setFor
+unfolding set_for
 returns c = (search rules, rw (eq-eqb _ _ c.if1.true))
 
 returns-2 : tie.Need-returns-2
-unfolding setFor line_for
+unfolding set_for line_for
 returns-2 c =
     let t = c.before.before.before.before.before.before.args.classes in
     let small : Fits w8 (get_or t.sets c.before.line-for.result 0) = search rules in
     (omega (arith, small.fits), rw (ne_eqb _ _ c.before.before.before.before.if1.false) (ap (λ (i : ℕ). get_or t.sets i 0) c.before.line-for.ensures))
 
 returns-3 : tie.Need-returns-3
-unfolding setFor line_for
+unfolding set_for line_for
 returns-3 c =
     let t = c.before.before.before.before.before.before.args.classes in
     let long : length t.sets ≡ 16 = search rules in

@@ -6,25 +6,25 @@ use mathlib.Core.Logic.{⊎_elim}
 use native.Mathlib.Omega.{arith}
 use borrow.Author.Rules.{rules}
 use lib.ListN.{length}
-use Rattle.model.specs.Below.{within, sumBelow}
-use Rattle.model.specs.Classes.{lowAt, highAt, lineCount, timesCovered}
+use Rattle.model.specs.Below.{within, sum_below}
+use Rattle.model.specs.Classes.{low_at, high_at, line_count, times_covered}
 use Rattle.classes.proofs.Tables.{covered_more}
 use Rattle.classes.proofs.lines.times_covered.Statement.{statement}
 use Rattle.classes.proofs.lines.times_covered.Tie as tie
 
 abbrev invariant-loop : tie.invariant-loop
 invariant-loop lines class count times₀ i₀ times i =
-    (i ≤ length lines / 3) × (times ≤ i) × (times ≡ sumBelow (λ j. cond (within (lowAt lines j) (highAt lines j) class) 1 0) i)
+    (i ≤ length lines / 3) × (times ≤ i) × (times ≡ sum_below (λ j. cond (within (low_at lines j) (high_at lines j) class) 1 0) i)
 
 abbrev decreases-loop : tie.decreases-loop
 decreases-loop lines class count times₀ i₀ times i = length lines / 3 - i
 
 loop-holds : tie.Need-loop-init invariant-loop decreases-loop
-unfolding sumBelow
+unfolding sum_below
 loop-holds c = (search rules, search rules, refl)
 
 loop-again : tie.Need-loop-preserved invariant-loop decreases-loop
-unfolding lowAt highAt
+unfolding low_at high_at
 loop-again c =
     let s = c.before.before.before.before.before.before.before.args in
     let l = c.before.before.before.before.before.loop in
@@ -36,7 +36,7 @@ loop-again c =
     )
 
 returns : tie.Need-returns invariant-loop decreases-loop
-unfolding timesCovered lineCount
+unfolding times_covered line_count
 returns c =
     let l = c.before.loop in
     let last : l.i ≡ length c.before.before.before.args.lines.now / 3 = omega arith in

@@ -1,8 +1,8 @@
 -- `commands::restarts::replay_all` meets its contract: one source after the other.
 use mathlib.Core.Path.{◌∙◌}
 use Rattle.model.specs.Call.{Gives}
-use Rattle.model.proofs.View.Served.{served-gives}
-use Rattle.commands.proofs.Replaying.{replayed-through}
+use Rattle.model.proofs.View.Served.{served_gives}
+use Rattle.commands.proofs.Replaying.{replayed_through}
 use Rattle.commands.proofs.restarts.replay_all.Statement.{statement}
 use Rattle.commands.proofs.restarts.replay_all.Tie as tie
 
@@ -30,8 +30,8 @@ returns c =
     let third = c.before.before.before.before in
     let second = third.before.before.before.before.before.before.before in
     let first = second.before.before.before.before.before.before.before in
-    let begin = served-gives _ _ _ _ _ _ first.before.before.before.before.before.before.before.restart-begin.ensures.0 in
-    replayed-through _ _ begin first.replay.ensures second.replay2.ensures third.replay3.ensures
+    let begin = served_gives _ _ _ _ _ _ first.before.before.before.before.before.before.before.restart-begin.ensures.0 in
+    replayed_through _ _ begin first.replay.ensures second.replay2.ensures third.replay3.ensures
 
 pub replay-all-spec : {M : Type 1} → statement M
 replay-all-spec =

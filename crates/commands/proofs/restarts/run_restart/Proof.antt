@@ -2,8 +2,8 @@
 use borrow.Author.Tests.{not-true, not-false}
 use mathlib.Core.Path.{refl, sym, ◌∙◌}
 use Rattle.commands.specs.Meaning.{line_of}
-use Rattle.commands.proofs.Showing.{shows-own}
-use Rattle.commands.proofs.Replaying.{restart-refused, restart-ended}
+use Rattle.commands.proofs.Showing.{shows_own}
+use Rattle.commands.proofs.Replaying.{restart_refused, restart_ended}
 use Rattle.commands.proofs.restarts.run_restart.Statement.{statement}
 use Rattle.commands.proofs.restarts.run_restart.Tie as tie
 
@@ -32,7 +32,7 @@ returns : tie.Need-returns
 unfolding line_of
 returns c =
     let test = c.before in
-    restart-refused _ _ _ test.before.before.before.before.before.before.replay-all.ensures
+    restart_refused _ _ _ test.before.before.before.before.before.before.replay-all.ensures
     (sym test.before.is-finished.ensures ∙ not-true _ test.if1.true)
     c.done-of.ensures.0
     (rw c.done-of.ensures.1)
@@ -63,8 +63,8 @@ unfolding line_of
 returns-2 c =
     let end = c.before.before.before.before.before.before.before.before in
     let test = end.before.before.before.before.before.before.before in
-    restart-ended _ _ _ test.before.before.before.before.before.before.replay-all.ensures (sym test.before.is-finished.ensures ∙ not-false _ test.if1.false)
-    (shows-own _ _ _ _ _ _ _ end.restart-end.ensures.0 c.done-of2.ensures.1 (rw c.before.value_of_lem.ensures at c.done-of2.ensures.0))
+    restart_ended _ _ _ test.before.before.before.before.before.before.replay-all.ensures (sym test.before.is-finished.ensures ∙ not-false _ test.if1.false)
+    (shows_own _ _ _ _ _ _ _ end.restart-end.ensures.0 c.done-of2.ensures.1 (rw c.before.value_of_lem.ensures at c.done-of2.ensures.0))
 
 pub run-restart-spec : {M : Type 1} → statement M
 run-restart-spec =

@@ -1,7 +1,7 @@
 -- `commands::transactions::run_set` meets its contract: the value is what was read before, XOR the value set.
 use borrow.Author.Rules.{rules}
 use Rattle.commands.specs.Meaning.{line_of}
-use Rattle.commands.proofs.Showing.{shows-difference}
+use Rattle.commands.proofs.Showing.{shows_difference}
 use Rattle.commands.proofs.transactions.run_set.Statement.{statement}
 use Rattle.commands.proofs.transactions.run_set.Tie as tie
 
@@ -27,7 +27,7 @@ returns : tie.Need-returns
 unfolding line_of
 returns c =
     let update = c.before.before.before.before.before.before.before in
-    shows-difference _ _ _ _ _ _ _ update.update.ensures.0 c.done-of.ensures.1 _ update.before.before.before.before.before.before.slot-word.ensures c.done-of.ensures.0
+    shows_difference _ _ _ _ _ _ _ update.update.ensures.0 c.done-of.ensures.1 _ update.before.before.before.before.before.before.slot-word.ensures c.done-of.ensures.0
 
 pub run-set-spec : {M : Type 1} → statement M
 run-set-spec =

@@ -1,12 +1,12 @@
 -- `format::anchor::store_anchor` meets its contract: the arrays are stored once the front is. Assumes nothing.
 use borrow.Author.Tests.{not-true, not-false}
-use Rattle.device.proofs.Ran.{ran_then, ran-cut}
+use Rattle.device.proofs.Ran.{ran_then, ran_cut}
 use borrow.Author.Rules.{rules}
 use Rattle.format.proofs.anchor.store_anchor.Statement.{statement}
 use Rattle.format.proofs.anchor.store_anchor.Tie as tie
 
 returns : tie.Need-returns
-returns c = λ memory backups logs work. ran-cut (c.before.before.before.store-front.ensures memory backups logs work) _ (not-true _ c.if1.true)
+returns c = λ memory backups logs work. ran_cut (c.before.before.before.store-front.ensures memory backups logs work) _ (not-true _ c.if1.true)
 
 returns-2 : tie.Need-returns-2
 returns-2 c =

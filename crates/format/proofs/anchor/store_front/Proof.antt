@@ -1,6 +1,6 @@
 -- `format::anchor::store_front` meets its contract: the words are stored once the number is 0. Assumes nothing.
 use borrow.Author.Tests.{not-true, not-false}
-use Rattle.format.proofs.AnchorParts.{front_cut, front-whole}
+use Rattle.format.proofs.AnchorParts.{front_cut, front_whole}
 use borrow.Author.Rules.{rules}
 use Rattle.format.proofs.anchor.store_front.Statement.{statement}
 use Rattle.format.proofs.anchor.store_front.Tie as tie
@@ -15,7 +15,7 @@ returns-2 : tie.Need-returns-2
 returns-2 c =
     let x = c.before.before.before.before.before.before.before.before.before.before.before.before.before.args in
     λ memory backups logs work.
-    front-whole memory backups logs work x.pages x.disks x.ring c.before.before.before.before.before.before.before.before.before.Store-word.ensures (not-false _ c.before.before.before.before.before.before.if1.false) c.before.before.store-copy.ensures
+    front_whole memory backups logs work x.pages x.disks x.ring c.before.before.before.before.before.before.before.before.before.Store-word.ensures (not-false _ c.before.before.before.before.before.before.if1.false) c.before.before.store-copy.ensures
 
 pub store-front-spec : {M : Type 1} → statement M
 store-front-spec =

@@ -1,6 +1,6 @@
 -- `format::devices::store_devices` meets its contract: each part is stored once the one before it is. Assumes nothing.
 use borrow.Author.Tests.{not-true, not-false}
-use Rattle.format.proofs.Joined.{anchor-cut, tails-cut, stores-whole}
+use Rattle.format.proofs.Joined.{anchor_cut, tails_cut, stores_whole}
 use borrow.Author.Rules.{rules}
 use Rattle.format.proofs.devices.store_devices.Statement.{statement}
 use Rattle.format.proofs.devices.store_devices.Tie as tie
@@ -10,14 +10,14 @@ returns c =
     let pre = c.before.before.before.before.before.before.before.before.before.requires in
     let x = c.before.before.before.before.before.before.before.before.before.args in
     λ memory work.
-    anchor-cut x.sizes pre.1 (c.before.before.before.store-anchor.ensures memory x.backups.now x.logs.now work) (not-true _ c.if1.true)
+    anchor_cut x.sizes pre.1 (c.before.before.before.store-anchor.ensures memory x.backups.now x.logs.now work) (not-true _ c.if1.true)
 
 returns-2 : tie.Need-returns-2
 returns-2 c =
     let pre = c.before.before.before.before.before.before.before.before.before.before.before.before.before.before.before.requires in
     let x = c.before.before.before.before.before.before.before.before.before.before.before.before.before.before.before.args in
     λ memory work.
-    tails-cut x.sizes pre.1 (c.before.before.before.before.before.before.before.before.before.store-anchor.ensures memory x.backups.now x.logs.now work) (not-false _ c.before.before.before.before.before.before.if1.false)
+    tails_cut x.sizes pre.1 (c.before.before.before.before.before.before.before.before.before.store-anchor.ensures memory x.backups.now x.logs.now work) (not-false _ c.before.before.before.before.before.before.if1.false)
     (c.before.before.before.store-tails.ensures _ memory x.backups.now work) (not-true _ c.if2.true)
 
 returns-3 : tie.Need-returns-3
@@ -25,7 +25,7 @@ returns-3 c =
     let pre = c.before.before.before.before.before.before.before.before.before.before.before.before.before.before.before.before.before.before.before.before.before.before.before.requires in
     let x = c.before.before.before.before.before.before.before.before.before.before.before.before.before.before.before.before.before.before.before.before.before.before.before.args in
     λ memory work.
-    stores-whole x.sizes pre.1 (c.before.before.before.before.before.before.before.before.before.before.before.before.before.before.before.before.before.store-anchor.ensures memory x.backups.now x.logs.now work) (not-false _ c.before.before.before.before.before.before.before.before.before.before.before.before.before.before.if1.false)
+    stores_whole x.sizes pre.1 (c.before.before.before.before.before.before.before.before.before.before.before.before.before.before.before.before.before.store-anchor.ensures memory x.backups.now x.logs.now work) (not-false _ c.before.before.before.before.before.before.before.before.before.before.before.before.before.before.if1.false)
     (c.before.before.before.before.before.before.before.before.before.before.before.store-tails.ensures _ memory x.backups.now work) (not-false _ c.before.before.before.before.before.before.before.before.if2.false) pre.2
     (c.before.before.before.before.store-last.ensures memory _ work)
 

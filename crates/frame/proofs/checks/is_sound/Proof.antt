@@ -2,31 +2,31 @@
 use mathlib.Core.Path.{refl, sym, ◌∙◌}
 use borrow.Author.Tests.{not-true, not-false}
 use Rattle.model.proofs.Bounds.{bounded}
-use Rattle.model.proofs.Store.Rows.{sizes-sound}
-use Rattle.frame.proofs.Passing.{sound-by-stage}
+use Rattle.model.proofs.Store.Rows.{sizes_sound}
+use Rattle.frame.proofs.Passing.{sound_by_stage}
 use borrow.Author.Rules.{rules}
 use Rattle.frame.proofs.checks.is_sound.Statement.{statement}
 use Rattle.frame.proofs.checks.is_sound.Tie as tie
 
 returns : tie.Need-returns
 returns c =
-    rw (sound-by-stage c.before.before.args.core, ← c.before.is-shut.ensures, c.if1.true) refl
+    rw (sound_by_stage c.before.before.args.core, ← c.before.is-shut.ensures, c.if1.true) refl
 
 returns-2 : tie.Need-returns-2
 returns-2 c =
     rw (
-      sound-by-stage c.before.before.before.before.before.args.core,
+      sound_by_stage c.before.before.before.before.before.args.core,
       ← c.before.before.before.before.is-shut.ensures,
       c.before.before.before.if1.false,
       ← c.before.before.is-replaying.ensures,
       c.before.if2.true,
     )
-    c.replay-sound.ensures
+    c.replay_sound_lem.ensures
 
 returns-3 : tie.Need-returns-3
 returns-3 c =
     rw (
-      sound-by-stage c.before.before.before.before.before.before.args.core,
+      sound_by_stage c.before.before.before.before.before.before.args.core,
       ← c.before.before.before.before.before.is-shut.ensures,
       c.before.before.before.before.if1.false,
       ← c.before.before.before.is-replaying.ensures,
@@ -39,7 +39,7 @@ returns-3 c =
 returns-4 : tie.Need-returns-4
 returns-4 c =
     rw (
-      sound-by-stage c.before.before.before.before.before.before.before.before.args.core,
+      sound_by_stage c.before.before.before.before.before.before.before.before.args.core,
       ← c.before.before.before.before.before.before.before.is-shut.ensures,
       c.before.before.before.before.before.before.if1.false,
       ← c.before.before.before.before.before.is-replaying.ensures,
@@ -53,12 +53,12 @@ returns-4 c =
 
 checkpoint-bounds-requires : tie.Need-checkpoint-bounds-requires
 checkpoint-bounds-requires c κs =
-    (bounded _ (sizes-sound _ (sym c.before.before.before.serving-sound.ensures ∙ not-false _ c.before.before.if3.false))).disks-max
+    (bounded _ (sizes_sound _ (sym c.before.before.before.serving-sound.ensures ∙ not-false _ c.before.before.if3.false))).disks_max
 
 returns-5 : tie.Need-returns-5
 returns-5 c =
     rw (
-      sound-by-stage c.before.before.before.before.before.before.before.before.before.args.core,
+      sound_by_stage c.before.before.before.before.before.before.before.before.before.args.core,
       ← c.before.before.before.before.before.before.before.before.is-shut.ensures,
       c.before.before.before.before.before.before.before.if1.false,
       ← c.before.before.before.before.before.before.is-replaying.ensures,

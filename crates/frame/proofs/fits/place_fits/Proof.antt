@@ -5,30 +5,30 @@ use mathlib.Core.Path.{refl}
 use native.Mathlib.Omega.{arith}
 use borrow.Author.Tests.{lt-ltb, le-ltb, lt-leb, le-leb}
 use Rattle.model.specs.State.{limit}
-use Rattle.frame.specs.Fits.{placeWithin}
+use Rattle.frame.specs.Fits.{place_within}
 use borrow.Author.Rules.{rules}
 use Rattle.frame.proofs.fits.place_fits.Statement.{statement}
 use Rattle.frame.proofs.fits.place_fits.Tie as tie
 
 returns : tie.Need-returns
-unfolding placeWithin
+unfolding place_within
 returns c = rw (le-ltb _ _ c.if1.true) refl
 
 returns-2 : tie.Need-returns-2
-unfolding placeWithin
+unfolding place_within
 returns-2 c = rw (lt-ltb _ _ c.before.if1.false, lt-leb _ _ c.if2.true) refl
 
 returns-3 : tie.Need-returns-3
-unfolding placeWithin
+unfolding place_within
 returns-3 c = rw (lt-ltb _ _ c.before.before.if1.false, le-leb _ _ c.before.if2.false, lt-leb _ _ c.if3.true) refl
 
 returns-4 : tie.Need-returns-4
-unfolding placeWithin
+unfolding place_within
 returns-4 c =
     rw (lt-ltb _ _ c.before.before.before.if1.false, le-leb _ _ c.before.before.if2.false, le-leb _ _ c.before.if3.false, lt-leb _ _ c.if4.true) refl
 
 returns-5 : tie.Need-returns-5
-unfolding placeWithin
+unfolding place_within
 returns-5 c =
     let x = c.before.before.before.before.before.args in
     rw (
@@ -41,7 +41,7 @@ returns-5 c =
     refl
 
 returns-6 : tie.Need-returns-6
-unfolding placeWithin
+unfolding place_within
 returns-6 c =
     let x = c.before.before.before.before.before.before.args in
     rw (
@@ -54,7 +54,7 @@ returns-6 c =
     refl
 
 returns-7 : tie.Need-returns-7
-unfolding placeWithin
+unfolding place_within
 returns-7 c =
     rw (lt-ltb _ _ c.before.before.before.before.before.if1.false, le-leb _ _ c.before.before.before.before.if2.false, le-leb _ _ c.before.before.before.if3.false, le-leb _ _ c.before.before.if4.false) refl
 

@@ -1,12 +1,12 @@
 -- `frame::home::home_of` meets its contract: by the numbers of the disk. Assumes nothing.
 use mathlib.Core.Path.{refl}
-use Rattle.model.specs.State.{tailOf, fillOf}
+use Rattle.model.specs.State.{tail_of, fill_of}
 use borrow.Author.Rules.{rules}
 use Rattle.frame.proofs.home.home_of.Statement.{statement}
 use Rattle.frame.proofs.home.home_of.Tie as tie
 
 returns : tie.Need-returns
-unfolding tailOf fillOf
+unfolding tail_of fill_of
 returns c =
     let x = c.before.before.before.args in
     (c.home_at.ensures x.sizes x.t2 refl refl refl, (search rules, search rules, search rules))

@@ -6,13 +6,13 @@ use native.Mathlib.Omega.{arith}
 use borrow.Author.Rules.{rules}
 use borrow.Author.Tests.{le-leb, lt-leb}
 use Rattle.model.specs.Below.{all_below}
-use Rattle.model.proofs.Below.{all_none, all_more, all-stop, all_done}
-use Rattle.frame.specs.Pages.{positionRight}
+use Rattle.model.proofs.Below.{all_none, all_more, all_stop, all_done}
+use Rattle.frame.specs.Pages.{position_right}
 use Rattle.frame.proofs.replaying.positions_right.Statement.{statement}
 use Rattle.frame.proofs.replaying.positions_right.Tie as tie
 
 abbrev invariant-loop : tie.invariant-loop
-invariant-loop work disks tails end d₀ d = (d ≤ disks) × (all_below (positionRight work tails) d ≡ true)
+invariant-loop work disks tails end d₀ d = (d ≤ disks) × (all_below (position_right work tails) d ≡ true)
 
 abbrev decreases-loop : tie.decreases-loop
 decreases-loop work disks tails end d₀ d = disks - d
@@ -24,26 +24,26 @@ returns : tie.Need-returns invariant-loop decreases-loop
 returns c =
     let at-loop = c.before.before in
     let x = at-loop.before.args in
-    all-stop (positionRight x.work.now x.t3) x.disks at-loop.loop.d (omega arith) (rw (lt-leb _ _ c.if1.true) refl)
+    all_stop (position_right x.work.now x.t3) x.disks at-loop.loop.d (omega arith) (rw (lt-leb _ _ c.if1.true) refl)
 
 returns-2 : tie.Need-returns-2 invariant-loop decreases-loop
 returns-2 c =
     let at-loop = c.before.before.before.before in
     let x = at-loop.before.args in
-    all-stop (positionRight x.work.now x.t3) x.disks at-loop.loop.d (omega arith) (rw (lt-leb _ _ c.if2.true, and-false) refl)
+    all_stop (position_right x.work.now x.t3) x.disks at-loop.loop.d (omega arith) (rw (lt-leb _ _ c.if2.true, and-false) refl)
 
 loop-again : tie.Need-loop-preserved invariant-loop decreases-loop
 loop-again c =
     let at-loop = c.before.before.before.before in
     let x = at-loop.before.args in
-    let passes : positionRight x.work.now x.t3 at-loop.loop.d ≡ true = rw (le-leb _ _ c.before.before.if1.false, le-leb _ _ c.if2.false) refl in
-    (omega arith, all_more (positionRight x.work.now x.t3) at-loop.loop.d at-loop.loop.invariant.1 passes)
+    let passes : position_right x.work.now x.t3 at-loop.loop.d ≡ true = rw (le-leb _ _ c.before.before.if1.false, le-leb _ _ c.if2.false) refl in
+    (omega arith, all_more (position_right x.work.now x.t3) at-loop.loop.d at-loop.loop.invariant.1 passes)
 
 returns-3 : tie.Need-returns-3 invariant-loop decreases-loop
 returns-3 c =
     let at-loop = c.before in
     let x = at-loop.before.args in
-    all_done (positionRight x.work.now x.t3) x.disks at-loop.loop.d (omega arith) (omega arith) at-loop.loop.invariant.1
+    all_done (position_right x.work.now x.t3) x.disks at-loop.loop.d (omega arith) (omega arith) at-loop.loop.invariant.1
 
 pub positions-right-spec : {M : Type 1} → statement M
 positions-right-spec =

@@ -8,7 +8,7 @@ use lib.Seq.{sets}
 use borrow.Author.Rules.{rules}
 use Rattle.model.specs.Word.{part}
 use Rattle.model.proofs.Parts.{length_part}
-use Rattle.words.proofs.Laws.{copy_more, sets-whole}
+use Rattle.words.proofs.Laws.{copy_more, sets_whole}
 use Rattle.frame.proofs.sizes.entries_at.Statement.{statement}
 use Rattle.frame.proofs.sizes.entries_at.Tie as tie
 
@@ -37,7 +37,7 @@ returns c =
     let s = c.before.before.args in
     let l = c.before.loop in
     let e : l.i ≡ 64 = omega arith in
-    (rw e at l.invariant.1) ∙ sets-whole (replicate 64 0) (part s.at 64 s.work.now) (sym (length_part s.at 64 s.work.now c.before.before.requires.0))
+    (rw e at l.invariant.1) ∙ sets_whole (replicate 64 0) (part s.at 64 s.work.now) (sym (length_part s.at 64 s.work.now c.before.before.requires.0))
 
 pub entries-at-spec : {M : Type 1} → statement M
 entries-at-spec =

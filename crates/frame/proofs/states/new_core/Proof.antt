@@ -1,12 +1,12 @@
 -- `frame::states::new_core` meets its contract: every field is what it says. Assumes nothing.
 use mathlib.Core.Path.{refl}
-use Rattle.model.specs.State.{newCore}
+use Rattle.model.specs.State.{new_core}
 use borrow.Author.Rules.{rules}
 use Rattle.frame.proofs.states.new_core.Statement.{statement}
 use Rattle.frame.proofs.states.new_core.Tie as tie
 
 returns : tie.Need-returns
-unfolding newCore
+unfolding new_core
 returns c = rw (c.before.before.before.before.empty-logs.ensures, c.before.before.before.no_table.ensures, c.before.before.no-checkpoint.ensures, c.before.no-replay.ensures, c.no-classes.ensures) refl
 
 pub new-core-spec : {M : Type 1} → statement M

@@ -5,10 +5,10 @@ use Prim.Native.Nat.{ℕ, ◌+◌, ◌*◌, ◌-◌, ◌≤◌}
 use mathlib.Core.List.{List}
 use native.Mathlib.Omega.{arith}
 use lib.ListN.{length, drop}
-use Rattle.model.specs.World.{worldOf}
+use Rattle.model.specs.World.{world_of}
 use Rattle.hall.specs.Running.{Program, fed}
 use Rattle.hall.specs.Held.{Stands}
-use Rattle.hall.proofs.Feeding.{fed-through}
+use Rattle.hall.proofs.Feeding.{fed_through}
 use Rattle.hall.proofs.console.feed.Statement.{statement}
 use Rattle.hall.proofs.console.feed.Tie as tie
 
@@ -16,8 +16,8 @@ abbrev invariant-loop : tie.invariant-loop
 invariant-loop bytes anchor₀ pages₀ backups₀ logs₀ work₀ out₀ c₀ at₀ anchor pages backups logs work out c at =
     ((at ≤ length bytes) × (length anchor ≡ length anchor₀) × (length pages ≡ length pages₀) × (length backups ≡ length backups₀)
     × (length logs ≡ length logs₀) × (length work ≡ length work₀) × (length out ≡ length out₀) × (c.fill + 84 * (length bytes - at) ≤ length out₀))
-    × ((handed : List ℕ) (p : Program) → Stands c₀ (worldOf anchor₀ pages₀ backups₀ logs₀ work₀) out₀ handed p
-    → (q : Program) × Stands c (worldOf anchor pages backups logs work) out handed q × (fed q (drop at bytes) ≡ fed p bytes))
+    × ((handed : List ℕ) (p : Program) → Stands c₀ (world_of anchor₀ pages₀ backups₀ logs₀ work₀) out₀ handed p
+    → (q : Program) × Stands c (world_of anchor pages backups logs work) out handed q × (fed q (drop at bytes) ≡ fed p bytes))
 
 abbrev decreases-loop : tie.decreases-loop
 decreases-loop bytes anchor₀ pages₀ backups₀ logs₀ work₀ out₀ c₀ at₀ anchor pages backups logs work out c at = length bytes - at
@@ -44,7 +44,7 @@ loop-again c =
 returns : tie.Need-returns invariant-loop decreases-loop
 returns c =
     let l = c.before.loop in
-    (omega (arith, l.invariant.0.7), λ handed p s. let old = l.invariant.1 handed p s in rw (← fed-through p old.0 _ _ c.loop-test.false old.2) old.1)
+    (omega (arith, l.invariant.0.7), λ handed p s. let old = l.invariant.1 handed p s in rw (← fed_through p old.0 _ _ c.loop-test.false old.2) old.1)
 
 pub feed-spec : {M : Type 1} → statement M
 feed-spec =

@@ -1,8 +1,8 @@
 -- `hall::console::feed_line` meets its contract: a line's bytes are read, and the line is run if its end is there.
 use borrow.Author.Rules.{rules}
 use native.Mathlib.Omega.{arith}
-use Rattle.hall.proofs.Feeding.{line-ends, line-goes-on, piece-some}
-use Rattle.hall.proofs.Holding.{piece-read, has-begun}
+use Rattle.hall.proofs.Feeding.{line_ends, line_goes_on, piece_some}
+use Rattle.hall.proofs.Holding.{piece_read, has_begun}
 use Rattle.hall.proofs.console.feed_line.Statement.{statement}
 use Rattle.hall.proofs.console.feed_line.Tie as tie
 
@@ -45,8 +45,8 @@ returns c =
       (omega arith, omega (arith, test.if1.true), omega (arith, taken.take-line.ensures.0, test.if1.true, start.requires.0, start.requires.1)),
       λ handed p s. (
         _,
-        taken.take-line.ensures.1 handed _ (piece-read _ _ _ handed p s.holds _ _ piece.read-piece.ensures),
-        line-ends p _ _ _ line.line-length.ensures.0 (omega (arith, start.requires.0)) test.if1.true,
+        taken.take-line.ensures.1 handed _ (piece_read _ _ _ handed p s.holds _ _ piece.read-piece.ensures),
+        line_ends p _ _ _ line.line_length_lem.ensures.0 (omega (arith, start.requires.0)) test.if1.true,
       ),
     )
 
@@ -59,10 +59,10 @@ returns-2 c =
       λ handed p s. (
         _,
         record {
-          holds = piece-read _ _ _ handed p s.holds _ _ piece.read-piece.ensures;
-          begun = has-begun p _ (piece-some _ _ _ start.requires.0 c.if1.false);
+          holds = piece_read _ _ _ handed p s.holds _ _ piece.read-piece.ensures;
+          begun = has_begun p _ (piece_some _ _ _ start.requires.0 c.if1.false);
         },
-        line-goes-on p _ _ _ line.line-length.ensures.0 c.if1.false,
+        line_goes_on p _ _ _ line.line_length_lem.ensures.0 c.if1.false,
       ),
     )
 

@@ -1,6 +1,6 @@
 -- `hall::console::last_line` meets its contract.
 use native.Mathlib.Omega.{arith}
-use Rattle.hall.proofs.Feeding.{ended-line, ended-none}
+use Rattle.hall.proofs.Feeding.{ended_line, ended_none}
 use Rattle.hall.proofs.console.last_line.Statement.{statement}
 use Rattle.hall.proofs.console.last_line.Tie as tie
 
@@ -29,11 +29,11 @@ returns : tie.Need-returns
 returns c =
     let take = c.before.before.before.before.before.before.before.before.before.before.before.before in (
       take.take-line.ensures.0,
-      λ handed p s. rw (ended-line p s.begun take.before.before.before.before.before.before.before.if1.true) (take.take-line.ensures.1 handed p s.holds),
+      λ handed p s. rw (ended_line p s.begun take.before.before.before.before.before.before.before.if1.true) (take.take-line.ensures.1 handed p s.holds),
     )
 
 returns-2 : tie.Need-returns-2
-returns-2 c = (omega arith, λ handed p s. rw (ended-none p s.begun c.if1.false) s)
+returns-2 c = (omega arith, λ handed p s. rw (ended_none p s.begun c.if1.false) s)
 
 pub last-line-spec : {M : Type 1} → statement M
 last-line-spec =

@@ -1,7 +1,7 @@
 -- `hall::console::take_line` meets its contract: the line that is read is run, counted and shown.
 use borrow.Author.Rules.{rules}
 use native.Mathlib.Omega.{arith}
-use Rattle.hall.proofs.Holding.{line-run}
+use Rattle.hall.proofs.Holding.{line_run}
 use Rattle.hall.proofs.console.take_line.Statement.{statement}
 use Rattle.hall.proofs.console.take_line.Tie as tie
 
@@ -14,7 +14,7 @@ returns c =
     let counts = add.before.before in
     let run = counts.before.before.before.before.before.before.before.before.before.before.before.before.before.before in (
       omega (arith, add.add-line.ensures.0),
-      λ handed p h. line-run _ _ _ handed p h _ _
+      λ handed p h. line_run _ _ _ handed p h _ _
           run.before.before.before.before.before.before.command-of.ensures
           run.run.ensures
           counts.before.one_more.ensures

@@ -6,7 +6,7 @@ use mathlib.Core.List.{◌++◌, append-nil}
 use native.Mathlib.Omega.{arith}
 use lib.ListN.{length, take}
 use lib.Seq.{take-length}
-use Rattle.hall.proofs.Gathering.{byte-added}
+use Rattle.hall.proofs.Gathering.{byte_added}
 use Rattle.hall.proofs.output.add.Statement.{statement}
 use Rattle.hall.proofs.output.add.Tie as tie
 
@@ -29,7 +29,7 @@ loop-again : tie.Need-loop-preserved invariant-loop decreases-loop
 loop-again c =
     let l = c.before.before in
     let a = l.before.args in
-    (search rules, byte-added l.loop.out (take a.fill a.out.now) a.text.now a.fill l.loop.i (slice-write-out c) c.before.loop-test.true l.loop.invariant.1)
+    (search rules, byte_added l.loop.out (take a.fill a.out.now) a.text.now a.fill l.loop.i (slice-write-out c) c.before.loop-test.true l.loop.invariant.1)
 
 returns : tie.Need-returns invariant-loop decreases-loop
 returns c =

@@ -3,7 +3,7 @@ use borrow.Author.Rules.{rules}
 use native.Mathlib.Omega.{arith}
 use mathlib.Core.Path.{◌≡◌}
 use lib.ListN.{length, take}
-use Rattle.hall.proofs.Gathering.{text-short, text-added}
+use Rattle.hall.proofs.Gathering.{text_short, text_added}
 use Rattle.hall.proofs.output.add_line.Statement.{statement}
 use Rattle.hall.proofs.output.add_line.Tie as tie
 
@@ -11,7 +11,7 @@ add-requires : tie.Need-add-requires
 add-requires c κs =
     let text = c.before.before.before.before.text_of in
     let small : length text.new.0 ≡ 84 = text.auto.0 in
-    omega (arith, text-short text.new.0 text.result (omega (arith, small)), c.before.before.before.before.before.before.before.requires)
+    omega (arith, text_short text.new.0 text.result (omega (arith, small)), c.before.before.before.before.before.before.before.requires)
 
 returns : tie.Need-returns
 returns c =
@@ -19,8 +19,8 @@ returns c =
     let add = c.before.before in
     let text = c.before.before.before.before.before.before.before.text_of in
     let small : length text.new.0 ≡ 84 = text.auto.0 in (
-      omega (arith, add.add.ensures.0, text-short text.new.0 text.result (omega (arith, small))),
-      text-added text.new.0 text.result (omega (arith, small)) (take start.fill start.out.now) _ text.ensures.1 add.add.ensures.1,
+      omega (arith, add.add.ensures.0, text_short text.new.0 text.result (omega (arith, small))),
+      text_added text.new.0 text.result (omega (arith, small)) (take start.fill start.out.now) _ text.ensures.1 add.add.ensures.1,
     )
 
 pub add-line-spec : {M : Type 1} → statement M

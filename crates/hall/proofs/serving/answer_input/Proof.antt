@@ -2,14 +2,14 @@
 use borrow.Author.Rules.{rules}
 use native.Mathlib.Omega.{arith}
 use mathlib.Core.Path.{◌∙◌}
-use Rattle.model.proofs.Booleans.{true-false}
+use Rattle.model.proofs.Booleans.{true_false}
 use Rattle.hall.proofs.serving.answer_input.Statement.{statement}
 use Rattle.hall.proofs.serving.answer_input.Tie as tie
 
 returns : tie.Need-returns
 returns c =
     let serve = c.before.before.before.before.before.before.before.before.before.before.before.before.before.serve in
-    (omega (arith, serve.ensures.1.0), λ went. true-false c.if1.true went)
+    (omega (arith, serve.ensures.1.0), λ went. true_false c.if1.true went)
 
 last-line-requires : tie.Need-last-line-requires
 last-line-requires c κs =

@@ -6,10 +6,10 @@ use mathlib.Core.Logic.{inl, inr}
 use mathlib.Core.List.{List, [], ◌++◌}
 use Prim.Native.Nat.{ℕ}
 use lib.ListN.{length}
-use Rattle.model.specs.World.{worldOf}
+use Rattle.model.specs.World.{world_of}
 use Rattle.hall.specs.Running.{Program, fed}
 use Rattle.hall.specs.Held.{Stands}
-use Rattle.hall.proofs.Feeding.{fed-append}
+use Rattle.hall.proofs.Feeding.{fed_append}
 use Rattle.hall.proofs.serving.serve.Statement.{statement}
 use Rattle.hall.proofs.serving.serve.Tie as tie
 
@@ -17,8 +17,8 @@ abbrev invariant-loop : tie.invariant-loop
 invariant-loop anchor₀ pages₀ backups₀ logs₀ work₀ out₀ c₀ turns₀ anchor pages backups logs work out c turns =
     ((length anchor ≡ length anchor₀) × (length pages ≡ length pages₀) × (length backups ≡ length backups₀)
     × (length logs ≡ length logs₀) × (length work ≡ length work₀) × (length out ≡ length out₀) × (c.fill ≡ 0))
-    × ((p : Program) → Stands c₀ (worldOf anchor₀ pages₀ backups₀ logs₀ work₀) out₀ p.text p
-    → (input : List ℕ) × Stands c (worldOf anchor pages backups logs work) out (fed p input).text (fed p input))
+    × ((p : Program) → Stands c₀ (world_of anchor₀ pages₀ backups₀ logs₀ work₀) out₀ p.text p
+    → (input : List ℕ) × Stands c (world_of anchor pages backups logs work) out (fed p input).text (fed p input))
 
 abbrev decreases-loop : tie.decreases-loop
 decreases-loop anchor₀ pages₀ backups₀ logs₀ work₀ out₀ c₀ turns₀ anchor pages backups logs work out c turns = turns
@@ -58,7 +58,7 @@ returns c = (
     λ p s.
         let old = c.before.before.before.before.before.before.before.before.before.before.before.before.before.before.before.before.before.before.before.before.before.loop.invariant.1 p s in
         let new = c.before.before.before.before.before.before.before.before.before.before.before.before.before.serve-some.ensures.1 _ old.1 in
-        (old.0 ++ new.0, rw (← fed-append p old.0 new.0) at new.2),
+        (old.0 ++ new.0, rw (← fed_append p old.0 new.0) at new.2),
   ),
 )
 
@@ -88,7 +88,7 @@ returns-2 c = (
     λ p s.
         let old = c.before.before.before.before.before.before.before.before.before.before.before.before.before.before.before.before.before.before.before.before.before.before.loop.invariant.1 p s in
         let new = c.before.before.before.before.before.before.before.before.before.before.before.before.before.before.serve-some.ensures.1 _ old.1 in
-        (old.0 ++ new.0, rw (← fed-append p old.0 new.0) at new.2),
+        (old.0 ++ new.0, rw (← fed_append p old.0 new.0) at new.2),
   ),
 )
 
@@ -98,7 +98,7 @@ loop-again c = (
   λ p s.
       let old = c.before.before.before.before.before.before.before.before.before.before.before.before.before.before.before.before.before.before.before.before.before.before.before.loop.invariant.1 p s in
       let new = c.before.before.before.before.before.before.before.before.before.before.before.before.before.before.before.serve-some.ensures.1 _ old.1 in
-      (old.0 ++ new.0, rw (← fed-append p old.0 new.0) at new.2),
+      (old.0 ++ new.0, rw (← fed_append p old.0 new.0) at new.2),
 )
 
 returns-3 : tie.Need-returns-3 invariant-loop decreases-loop

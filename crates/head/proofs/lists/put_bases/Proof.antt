@@ -6,7 +6,7 @@ use borrow.Author.Rules.{rules}
 use lib.ListN.{length}
 use lib.Seq.{sets, length-sets}
 use Rattle.model.specs.Word.{part}
-use Rattle.head.proofs.Capped.{laid_none, laid_more, laid-whole}
+use Rattle.head.proofs.Capped.{laid_none, laid_more, laid_whole}
 use Rattle.head.proofs.lists.put_bases.Statement.{statement}
 use Rattle.head.proofs.lists.put_bases.Tie as tie
 
@@ -38,7 +38,7 @@ returns : tie.Need-returns invariant-loop decreases-loop
 returns c =
     let s = c.before.before.args in
     let l = c.before.loop in
-    l.invariant.2 ∙ laid-whole s.work.now s.at s.bases.now l.i (omega arith)
+    l.invariant.2 ∙ laid_whole s.work.now s.at s.bases.now l.i (omega arith)
 
 pub put-bases-spec : {M : Type 1} → statement M
 put-bases-spec =

@@ -1,12 +1,12 @@
 -- `head::lists::sixteen_at` meets its contract: the words are copied over the whole array. Assumes nothing.
 use mathlib.Core.Path.{refl}
 use borrow.Author.Rules.{rules}
-use Rattle.words.proofs.Laws.{copied-part}
+use Rattle.words.proofs.Laws.{copied_part}
 use Rattle.head.proofs.lists.sixteen_at.Statement.{statement}
 use Rattle.head.proofs.lists.sixteen_at.Tie as tie
 
 returns : tie.Need-returns
-returns c = copied-part 16 _ _ _ (search rules) refl c.before.copy-words.ensures
+returns c = copied_part 16 _ _ _ (search rules) refl c.before.copy-words.ensures
 
 pub sixteen-at-spec : {M : Type 1} → statement M
 sixteen-at-spec = tie.close (tie.spec (λ c. search rules) (λ c κs. search rules) returns)

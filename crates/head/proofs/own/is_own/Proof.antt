@@ -4,13 +4,13 @@ use Prim.Native.Nat.{◌-◌, ◌/◌}
 use native.Mathlib.Omega.{arith}
 use borrow.Author.Rules.{rules}
 use lib.ListN.{length}
-use Rattle.model.specs.Causes.{whenShut}
-use Rattle.head.proofs.ByLength.{eqb_same, ownLength, shut-owns-none, other_length, by_length}
+use Rattle.model.specs.Causes.{when_shut}
+use Rattle.head.proofs.ByLength.{eqb_same, own_length, shut_owns_none, other_length, by_length}
 use Rattle.head.proofs.own.is_own.Statement.{statement}
 use Rattle.head.proofs.own.is_own.Tie as tie
 
 returns : tie.Need-returns
-returns c h work stage disks total long = shut-owns-none h work (ap whenShut stage ∙ sym c.before.is-shut.ensures ∙ c.if1.true)
+returns c h work stage disks total long = shut_owns_none h work (ap when_shut stage ∙ sym c.before.is-shut.ensures ∙ c.if1.true)
 
 returns-2 : tie.Need-returns-2
 returns-2 c h work stage disks total long = other_length h work (λ e. omega arith)
@@ -24,8 +24,8 @@ returns-4 c h work stage disks total long = other_length h work (λ e. omega ari
 returns-5 : tie.Need-returns-5
 returns-5 c h work stage disks total long =
     let x = c.before.before.before.before.before.args in
-    eqb_same ((x.words - 281 - 64 - x.total) / 64) x.disks (length work) (ownLength h) (λ e. omega arith) (λ e. omega arith)
-    ∙ by_length h work (ap whenShut stage ∙ sym c.before.before.before.before.is-shut.ensures ∙ c.before.before.before.if1.false)
+    eqb_same ((x.words - 281 - 64 - x.total) / 64) x.disks (length work) (own_length h) (λ e. omega arith) (λ e. omega arith)
+    ∙ by_length h work (ap when_shut stage ∙ sym c.before.before.before.before.is-shut.ensures ∙ c.before.before.before.if1.false)
 
 pub is-own-spec : {M : Type 1} → statement M
 is-own-spec =

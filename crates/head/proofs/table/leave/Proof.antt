@@ -3,12 +3,12 @@ use mathlib.Core.Path.{refl}
 use native.Mathlib.Omega.{arith}
 use borrow.Author.Rules.{rules}
 use lib.ListN.{length-set}
-use Rattle.model.specs.Fields.{putWords}
+use Rattle.model.specs.Fields.{put_words}
 use Rattle.head.proofs.table.leave.Statement.{statement}
 use Rattle.head.proofs.table.leave.Tie as tie
 
 returns : tie.Need-returns
-unfolding putWords
+unfolding put_words
 returns c = refl
 
 pub leave_spec : {M : Type 1} → statement M

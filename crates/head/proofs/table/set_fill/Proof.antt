@@ -1,12 +1,12 @@
 -- `head::table::set_fill` meets its contract: by definition. Assumes nothing.
 use mathlib.Core.Path.{refl}
 use borrow.Author.Rules.{rules}
-use Rattle.model.specs.Fields.{putWords}
+use Rattle.model.specs.Fields.{put_words}
 use Rattle.head.proofs.table.set_fill.Statement.{statement}
 use Rattle.head.proofs.table.set_fill.Tie as tie
 
 returns : tie.Need-returns
-unfolding putWords
+unfolding put_words
 returns c = refl
 
 pub set-fill-spec : {M : Type 1} → statement M

@@ -4,16 +4,16 @@ use Prim.Native.Nat.{◌%◌}
 use native.Mathlib.Nat.{zero-mul, one-mul}
 use native.Mathlib.Omega.{arith}
 use borrow.Author.Rules.{rules}
-use Rattle.model.specs.Anchor.{backupAt}
+use Rattle.model.specs.Anchor.{backup_at}
 use Rattle.layout.proofs.backup.backup_at.Statement.{statement}
 use Rattle.layout.proofs.backup.backup_at.Tie as tie
 
 returns : tie.Need-returns
-unfolding backupAt
+unfolding backup_at
 returns c = (rw (c.if1.true, zero-mul), omega arith)
 
 returns-2 : tie.Need-returns-2
-unfolding backupAt
+unfolding backup_at
 returns-2 c =
     let odd : c.before.before.args.epoch % 2 ≡ 1 = omega arith in
     (rw (odd, one-mul) c.before.total.ensures.0, omega arith)

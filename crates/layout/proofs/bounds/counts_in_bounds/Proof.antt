@@ -1,16 +1,16 @@
 use mathlib.Core.Path.{sym, ◌∙◌}
 use borrow.Author.Rules.{rules}
 use borrow.Author.Tests.{not-true, not-false}
-use Rattle.model.specs.Sizes.{countsInBounds}
+use Rattle.model.specs.Sizes.{counts_in_bounds}
 use Rattle.layout.proofs.bounds.counts_in_bounds.Statement.{statement}
 use Rattle.layout.proofs.bounds.counts_in_bounds.Tie as tie
 
 returns : tie.Need-returns
-unfolding countsInBounds
+unfolding counts_in_bounds
 returns c = rw (sym c.before.is_Within.ensures ∙ not-true _ c.if1.true)
 
 returns-2 : tie.Need-returns-2
-unfolding countsInBounds
+unfolding counts_in_bounds
 returns-2 c =
     rw (
       sym c.before.before.before.is_Within.ensures ∙ not-false _ c.before.before.if1.false,
@@ -18,7 +18,7 @@ returns-2 c =
     )
 
 returns-3 : tie.Need-returns-3
-unfolding countsInBounds
+unfolding counts_in_bounds
 returns-3 c =
     rw (
       sym c.before.before.before.before.is_Within.ensures ∙ not-false _ c.before.before.before.if1.false,

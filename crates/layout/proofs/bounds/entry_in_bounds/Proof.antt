@@ -1,23 +1,23 @@
 use borrow.Author.Rules.{rules}
-use Rattle.layout.proofs.Faults.{slots-large, width-large, no-fault}
+use Rattle.layout.proofs.Faults.{slots_large, width_large, no_fault}
 use Rattle.layout.proofs.bounds.entry_in_bounds.Statement.{statement}
 use Rattle.layout.proofs.bounds.entry_in_bounds.Tie as tie
 
 returns : tie.Need-returns
 returns c =
     let x = c.before.args in
-    slots-large x.slots x.width x.used c.if1.true
+    slots_large x.slots x.width x.used c.if1.true
 
 returns-2 : tie.Need-returns-2
 returns-2 c =
     let x = c.before.before.args in
-    width-large x.slots x.width x.used c.if2.true
+    width_large x.slots x.width x.used c.if2.true
 
 returns-3 : tie.Need-returns-3
-returns-3 c = rw c.before.if3.true (no-fault _ _ c.used-fault.ensures.1)
+returns-3 c = rw c.before.if3.true (no_fault _ _ c.used-fault.ensures.1)
 
 returns-4 : tie.Need-returns-4
-returns-4 c = rw c.before.if3.false (no-fault _ _ c.unused-fault.ensures.1)
+returns-4 c = rw c.before.if3.false (no_fault _ _ c.unused-fault.ensures.1)
 
 pub entry-in-bounds-spec : {M : Type 1} → statement M
 entry-in-bounds-spec =

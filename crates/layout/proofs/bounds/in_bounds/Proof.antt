@@ -6,33 +6,33 @@ use native.Mathlib.Omega.{arith}
 use borrow.Author.Rules.{rules}
 use borrow.Author.Tests.{not-true, not-false}
 use Rattle.model.specs.Below.{all_below}
-use Rattle.model.specs.Sizes.{slotsIn, width_in, pageWords, usedEntry, unusedEntry, entryInBounds}
+use Rattle.model.specs.Sizes.{slots_in, width_in, page_words, used_entry, unused_entry, entry_in_bounds}
 use Rattle.model.proofs.Below.{all_none, all_more}
-use Rattle.layout.proofs.Laws.{entriesOf, counts-out, entry-out, all_in}
+use Rattle.layout.proofs.Laws.{entries_of, counts_out, entry_out, all_in}
 use Rattle.layout.proofs.bounds.in_bounds.Statement.{statement}
 use Rattle.layout.proofs.bounds.in_bounds.Tie as tie
 
 abbrev invariant-loop : tie.invariant-loop
 invariant-loop end slots widths i₀ i =
-    (i ≤ 64) × (all_below (entryInBounds (entriesOf end slots widths)) i ≡ true)
+    (i ≤ 64) × (all_below (entry_in_bounds (entries_of end slots widths)) i ≡ true)
 
 abbrev decreases-loop : tie.decreases-loop
 decreases-loop end slots widths i₀ i = 64 - i
 
 returns : tie.Need-returns invariant-loop decreases-loop
-returns c = counts-out _ (sym c.before.counts-in-bounds.ensures ∙ not-true _ c.if1.true)
+returns c = counts_out _ (sym c.before.counts-in-bounds.ensures ∙ not-true _ c.if1.true)
 
 loop-holds : tie.Need-loop-init invariant-loop decreases-loop
 loop-holds c = (omega arith, all_none _)
 
 returns-2 : tie.Need-returns-2 invariant-loop decreases-loop
-unfolding entryInBounds usedEntry unusedEntry pageWords slotsIn width_in
+unfolding entry_in_bounds used_entry unused_entry page_words slots_in width_in
 returns-2 c =
     let test = c.before.entry-in-bounds.ensures in
-    entry-out _ c.before.before.before.loop.i (search rules) (sym test ∙ not-true _ c.if2.true)
+    entry_out _ c.before.before.before.loop.i (search rules) (sym test ∙ not-true _ c.if2.true)
 
 loop-again : tie.Need-loop-preserved invariant-loop decreases-loop
-unfolding entryInBounds usedEntry unusedEntry pageWords slotsIn width_in
+unfolding entry_in_bounds used_entry unused_entry page_words slots_in width_in
 loop-again c =
     let test = c.before.entry-in-bounds.ensures in
     (omega arith, all_more _ _ c.before.before.before.loop.invariant.1 (sym test ∙ not-false _ c.if2.false))

@@ -4,7 +4,7 @@ use Prim.Native.Nat.{◌+◌}
 use native.Mathlib.Omega.{arith}
 use native.Mathlib.Nat.{mul-le-mul_right}
 use borrow.Author.Rules.{rules}
-use Rattle.model.specs.Sizes.{diskAt}
+use Rattle.model.specs.Sizes.{disk_at}
 use Rattle.layout.proofs.disks.disk_at.Statement.{statement}
 use Rattle.layout.proofs.disks.disk_at.Tie as tie
 
@@ -12,7 +12,7 @@ mul-result : tie.Need-overflow-mul-result
 mul-result c = omega (arith, mul-le-mul_right (c.args.ring + 1) c.requires.0)
 
 returns : tie.Need-returns
-unfolding diskAt
+unfolding disk_at
 returns c = (λ s same. rw same refl, omega (arith, mul-le-mul_right (c.args.ring + 1) c.requires.0))
 
 pub disk-at-spec : {M : Type 1} → statement M

@@ -1,11 +1,11 @@
 -- `layout::disks::ring_of` meets its contract.
 use mathlib.Core.Path.{refl}
-use Rattle.model.specs.Sizes.{ringOf}
+use Rattle.model.specs.Sizes.{ring_of}
 use Rattle.layout.proofs.disks.ring_of.Statement.{statement}
 use Rattle.layout.proofs.disks.ring_of.Tie as tie
 
 returns : tie.Need-returns
-unfolding ringOf
+unfolding ring_of
 returns c = refl
 
 pub ring-of-spec : {M : Type 1} → statement M

@@ -2,12 +2,12 @@
 use mathlib.Core.Path.{refl}
 use native.Mathlib.Omega.{arith}
 use borrow.Author.Rules.{rules}
-use Rattle.model.specs.Memory.{bufferAt}
+use Rattle.model.specs.Memory.{buffer_at}
 use Rattle.layout.proofs.memory.buffer_place.Statement.{statement}
 use Rattle.layout.proofs.memory.buffer_place.Tie as tie
 
 returns : tie.Need-returns
-unfolding bufferAt
+unfolding buffer_at
 returns c = (refl, omega arith)
 
 pub buffer-place-spec : {M : Type 1} → statement M

@@ -2,23 +2,23 @@
 use mathlib.Core.Path.{refl}
 use native.Mathlib.Omega.{arith}
 use borrow.Author.Rules.{rules}
-use Rattle.model.specs.Memory.{copy_at, ownerAt}
-use Rattle.layout.specs.Raw.{countsOf}
+use Rattle.model.specs.Memory.{copy_at, owner_at}
+use Rattle.layout.specs.Raw.{counts_of}
 use Rattle.layout.proofs.Laws.{fresh_set}
 use Rattle.layout.proofs.memory.fresh_work.Statement.{statement}
 use Rattle.layout.proofs.memory.fresh_work.Tie as tie
 
 fill-words-requires : tie.Need-fill-words-requires
-unfolding copy_at ownerAt
+unfolding copy_at owner_at
 fill-words-requires c κs =
     let start = c.before.before.before in
-    omega (arith, start.requires, c.owner-place.ensures (countsOf 0 start.args.disks 0) refl)
+    omega (arith, start.requires, c.owner-place.ensures (counts_of 0 start.args.disks 0) refl)
 
 fill-words-requires-2 : tie.Need-fill-words-requires-2
 unfolding copy_at
 fill-words-requires-2 c κs =
     let start = c.before.before.before.before.before.before.before.before in
-    omega (arith, start.requires, c.copy-place.ensures.0 (countsOf 0 start.args.disks 0) refl)
+    omega (arith, start.requires, c.copy-place.ensures.0 (counts_of 0 start.args.disks 0) refl)
 
 returns : tie.Need-returns
 returns c =

@@ -3,14 +3,14 @@ use mathlib.Core.Path.{refl}
 use native.Mathlib.Omega.{arith}
 use borrow.Author.Rules.{rules}
 use Rattle.model.specs.Memory.{copy_at, copy_of}
-use Rattle.layout.specs.Raw.{countsOf}
+use Rattle.layout.specs.Raw.{counts_of}
 use Rattle.layout.proofs.memory.page_copy.Statement.{statement}
 use Rattle.layout.proofs.memory.page_copy.Tie as tie
 
 shared-slice-read-result : tie.Need-shared-slice-read-result
 unfolding copy_at
 shared-slice-read-result c =
-    let at = c.before.copy-place.ensures.0 (countsOf 0 c.before.before.before.args.disks 0) refl in
+    let at = c.before.copy-place.ensures.0 (counts_of 0 c.before.before.before.args.disks 0) refl in
     omega (arith, at)
 
 returns : tie.Need-returns

@@ -4,21 +4,21 @@ use mathlib.Core.Path.{◌≡◌}
 use native.Mathlib.Omega.{arith}
 use borrow.Author.Rules.{rules}
 use lib.ListN.{get_or}
-use Rattle.model.specs.Below.{sumBelow}
-use Rattle.model.specs.Sizes.{slotsIn, width_in, pageWords, pageBase}
+use Rattle.model.specs.Below.{sum_below}
+use Rattle.model.specs.Sizes.{slots_in, width_in, page_words, page_base}
 use Rattle.model.proofs.Below.{sum_step}
 use Rattle.layout.proofs.places.page_base.Statement.{statement}
 use Rattle.layout.proofs.places.page_base.Tie as tie
 
 abbrev invariant-loop : tie.invariant-loop
 invariant-loop page slots widths end sum₀ i₀ sum i =
-    (i ≤ end) × (sum ≤ 65535 * i) × (sum ≡ sumBelow (λ p. get_or slots p 0 * get_or widths p 0) i)
+    (i ≤ end) × (sum ≤ 65535 * i) × (sum ≡ sum_below (λ p. get_or slots p 0 * get_or widths p 0) i)
 
 abbrev decreases-loop : tie.decreases-loop
 decreases-loop page slots widths end sum₀ i₀ sum i = end - i
 
 loop-holds : tie.Need-loop-init invariant-loop decreases-loop
-unfolding sumBelow
+unfolding sum_below
 loop-holds c = search rules
 
 loop-again : tie.Need-loop-preserved invariant-loop decreases-loop
@@ -26,7 +26,7 @@ loop-again c =
     (omega arith, omega arith, rw (sum_step, c.words-in-slots.ensures, c.before.before.loop.invariant.2))
 
 returns : tie.Need-returns invariant-loop decreases-loop
-unfolding pageBase pageWords slotsIn width_in
+unfolding page_base page_words slots_in width_in
 returns c =
     let last : c.before.loop.i ≡ c.before.before.before.before.args.page = omega arith in
     (rw (← last) c.before.loop.invariant.2, omega arith)

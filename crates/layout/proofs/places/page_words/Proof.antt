@@ -1,11 +1,11 @@
 use borrow.Author.Rules.{rules}
 use native.Mathlib.Omega.{arith}
-use Rattle.model.specs.Sizes.{slotsIn, width_in, pageWords}
+use Rattle.model.specs.Sizes.{slots_in, width_in, page_words}
 use Rattle.layout.proofs.places.page_words.Statement.{statement}
 use Rattle.layout.proofs.places.page_words.Tie as tie
 
 returns : tie.Need-returns
-unfolding pageWords slotsIn width_in
+unfolding page_words slots_in width_in
 returns c = (c.words-in-slots.ensures, omega arith)
 
 pub page-words-spec : {M : Type 1} → statement M

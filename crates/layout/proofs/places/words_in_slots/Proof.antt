@@ -2,12 +2,12 @@
 use mathlib.Core.Path.{refl}
 use native.Mathlib.Omega.{arith}
 use borrow.Author.Rules.{rules}
-use Rattle.layout.proofs.Laws.{product-max}
+use Rattle.layout.proofs.Laws.{product_max}
 use Rattle.layout.proofs.places.words_in_slots.Statement.{statement}
 use Rattle.layout.proofs.places.words_in_slots.Tie as tie
 
 mul-result : tie.Need-overflow-mul-result
-mul-result c = record { fits = omega (arith, product-max c.args.slots c.args.width 255 255 (search rules) (search rules)) }
+mul-result c = record { fits = omega (arith, product_max c.args.slots c.args.width 255 255 (search rules) (search rules)) }
 
 returns : tie.Need-returns
 returns c = refl

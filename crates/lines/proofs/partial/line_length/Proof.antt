@@ -4,13 +4,13 @@ use borrow.Author.Rules.{rules}
 use mathlib.Core.Path.{◌≡◌, ◌∙◌}
 use Prim.Native.Nat.{◌+◌, ◌-◌, ◌≤◌}
 use lib.ListN.{length, drop}
-use Rattle.lines.specs.Line.{lineLength}
-use Rattle.lines.proofs.Pieces.{line-here, line_on, line-out}
+use Rattle.lines.specs.Line.{line_length}
+use Rattle.lines.proofs.Pieces.{line_here, line_on, line_out}
 use Rattle.lines.proofs.partial.line_length.Statement.{statement}
 use Rattle.lines.proofs.partial.line_length.Tie as tie
 
 abbrev invariant-loop : tie.invariant-loop
-invariant-loop bytes i₀ i = (i ≤ length bytes) × (i + lineLength (drop i bytes) ≡ lineLength bytes)
+invariant-loop bytes i₀ i = (i ≤ length bytes) × (i + line_length (drop i bytes) ≡ line_length bytes)
 
 abbrev decreases-loop : tie.decreases-loop
 decreases-loop bytes i₀ i = length bytes - i
@@ -21,7 +21,7 @@ loop-holds c = (omega arith, omega arith)
 returns : tie.Need-returns invariant-loop decreases-loop
 returns c =
     let l = c.before.before.before in
-    (line-here l.before.args.bytes.now l.loop.i (omega arith) c.if1.true ∙ l.loop.invariant.1, omega arith)
+    (line_here l.before.args.bytes.now l.loop.i (omega arith) c.if1.true ∙ l.loop.invariant.1, omega arith)
 
 loop-again : tie.Need-loop-preserved invariant-loop decreases-loop
 loop-again c =
@@ -31,7 +31,7 @@ loop-again c =
 returns-2 : tie.Need-returns-2 invariant-loop decreases-loop
 returns-2 c =
     let l = c.before in
-    (line-out l.before.args.bytes.now l.loop.i (omega arith) ∙ l.loop.invariant.1, omega arith)
+    (line_out l.before.args.bytes.now l.loop.i (omega arith) ∙ l.loop.invariant.1, omega arith)
 
 pub line-length-spec : {M : Type 1} → statement M
 line-length-spec =

@@ -6,13 +6,13 @@ use mathlib.Core.List.{List, ◌++◌}
 use Prim.Native.Nat.{ℕ, ◌+◌, ◌-◌, ◌≤◌}
 use lib.ListN.{length, drop}
 use lib.Seq.{drop-length}
-use Rattle.lines.specs.After.{commandAfter}
+use Rattle.lines.specs.After.{command_after}
 use Rattle.lines.proofs.Pieces.{byte_of}
 use Rattle.lines.proofs.partial.read_piece.Statement.{statement}
 use Rattle.lines.proofs.partial.read_piece.Tie as tie
 
 abbrev invariant-loop : tie.invariant-loop
-invariant-loop bytes p₀ i₀ p i = (i ≤ length bytes) × ((more : List ℕ) → commandAfter p (drop i bytes ++ more) ≡ commandAfter p₀ (bytes ++ more))
+invariant-loop bytes p₀ i₀ p i = (i ≤ length bytes) × ((more : List ℕ) → command_after p (drop i bytes ++ more) ≡ command_after p₀ (bytes ++ more))
 
 abbrev decreases-loop : tie.decreases-loop
 decreases-loop bytes p₀ i₀ p i = length bytes - i

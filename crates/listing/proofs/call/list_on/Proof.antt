@@ -3,18 +3,18 @@ use mathlib.Core.Path.{refl}
 use native.Mathlib.Omega.{arith}
 use borrow.Author.Rules.{rules}
 use Rattle.model.proofs.Bounds.{bounded}
-use Rattle.listing.proofs.Calling.{logs-refused, logs-right, lines-past, lines-laid}
+use Rattle.listing.proofs.Calling.{logs_refused, logs_right, lines_past, lines_laid}
 use Rattle.listing.proofs.call.list_on.Statement.{statement}
 use Rattle.listing.proofs.call.list_on.Tie as tie
 
 current-starts-requires : tie.Need-current-starts-requires
-current-starts-requires c κs = let pre = c.before.before.before.requires in ((bounded _ pre.1).disks-max, pre.2)
+current-starts-requires c κs = let pre = c.before.before.before.requires in ((bounded _ pre.1).disks_max, pre.2)
 
 tails-on-requires : tie.Need-tails-on-requires
 tails-on-requires c κs =
     let pre = c.before.before.before.before.requires in
     let b = bounded _ pre.1 in
-    (b.disks-max, b.ring-max, omega (arith, pre.3))
+    (b.disks_max, b.ring_max, omega (arith, pre.3))
 
 returns : tie.Need-returns
 returns c =
@@ -22,7 +22,7 @@ returns c =
     let at-starts = at-check.before.before in
     let start = at-starts.before.before.before.before in
     let a = start.args in
-    logs-refused a.anchor.now a.logs.now a.first a.sizes start.requires.0 (bounded _ start.requires.1).disks-max
+    logs_refused a.anchor.now a.logs.now a.first a.sizes start.requires.0 (bounded _ start.requires.1).disks_max
     (at-starts.current-starts.ensures a.sizes refl) _ at-check.check-logs.ensures a.out.now c.if1.true
 
 lay-disks-requires : tie.Need-lay-disks-requires
@@ -33,7 +33,7 @@ lay-disks-requires c κs =
     let a = start.args in (
       start.requires.1,
       start.requires.3,
-      logs-right a.anchor.now a.logs.now a.first a.sizes start.requires.0 (bounded _ start.requires.1).disks-max
+      logs_right a.anchor.now a.logs.now a.first a.sizes start.requires.0 (bounded _ start.requires.1).disks_max
           (at-starts.current-starts.ensures a.sizes refl) _ at-check.check-logs.ensures a.out.now c.before.if1.false,
     )
 
@@ -46,7 +46,7 @@ returns-2 c =
     let start = at-starts.before.before.before.before in
     let a = start.args in
     rw c.refused.ensures
-    (lines-past a.anchor.now a.logs.now a.first a.sizes start.requires.0 (bounded _ start.requires.1).disks-max
+    (lines_past a.anchor.now a.logs.now a.first a.sizes start.requires.0 (bounded _ start.requires.1).disks_max
     (at-starts.current-starts.ensures a.sizes refl) _ at-check.check-logs.ensures a.out.now at-if1.if1.false
     at-lay.lay-disks.ensures c.before.if2.true)
 
@@ -58,7 +58,7 @@ returns-3 c =
     let at-starts = at-check.before.before in
     let start = at-starts.before.before.before.before in
     let a = start.args in
-    lines-laid a.anchor.now a.logs.now a.first a.sizes start.requires.0 (bounded _ start.requires.1).disks-max
+    lines_laid a.anchor.now a.logs.now a.first a.sizes start.requires.0 (bounded _ start.requires.1).disks_max
     (at-starts.current-starts.ensures a.sizes refl) _ at-check.check-logs.ensures a.out.now at-if1.if1.false
     at-lay.lay-disks.ensures c.if2.false
 

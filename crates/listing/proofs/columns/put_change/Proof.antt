@@ -2,13 +2,13 @@
 use borrow.Author.Rules.{rules}
 use native.Mathlib.Omega.{arith}
 use mathlib.Core.Path.{◌∙◌}
-use Rattle.model.specs.Listing.{inColumns}
-use Rattle.model.proofs.Text.{digits-enough}
+use Rattle.model.specs.Listing.{in_columns}
+use Rattle.model.proofs.Text.{digits_enough}
 use Rattle.listing.proofs.columns.put_change.Statement.{statement}
 use Rattle.listing.proofs.columns.put_change.Tie as tie
 
 returns : tie.Need-returns
-unfolding inColumns
+unfolding in_columns
 returns c =
     let front = c.before.before.put_front.ensures in
     let page = c.before.before.before.before.before.before.put-column3.ensures in
@@ -21,10 +21,10 @@ returns c =
       slot,
       width,
       last,
-      digits-enough 1 20 s.args.disk (omega arith) (omega arith) (omega arith),
-      digits-enough 3 20 s.args.page (omega arith) (omega arith) (omega arith),
-      digits-enough 4 20 s.args.slot (omega arith) (omega arith) (omega arith),
-      digits-enough 3 20 s.args.width (omega arith) (omega arith) (omega arith),
+      digits_enough 1 20 s.args.disk (omega arith) (omega arith) (omega arith),
+      digits_enough 3 20 s.args.page (omega arith) (omega arith) (omega arith),
+      digits_enough 4 20 s.args.slot (omega arith) (omega arith) (omega arith),
+      digits_enough 3 20 s.args.width (omega arith) (omega arith) (omega arith),
     )
 
 pub put-change-spec : {M : Type 1} → statement M

@@ -3,19 +3,19 @@ use borrow.Author.Rules.{rules}
 use native.Mathlib.Omega.{arith}
 use mathlib.Core.Path.{◌∙◌}
 use Rattle.model.specs.Text.{padded}
-use Rattle.model.specs.Listing.{inColumns}
-use Rattle.model.proofs.Text.{digits-enough}
+use Rattle.model.specs.Listing.{in_columns}
+use Rattle.model.proofs.Text.{digits_enough}
 use Rattle.listing.proofs.columns.put_close.Statement.{statement}
 use Rattle.listing.proofs.columns.put_close.Tie as tie
 
 returns : tie.Need-returns
-unfolding inColumns padded
+unfolding in_columns padded
 returns c =
     let front = c.before.before.put_front.ensures in
     let spaces = c.before.before.before.before.before.before.put-run.ensures in
     let last = c.before.before.before.before.before.before.before.before.before.before.put-end.ensures in
     let s = c.before.before.before.before.before.before.before.before.before.before.before.before.before in
-    front ∙ rw (spaces, last, digits-enough 1 20 s.args.disk (omega arith) (omega arith) (omega arith))
+    front ∙ rw (spaces, last, digits_enough 1 20 s.args.disk (omega arith) (omega arith) (omega arith))
 
 pub put-close-spec : {M : Type 1} → statement M
 put-close-spec =

@@ -4,12 +4,12 @@ use native.Mathlib.Omega.{arith}
 use mathlib.Core.Path.{◌≡◌, ◌∙◌}
 use lib.ListN.{drop_of_length-le}
 use Rattle.model.specs.Text.{padded}
-use Rattle.model.specs.Listing.{inColumns, heading}
+use Rattle.model.specs.Listing.{in_columns, heading}
 use Rattle.listing.proofs.columns.put_heading.Statement.{statement}
 use Rattle.listing.proofs.columns.put_heading.Tie as tie
 
 returns : tie.Need-returns
-unfolding heading inColumns padded
+unfolding heading in_columns padded
 returns c =
     let put = c.before.before.put-text in
     let s = c.before.before.before.before.before.before in

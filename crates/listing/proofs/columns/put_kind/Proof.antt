@@ -1,8 +1,8 @@
 -- `listing::columns::put_kind` meets its contract: the spaces before the name.
 use borrow.Author.Rules.{rules}
 use native.Mathlib.Omega.{arith}
-use Rattle.model.specs.Listing.{kindName}
-use Rattle.listing.proofs.Padding.{column-put}
+use Rattle.model.specs.Listing.{kind_name}
+use Rattle.listing.proofs.Padding.{column_put}
 use Rattle.listing.proofs.columns.put_kind.Statement.{statement}
 use Rattle.listing.proofs.columns.put_kind.Tie as tie
 
@@ -11,7 +11,7 @@ returns c =
     let spaces = c.before.before.put-run in
     let name = c.before.before.before.before.before.before.put-name in
     let s = c.before.before.before.before.before.before.before.before.before in
-    column-put spaces.new.0 name.new.0 s.args.out.now (kindName s.args.kind) 12 name.result s.args.end (omega arith)
+    column_put spaces.new.0 name.new.0 s.args.out.now (kind_name s.args.kind) 12 name.result s.args.end (omega arith)
     name.ensures.0.1 (omega arith) name.ensures.1 spaces.ensures
 
 pub put-kind-spec : {M : Type 1} → statement M

@@ -3,7 +3,7 @@ use mathlib.Core.Path.{sym, ◌∙◌}
 use native.Mathlib.Omega.{arith}
 use borrow.Author.Rules.{rules}
 use borrow.Author.Tests.{not-true, not-false}
-use Rattle.listing.proofs.Laid.{wanted_room, laid_none, put-laid}
+use Rattle.listing.proofs.Laid.{wanted_room, laid_none, put_laid}
 use Rattle.listing.proofs.pages.lay_heading.Statement.{statement}
 use Rattle.listing.proofs.pages.lay_heading.Tie as tie
 
@@ -25,7 +25,7 @@ part-put-heading-end c = omega (arith, wanted_room _ _ (sym c.before.is-wanted.e
 returns-2 : tie.Need-returns-2
 returns-2 c =
     let at-if1 = c.before.before.before.before in
-    put-laid _ _ _ _ at-if1.before.is-wanted.ensures (not-false _ at-if1.if1.false) c.before.before.put-heading.ensures c.before.out.given.0
+    put_laid _ _ _ _ at-if1.before.is-wanted.ensures (not-false _ at-if1.if1.false) c.before.before.put-heading.ensures c.before.out.given.0
 
 pub lay-heading-spec : {M : Type 1} → statement M
 lay-heading-spec =

@@ -5,7 +5,7 @@ use borrow.Author.Rules.{rules}
 use borrow.Author.Tests.{not-true, not-false}
 use Rattle.model.specs.declared.Decoded.{Decoded}
 use Rattle.listing.specs.Sheets.{Fits}
-use Rattle.listing.proofs.Laid.{wanted_room, laid_none, put-laid}
+use Rattle.listing.proofs.Laid.{wanted_room, laid_none, put_laid}
 use Rattle.listing.proofs.pages.lay_record.Statement.{statement}
 use Rattle.listing.proofs.pages.lay_record.Tie as tie
 
@@ -50,14 +50,14 @@ returns-2 c =
     let here = c.before.before.before.before.before in
     let at-if1 = here.before.before in
     rw here.here.given.1
-    (put-laid _ _ _ _ at-if1.before.is-wanted.ensures (not-false _ at-if1.if1.false) c.before.before.put-change.ensures c.before.out.given.0)
+    (put_laid _ _ _ _ at-if1.before.is-wanted.ensures (not-false _ at-if1.if1.false) c.before.before.put-change.ensures c.before.out.given.0)
 
 returns-3 : tie.Need-returns-3
 returns-3 c =
     let here = c.before.before.before.before.before in
     let at-if1 = here.before.before in
     rw here.here2.given.1
-    (put-laid _ _ _ _ at-if1.before.is-wanted.ensures (not-false _ at-if1.if1.false) c.before.before.put-close.ensures c.before.out2.given.0)
+    (put_laid _ _ _ _ at-if1.before.is-wanted.ensures (not-false _ at-if1.if1.false) c.before.before.put-close.ensures c.before.out2.given.0)
 
 returns-4 : tie.Need-returns-4
 returns-4 c = absurd (subst (λ (d : Decoded). Fits d) c.enum_told.given.1 c.before.before.before.before.before.requires.1)

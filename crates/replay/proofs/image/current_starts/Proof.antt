@@ -3,19 +3,19 @@ use mathlib.Core.Path.{sym, ◌∙◌}
 use Prim.Native.Nat.{◌≤◌}
 use native.Mathlib.Omega.{arith}
 use borrow.Author.Rules.{rules}
-use Rattle.model.specs.Anchor.{epochOn}
-use Rattle.model.proofs.PerDisk.{per-disk-cong, eight-per-disk}
-use Rattle.replay.proofs.Rows.{current-row}
+use Rattle.model.specs.Anchor.{epoch_on}
+use Rattle.model.proofs.PerDisk.{per_disk_cong, eight_per_disk}
+use Rattle.replay.proofs.Rows.{current_row}
 use Rattle.replay.proofs.image.current_starts.Statement.{statement}
 use Rattle.replay.proofs.image.current_starts.Tie as tie
 
 returns : tie.Need-returns
-unfolding epochOn
+unfolding epoch_on
 returns c =
     λ s e.
     let few : s.disks ≤ 8 = omega (arith, c.before.before.before.before.before.requires.0) in
-    c.keep-below.ensures ∙ eight-per-disk s _ _ (sym e)
-    ∙ per-disk-cong s _ _ (λ d h. current-row _ c.before.before.before.read-rows.ensures d (omega arith))
+    c.keep-below.ensures ∙ eight_per_disk s _ _ (sym e)
+    ∙ per_disk_cong s _ _ (λ d h. current_row _ c.before.before.before.read-rows.ensures d (omega arith))
 
 pub current-starts-spec : {M : Type 1} → statement M
 current-starts-spec =

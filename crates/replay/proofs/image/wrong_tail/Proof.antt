@@ -5,15 +5,15 @@ use mathlib.Core.Bool.{false}
 use lib.ListN.{get_or}
 use native.Mathlib.Omega.{arith}
 use borrow.Author.Rules.{rules}
-use Rattle.model.specs.Sizes.{ringOf}
+use Rattle.model.specs.Sizes.{ring_of}
 use Rattle.model.proofs.Below.{below_suc}
-use Rattle.replay.specs.Parts.{tailOut}
-use Rattle.replay.proofs.Tails.{search-found, search-none}
+use Rattle.replay.specs.Parts.{tail_out}
+use Rattle.replay.proofs.Tails.{search_found, search_none}
 use Rattle.replay.proofs.image.wrong_tail.Statement.{statement}
 use Rattle.replay.proofs.image.wrong_tail.Tie as tie
 
 abbrev invariant-loop : tie.invariant-loop
-invariant-loop sizes starts tails disks d₀ d = (d ≤ disks) × ((j : ℕ) → j < d → tailOut (ringOf sizes j) (get_or starts j 0) (get_or tails j 0) ≡ false)
+invariant-loop sizes starts tails disks d₀ d = (d ≤ disks) × ((j : ℕ) → j < d → tail_out (ring_of sizes j) (get_or starts j 0) (get_or tails j 0) ≡ false)
 
 abbrev decreases-loop : tie.decreases-loop
 decreases-loop sizes starts tails disks d₀ d = disks - d
@@ -24,7 +24,7 @@ loop-holds c = (omega arith, λ j h. absurd (omega arith))
 returns : tie.Need-returns invariant-loop decreases-loop
 returns c =
     let out = rw c.before.before.ring_of.ensures at c.before.tail-out.ensures in
-    search-found _ _ _ c.before.before.before.before.loop.invariant.1 (omega arith) (sym out ∙ c.if1.true)
+    search_found _ _ _ c.before.before.before.before.loop.invariant.1 (omega arith) (sym out ∙ c.if1.true)
 
 loop-again : tie.Need-loop-preserved invariant-loop decreases-loop
 loop-again c =
@@ -33,7 +33,7 @@ loop-again c =
     (omega arith, λ j h. below_suc _ at-loop.loop.d at-loop.loop.invariant.1 (sym out ∙ c.if1.false) j (omega arith))
 
 returns-2 : tie.Need-returns-2 invariant-loop decreases-loop
-returns-2 c = search-none _ _ c.before.loop.d c.before.loop.invariant.1 (omega arith)
+returns-2 c = search_none _ _ c.before.loop.d c.before.loop.invariant.1 (omega arith)
 
 pub wrong-tail-spec : {M : Type 1} → statement M
 wrong-tail-spec =

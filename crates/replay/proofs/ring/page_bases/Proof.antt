@@ -5,23 +5,23 @@ use mathlib.Core.Path.{◌≡◌, refl}
 use native.Mathlib.Omega.{arith}
 use lib.ListN.{length, get_or, length-set}
 use borrow.Author.Rules.{rules}
-use Rattle.model.specs.Below.{sumBelow}
-use Rattle.model.specs.Sizes.{slotsIn, width_in, pageWords, pageBase}
+use Rattle.model.specs.Below.{sum_below}
+use Rattle.model.specs.Sizes.{slots_in, width_in, page_words, page_base}
 use Rattle.model.proofs.Below.{sum_step}
-use Rattle.replay.proofs.Runs.{sums-more}
+use Rattle.replay.proofs.Runs.{sums_more}
 use Rattle.replay.proofs.ring.page_bases.Statement.{statement}
 use Rattle.replay.proofs.ring.page_bases.Tie as tie
 
 abbrev invariant-loop : tie.invariant-loop
 invariant-loop slots widths bases₀ sum₀ i₀ bases sum i =
-    (i ≤ 64) × (length bases ≡ 64) × (sum ≤ 65535 * i) × (sum ≡ sumBelow (λ p. get_or slots p 0 * get_or widths p 0) i)
-    × ((page : ℕ) → page < i → get_or bases page 0 ≡ sumBelow (λ p. get_or slots p 0 * get_or widths p 0) page)
+    (i ≤ 64) × (length bases ≡ 64) × (sum ≤ 65535 * i) × (sum ≡ sum_below (λ p. get_or slots p 0 * get_or widths p 0) i)
+    × ((page : ℕ) → page < i → get_or bases page 0 ≡ sum_below (λ p. get_or slots p 0 * get_or widths p 0) page)
 
 abbrev decreases-loop : tie.decreases-loop
 decreases-loop slots widths bases₀ sum₀ i₀ bases sum i = 64 - i
 
 loop-holds : tie.Need-loop-init invariant-loop decreases-loop
-unfolding sumBelow
+unfolding sum_below
 loop-holds c = (omega arith, refl, omega arith, refl, λ page h. absurd (omega arith))
 
 loop-again : tie.Need-loop-preserved invariant-loop decreases-loop
@@ -33,11 +33,11 @@ loop-again c =
       simp length-set inv.1,
       omega arith,
       rw (sum_step, c.words-in-slots.ensures, inv.3),
-      sums-more (λ p. get_or s.slots p 0 * get_or s.widths p 0) at-loop.loop.bases at-loop.loop.i at-loop.loop.sum (omega arith) inv.3 inv.4,
+      sums_more (λ p. get_or s.slots p 0 * get_or s.widths p 0) at-loop.loop.bases at-loop.loop.i at-loop.loop.sum (omega arith) inv.3 inv.4,
     )
 
 returns : tie.Need-returns invariant-loop decreases-loop
-unfolding pageBase pageWords slotsIn width_in
+unfolding page_base page_words slots_in width_in
 returns c =
     let inv = c.before.loop.invariant in
     (inv.1, λ page h. inv.4 page (omega arith))

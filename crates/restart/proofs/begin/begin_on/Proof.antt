@@ -2,21 +2,21 @@
 use mathlib.Core.Path.{refl}
 use native.Mathlib.Omega.{arith}
 use borrow.Author.Rules.{rules}
-use Rattle.model.specs.Anchor.{epochOn}
+use Rattle.model.specs.Anchor.{epoch_on}
 use Rattle.model.proofs.Bounds.{bounded}
 use Rattle.layout.proofs.Laws.{total_made}
-use Rattle.restart.proofs.Beginning.{begin-refused, begin-spent, begin-taken}
+use Rattle.restart.proofs.Beginning.{begin_refused, begin_spent, begin_taken}
 use Rattle.restart.proofs.begin.begin_on.Statement.{statement}
 use Rattle.restart.proofs.begin.begin_on.Tie as tie
 
 current-starts-requires : tie.Need-current-starts-requires
-current-starts-requires c κs = ((bounded _ c.before.before.before.requires.1).disks-max, c.before.before.before.requires.2)
+current-starts-requires c κs = ((bounded _ c.before.before.before.requires.1).disks_max, c.before.before.before.requires.2)
 
 tails-on-requires : tie.Need-tails-on-requires
 tails-on-requires c κs =
     let pre = c.before.before.before.before.requires in
     let b = bounded _ pre.1 in
-    (b.disks-max, b.ring-max, omega (arith, pre.4))
+    (b.disks_max, b.ring_max, omega (arith, pre.4))
 
 check-logs-requires : tie.Need-check-logs-requires
 check-logs-requires c κs = let pre = c.before.before.before.before.before.requires in (pre.1, pre.4, c.tails-on.ensures)
@@ -29,11 +29,11 @@ returns c =
     λ backups work.
     let a = start.args in
     let pre = start.requires in
-    rw c.refuse-at.ensures (begin-refused a.core _ a.sizes pre.0 (bounded _ pre.1).disks-max
+    rw c.refuse-at.ensures (begin_refused a.core _ a.sizes pre.0 (bounded _ pre.1).disks_max
     (at-starts.current-starts.ensures _ refl) _ at-check.check-logs.ensures c.before.if1.true)
 
 returns-2 : tie.Need-returns-2
-unfolding epochOn
+unfolding epoch_on
 returns-2 c =
     let at-if1 = c.before.before.before in
     let at-check = at-if1.before.before in
@@ -42,7 +42,7 @@ returns-2 c =
     λ backups work.
     let a = start.args in
     let pre = start.requires in
-    rw c.refuse.ensures (begin-spent a.core _ a.sizes pre.0 (bounded _ pre.1).disks-max
+    rw c.refuse.ensures (begin_spent a.core _ a.sizes pre.0 (bounded _ pre.1).disks_max
     (at-starts.current-starts.ensures _ refl) _ at-check.check-logs.ensures at-if1.if1.false c.before.if2.true)
 
 fill-words-requires : tie.Need-fill-words-requires
@@ -54,7 +54,7 @@ replaying-core-requires : tie.Need-replaying-core-requires
 replaying-core-requires c κs = c.before.before.before.before.before.before.before.before.before.before.before.before.before.before.requires.5
 
 returns-3 : tie.Need-returns-3
-unfolding epochOn
+unfolding epoch_on
 returns-3 c =
     let at-fill-words = c.before.before.before.before in
     let at-if2 = at-fill-words.before.before in
@@ -66,7 +66,7 @@ returns-3 c =
     λ backups work.
     let a = start.args in
     let pre = start.requires in
-    rw c.finish.ensures (begin-taken a.core _ a.sizes pre.0 (bounded _ pre.1).disks-max
+    rw c.finish.ensures (begin_taken a.core _ a.sizes pre.0 (bounded _ pre.1).disks_max
     (at-starts.current-starts.ensures _ refl) _ at-check.check-logs.ensures at-if1.if1.false at-tails.tails-on.ensures
     (omega (arith, at-if2.if2.false)) (rw (total_made a.sizes pre.5) at at-fill-words.fill-words.ensures) c.before.replaying-core.ensures)
 

@@ -7,8 +7,8 @@ use lib.ListN.{get_or}
 use native.Mathlib.Omega.{arith}
 use borrow.Author.Rules.{rules}
 use Rattle.model.specs.Below.{all_below}
-use Rattle.model.proofs.Below.{all_none, all_more, all-stop, all_done}
-use Rattle.restart.proofs.Remaining.{left-none, left-some}
+use Rattle.model.proofs.Below.{all_none, all_more, all_stop, all_done}
+use Rattle.restart.proofs.Remaining.{left_none, left_some}
 use Rattle.restart.proofs.remain.logs_done.Statement.{statement}
 use Rattle.restart.proofs.remain.logs_done.Tie as tie
 
@@ -22,10 +22,10 @@ loop-holds : tie.Need-loop-init invariant-loop decreases-loop
 loop-holds c = (omega arith, all_none _)
 
 returns : tie.Need-returns invariant-loop decreases-loop
-returns c = all-stop _ _ c.before.before.loop.d (omega arith) (left-some _ _ c.if1.true)
+returns c = all_stop _ _ c.before.before.loop.d (omega arith) (left_some _ _ c.if1.true)
 
 loop-again : tie.Need-loop-preserved invariant-loop decreases-loop
-loop-again c = (omega arith, all_more _ _ c.before.before.loop.invariant.1 (left-none _ _ c.if1.false))
+loop-again c = (omega arith, all_more _ _ c.before.before.loop.invariant.1 (left_none _ _ c.if1.false))
 
 returns-2 : tie.Need-returns-2 invariant-loop decreases-loop
 returns-2 c = all_done _ _ _ c.before.loop.invariant.0 (omega arith) c.before.loop.invariant.1

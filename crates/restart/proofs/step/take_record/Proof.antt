@@ -4,14 +4,14 @@ use mathlib.Core.List.{[]}
 use native.Mathlib.Omega.{arith}
 use borrow.Author.Rules.{rules}
 use Rattle.model.specs.Word.{part}
-use Rattle.model.specs.State.{tailOf}
+use Rattle.model.specs.State.{tail_of}
 use Rattle.model.specs.View.{core_of}
 use Rattle.model.proofs.Parts.{length_part}
-use Rattle.model.proofs.View.Head.{own-long}
-use Rattle.replay.proofs.Facts.{eight, tail-low, extent-asked}
-use Rattle.replay.proofs.Stepping.{not-told}
-use Rattle.restart.proofs.Extents.{log-readable, slot-place, slot-fits, difference-ends}
-use Rattle.restart.proofs.Records.{of-log, extent-is, taken-malformed, taken-close, taken-unreadable, taken-change, changed, slot_at, slot_small}
+use Rattle.model.proofs.View.Head.{own_long}
+use Rattle.replay.proofs.Facts.{eight, tail_low, extent_asked}
+use Rattle.replay.proofs.Stepping.{not_told}
+use Rattle.restart.proofs.Extents.{log_readable, slot_place_lem, slot_fits_lem, difference_ends}
+use Rattle.restart.proofs.Records.{of_log, extent_is, taken_malformed, taken_close, taken_unreadable, taken_change, changed, slot_at, slot_small}
 use Rattle.restart.proofs.step.take_record.Statement.{statement}
 use Rattle.restart.proofs.step.take_record.Tie as tie
 
@@ -22,131 +22,131 @@ array-read-tail : tie.Need-array-read-tail
 array-read-tail c = eight c.before.before.before.before.requires.0.on
 
 part-slots-end : tie.Need-slice-bounds-slots-end
-part-slots-end c = omega (arith, own-long _ _ c.before.before.before.before.requires.0.own)
+part-slots-end c = omega (arith, own_long _ _ c.before.before.before.before.requires.0.own)
 
 part-widths-end : tie.Need-slice-bounds-widths-end
-part-widths-end c = omega (arith, own-long _ _ c.before.before.before.before.before.requires.0.own)
+part-widths-end c = omega (arith, own_long _ _ c.before.before.before.before.before.requires.0.own)
 
 disk-at-requires : tie.Need-disk-at-requires
 unfolding core_of
-disk-at-requires c κs = extent-asked c.before.before.before.before.before.before.before.requires.0.on
+disk-at-requires c κs = extent_asked c.before.before.before.before.before.before.before.requires.0.on
 
 decode-at-requires : tie.Need-decode-at-requires
-unfolding tailOf core_of part
+unfolding tail_of core_of part
 decode-at-requires c κs =
     let start = c.before.before.before.before.before.before.before.before in
     let x = start.args in
-    let is = extent-is x.carried x.work.now x.disk (c.disk-at.ensures.0 (core_of x.carried x.work.now).sizes refl) in
-    let long = own-long _ _ start.requires.0.own in
-    (length_part 0 64 x.work.now (omega (arith, long)), length_part 64 64 x.work.now (omega (arith, long)), log-readable start.requires.0.on is, start.requires.2)
+    let is = extent_is x.carried x.work.now x.disk (c.disk_at_lem.ensures.0 (core_of x.carried x.work.now).sizes refl) in
+    let long = own_long _ _ start.requires.0.own in
+    (length_part 0 64 x.work.now (omega (arith, long)), length_part 64 64 x.work.now (omega (arith, long)), log_readable start.requires.0.on is, start.requires.2)
 
 fate-from-requires : tie.Need-fate-from-requires
-unfolding tailOf core_of part
+unfolding tail_of core_of part
 fate-from-requires c κs =
     let start = c.before.before.before.before.before.before.before.before.before.before.before.before in
     let x = start.args in
-    let is = extent-is x.carried x.work.now x.disk (c.before.before.before.before.disk-at.ensures.0 (core_of x.carried x.work.now).sizes refl) in
-    let long = own-long _ _ start.requires.0.own in
-    (length_part 0 64 x.work.now (omega (arith, long)), length_part 64 64 x.work.now (omega (arith, long)), log-readable start.requires.0.on is, of-log start.requires.0 is)
+    let is = extent_is x.carried x.work.now x.disk (c.before.before.before.before.disk_at_lem.ensures.0 (core_of x.carried x.work.now).sizes refl) in
+    let long = own_long _ _ start.requires.0.own in
+    (length_part 0 64 x.work.now (omega (arith, long)), length_part 64 64 x.work.now (omega (arith, long)), log_readable start.requires.0.on is, of_log start.requires.0 is)
 
 returns : tie.Need-returns
-unfolding tailOf core_of part
+unfolding tail_of core_of part
 returns c =
     let start = c.before.before.before.before.before.before.before.before.before.before.before.before.before.before.before.before in
     let x = start.args in
-    let is = extent-is x.carried x.work.now x.disk (c.before.before.before.before.before.before.before.before.disk-at.ensures.0 (core_of x.carried x.work.now).sizes refl) in
+    let is = extent_is x.carried x.work.now x.disk (c.before.before.before.before.before.before.before.before.disk_at_lem.ensures.0 (core_of x.carried x.work.now).sizes refl) in
     λ anchor backups body.
-    taken-unreadable start.requires.0 is start.requires.1 start.requires.2 anchor backups body c.before.before.before.before.before.before.before.decode-at.ensures c.before.before.before.before.before.here2.given.1 c.before.before.before.fate-from.ensures c.before.fate.given.1
+    taken_unreadable start.requires.0 is start.requires.1 start.requires.2 anchor backups body c.before.before.before.before.before.before.before.decode-at.ensures c.before.before.before.before.before.here2.given.1 c.before.before.before.fate-from.ensures c.before.fate.given.1
 
 add_at : tie.Need-overflow-add-at
-unfolding tailOf core_of part
+unfolding tail_of core_of part
 add_at c =
     let start = c.before.before.before.before.before.before.before.before.before.before.before.before.before.before.before in
     let x = start.args in
-    let is = extent-is x.carried x.work.now x.disk (c.before.before.before.before.before.before.before.disk-at.ensures.0 (core_of x.carried x.work.now).sizes refl) in
+    let is = extent_is x.carried x.work.now x.disk (c.before.before.before.before.before.before.before.disk_at_lem.ensures.0 (core_of x.carried x.work.now).sizes refl) in
     let e = changed start.requires.0 is start.requires.1 start.requires.2 [] [] [] c.before.before.before.before.before.before.decode-at.ensures c.before.before.before.before.here2.given.1 in
-    omega (arith, (slot-place start.requires.0.on _ e).0)
+    omega (arith, (slot_place_lem start.requires.0.on _ e).0)
 
 mul_at : tie.Need-overflow-mul-at
-unfolding tailOf core_of part
+unfolding tail_of core_of part
 mul_at c =
     let start = c.before.before.before.before.before.before.before.before.before.before.before.before.before.before.before in
     let x = start.args in
-    let is = extent-is x.carried x.work.now x.disk (c.before.before.before.before.before.before.before.disk-at.ensures.0 (core_of x.carried x.work.now).sizes refl) in
+    let is = extent_is x.carried x.work.now x.disk (c.before.before.before.before.before.before.before.disk_at_lem.ensures.0 (core_of x.carried x.work.now).sizes refl) in
     let e = changed start.requires.0 is start.requires.1 start.requires.2 [] [] [] c.before.before.before.before.before.before.decode-at.ensures c.before.before.before.before.here2.given.1 in
-    omega (arith, (slot-place start.requires.0.on _ e).0)
+    omega (arith, (slot_place_lem start.requires.0.on _ e).0)
 
 shared-slice-read-at : tie.Need-shared-slice-read-at
-unfolding tailOf core_of part
+unfolding tail_of core_of part
 shared-slice-read-at c =
     let start = c.before.before.before.before.before.before.before.before.before.before.before.before.before.before.before.before in
     let x = start.args in
-    let is = extent-is x.carried x.work.now x.disk (c.before.before.before.before.before.before.before.before.disk-at.ensures.0 (core_of x.carried x.work.now).sizes refl) in
+    let is = extent_is x.carried x.work.now x.disk (c.before.before.before.before.before.before.before.before.disk_at_lem.ensures.0 (core_of x.carried x.work.now).sizes refl) in
     let e = changed start.requires.0 is start.requires.1 start.requires.2 [] [] [] c.before.before.before.before.before.before.before.decode-at.ensures c.before.before.before.before.before.here2.given.1 in
-    omega (arith, (slot-place start.requires.0.on _ e).0, own-long _ _ start.requires.0.own)
+    omega (arith, (slot_place_lem start.requires.0.on _ e).0, own_long _ _ start.requires.0.own)
 
 mul-at-2 : tie.Need-overflow-mul-at-2
-unfolding tailOf core_of part
+unfolding tail_of core_of part
 mul-at-2 c =
     let start = c.before.before.before.before.before.before.before.before.before.before.before.before.before.before.before.before in
     let x = start.args in
-    let is = extent-is x.carried x.work.now x.disk (c.before.before.before.before.before.before.before.before.disk-at.ensures.0 (core_of x.carried x.work.now).sizes refl) in
+    let is = extent_is x.carried x.work.now x.disk (c.before.before.before.before.before.before.before.before.disk_at_lem.ensures.0 (core_of x.carried x.work.now).sizes refl) in
     omega (arith, slot_small start.requires.0 is start.requires.1 start.requires.2 [] [] [] c.before.before.before.before.before.before.before.decode-at.ensures c.before.before.before.before.before.here2.given.1)
 
 add-at-2 : tie.Need-overflow-add-at-2
-unfolding tailOf core_of part
+unfolding tail_of core_of part
 add-at-2 c =
     let start = c.before.before.before.before.before.before.before.before.before.before.before.before.before.before.before.before in
     let x = start.args in
-    let is = extent-is x.carried x.work.now x.disk (c.before.before.before.before.before.before.before.before.disk-at.ensures.0 (core_of x.carried x.work.now).sizes refl) in
+    let is = extent_is x.carried x.work.now x.disk (c.before.before.before.before.before.before.before.before.disk_at_lem.ensures.0 (core_of x.carried x.work.now).sizes refl) in
     let e = changed start.requires.0 is start.requires.1 start.requires.2 [] [] [] c.before.before.before.before.before.before.before.decode-at.ensures c.before.before.before.before.before.here2.given.1 in
     let at = slot_at start.requires.0 is start.requires.1 start.requires.2 [] [] [] c.before.before.before.before.before.before.before.decode-at.ensures c.before.before.before.before.before.here2.given.1 in
-    omega (arith, slot-fits start.requires.0.on _ e at)
+    omega (arith, slot_fits_lem start.requires.0.on _ e at)
 
 add-from : tie.Need-overflow-add-from
-unfolding tailOf core_of part
+unfolding tail_of core_of part
 add-from c =
     let start = c.before.before.before.before.before.before.before.before.before.before.before.before.before.before.before.before in
     let x = start.args in
-    let is = extent-is x.carried x.work.now x.disk (c.before.before.before.before.before.before.before.before.disk-at.ensures.0 (core_of x.carried x.work.now).sizes refl) in
+    let is = extent_is x.carried x.work.now x.disk (c.before.before.before.before.before.before.before.before.disk_at_lem.ensures.0 (core_of x.carried x.work.now).sizes refl) in
     let e = changed start.requires.0 is start.requires.1 start.requires.2 [] [] [] c.before.before.before.before.before.before.before.decode-at.ensures c.before.before.before.before.before.here2.given.1 in
-    omega (arith, difference-ends start.requires.0.on _ e, tail-low start.requires.0.on, start.requires.1)
+    omega (arith, difference_ends start.requires.0.on _ e, tail_low start.requires.0.on, start.requires.1)
 
 replay-span-requires : tie.Need-replay-span-requires
-unfolding tailOf core_of part
+unfolding tail_of core_of part
 replay-span-requires c κs =
     let start = c.before.before.before.before.before.before.before.before.before.before.before.before.before.before.before.before.before in
     let x = start.args in
-    let is = extent-is x.carried x.work.now x.disk (c.before.before.before.before.before.before.before.before.before.disk-at.ensures.0 (core_of x.carried x.work.now).sizes refl) in
+    let is = extent_is x.carried x.work.now x.disk (c.before.before.before.before.before.before.before.before.before.disk_at_lem.ensures.0 (core_of x.carried x.work.now).sizes refl) in
     let e = changed start.requires.0 is start.requires.1 start.requires.2 [] [] [] c.before.before.before.before.before.before.before.before.decode-at.ensures c.before.before.before.before.before.before.here2.given.1 in
     let at = slot_at start.requires.0 is start.requires.1 start.requires.2 [] [] [] c.before.before.before.before.before.before.before.before.decode-at.ensures c.before.before.before.before.before.before.here2.given.1 in
-    (log-readable start.requires.0.on is, slot-fits start.requires.0.on _ e at, omega (arith, difference-ends start.requires.0.on _ e, start.requires.1))
+    (log_readable start.requires.0.on is, slot_fits_lem start.requires.0.on _ e at, omega (arith, difference_ends start.requires.0.on _ e, start.requires.1))
 
 returns-2 : tie.Need-returns-2
-unfolding tailOf core_of part
+unfolding tail_of core_of part
 returns-2 c =
     let start = c.before.before.before.before.before.before.before.before.before.before.before in
     let x = start.args in
-    let is = extent-is x.carried x.work.now x.disk (c.before.before.before.disk-at.ensures.0 (core_of x.carried x.work.now).sizes refl) in
-    λ anchor backups body. taken-malformed start.requires.0 is start.requires.1 start.requires.2 anchor backups body c.before.before.decode-at.ensures c.enum_told.given.1
+    let is = extent_is x.carried x.work.now x.disk (c.before.before.before.disk_at_lem.ensures.0 (core_of x.carried x.work.now).sizes refl) in
+    λ anchor backups body. taken_malformed start.requires.0 is start.requires.1 start.requires.2 anchor backups body c.before.before.decode-at.ensures c.enum_told.given.1
 
 returns-3 : tie.Need-returns-3
-unfolding tailOf core_of part
+unfolding tail_of core_of part
 returns-3 c =
     let start = c.before.before.before.before.before.before.before.before.before.before.before.before in
     let x = start.args in
-    let is = extent-is x.carried x.work.now x.disk (c.before.before.before.before.disk-at.ensures.0 (core_of x.carried x.work.now).sizes refl) in
-    λ anchor backups body. taken-close start.requires.0 is start.requires.1 start.requires.2 anchor backups body c.before.before.before.decode-at.ensures c.before.here.given.1
+    let is = extent_is x.carried x.work.now x.disk (c.before.before.before.before.disk_at_lem.ensures.0 (core_of x.carried x.work.now).sizes refl) in
+    λ anchor backups body. taken_close start.requires.0 is start.requires.1 start.requires.2 anchor backups body c.before.before.before.decode-at.ensures c.before.here.given.1
 
 returns-4 : tie.Need-returns-4
-unfolding tailOf core_of part
+unfolding tail_of core_of part
 returns-4 c =
     let start = c.before.before.before.before.before.before.before.before.before.before.before.before.before.before.before.before.before.before.before.before in
     let x = start.args in
-    let is = extent-is x.carried x.work.now x.disk (c.before.before.before.before.before.before.before.before.before.before.before.before.disk-at.ensures.0 (core_of x.carried x.work.now).sizes refl) in
+    let is = extent_is x.carried x.work.now x.disk (c.before.before.before.before.before.before.before.before.before.before.before.before.disk_at_lem.ensures.0 (core_of x.carried x.work.now).sizes refl) in
     λ anchor backups body.
-    taken-change start.requires.0 is start.requires.1 start.requires.2 anchor backups body c.before.before.before.before.before.before.before.before.before.before.before.decode-at.ensures c.before.before.before.before.before.before.before.before.before.here2.given.1 c.before.before.before.before.before.before.before.fate-from.ensures
-    (λ p told. not-told (rw told at c.before.before.before.before.before.before.match2.keys2) refl) c.before.before.before.before.before.is-replayed.ensures _
+    taken_change start.requires.0 is start.requires.1 start.requires.2 anchor backups body c.before.before.before.before.before.before.before.before.before.before.before.decode-at.ensures c.before.before.before.before.before.before.before.before.before.here2.given.1 c.before.before.before.before.before.before.before.fate-from.ensures
+    (λ p told. not_told (rw told at c.before.before.before.before.before.before.match2.keys2) refl) c.before.before.before.before.before.is-replayed.ensures _
     (slot_at start.requires.0 is start.requires.1 start.requires.2 [] [] [] c.before.before.before.before.before.before.before.before.before.before.before.decode-at.ensures c.before.before.before.before.before.before.before.before.before.here2.given.1) c.before.before.replay-span.ensures
 
 pub take-record-spec : {M : Type 1} → statement M

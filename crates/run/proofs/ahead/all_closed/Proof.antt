@@ -6,7 +6,7 @@ use lib.ListN.{get_or}
 use native.Mathlib.Omega.{arith}
 use borrow.Author.Rules.{rules}
 use borrow.Author.Tests.{not-false}
-use Rattle.run.proofs.Searching.{closed-more}
+use Rattle.run.proofs.Searching.{closed_more}
 use Rattle.run.proofs.ahead.all_closed.Statement.{statement}
 use Rattle.run.proofs.ahead.all_closed.Tie as tie
 
@@ -23,7 +23,7 @@ returns : tie.Need-returns invariant-loop decreases-loop
 returns c = λ e. absurd (true≢false (sym e))
 
 loop-again : tie.Need-loop-preserved invariant-loop decreases-loop
-loop-again c = closed-more c.before.before.before.before.args.closed.now c.before.before.before.before.args.from c.before.before.before.loop.i c.before.before.before.loop.invariant (not-false _ c.if1.false)
+loop-again c = closed_more c.before.before.before.before.args.closed.now c.before.before.before.before.args.from c.before.before.before.loop.i c.before.before.before.loop.invariant (not-false _ c.if1.false)
 
 returns-2 : tie.Need-returns-2 invariant-loop decreases-loop
 returns-2 c = λ e j l h. c.before.loop.invariant j l (omega (arith, h, c.loop-test.false))

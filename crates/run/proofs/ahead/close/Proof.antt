@@ -4,7 +4,7 @@ use mathlib.Core.Bool.{true}
 use native.Mathlib.Omega.{arith}
 use borrow.Author.Rules.{rules}
 use Rattle.run.proofs.Memory.{found_here, found_nowhere}
-use Rattle.run.proofs.Searching.{search-full, search-put, search-closed}
+use Rattle.run.proofs.Searching.{search_full, search_put, search_closed}
 use Rattle.run.proofs.ahead.close.Statement.{statement}
 use Rattle.run.proofs.ahead.close.Tie as tie
 
@@ -14,7 +14,7 @@ returns c =
       omega arith,
       pre.0,
       λ fate ahead later sought used some closes others m.
-          search-closed m c.before.before.before.before.before.args.number others c.if1.true (found_here c.before.before.before.before.before.args.numbers.now c.before.before.before.before.before.args.count c.before.before.before.before.before.args.number c.before.find.ensures c.if1.true) closes (omega (arith, pre)),
+          search_closed m c.before.before.before.before.before.args.number others c.if1.true (found_here c.before.before.before.before.before.args.numbers.now c.before.before.before.before.before.args.count c.before.before.before.before.before.args.number c.before.find.ensures c.if1.true) closes (omega (arith, pre)),
     )
 
 returns-2 : tie.Need-returns-2
@@ -22,7 +22,7 @@ returns-2 c = (
   omega arith,
   c.before.before.before.before.before.before.requires.0,
   λ fate ahead later sought used some closes others m.
-      search-full m c.before.before.before.before.before.before.args.number others c.if2.true (found_nowhere c.before.before.before.before.before.before.args.numbers.now c.before.before.before.before.before.before.args.count c.before.before.before.before.before.before.args.number c.before.before.find.ensures c.before.if1.false),
+      search_full m c.before.before.before.before.before.before.args.number others c.if2.true (found_nowhere c.before.before.before.before.before.before.args.numbers.now c.before.before.before.before.before.before.args.count c.before.before.before.before.before.before.args.number c.before.before.find.ensures c.before.if1.false),
 )
 
 returns-3 : tie.Need-returns-3
@@ -33,7 +33,7 @@ returns-3 c =
       omega arith,
       omega (arith, pre, room),
       λ fate ahead later sought used some closes others m.
-          search-put m c.before.before.before.before.before.before.args.number others true (m.unmet (omega (arith, pre, room)) _ absent ∙ closes) absent (omega (arith, some)) (λ e. absurd (omega (arith, some, e)))
+          search_put m c.before.before.before.before.before.before.args.number others true (m.unmet (omega (arith, pre, room)) _ absent ∙ closes) absent (omega (arith, some)) (λ e. absurd (omega (arith, some, e)))
           (omega (arith, pre, room)) (omega (arith, pre, room)) (omega (arith, pre, room)),
     )
 

@@ -4,7 +4,7 @@ use mathlib.Core.Bool.{false}
 use native.Mathlib.Omega.{arith}
 use borrow.Author.Rules.{rules}
 use Rattle.run.proofs.Memory.{found_nowhere}
-use Rattle.run.proofs.Searching.{search-put}
+use Rattle.run.proofs.Searching.{search_put}
 use Rattle.run.proofs.ahead.meet.Statement.{statement}
 use Rattle.run.proofs.ahead.meet.Tie as tie
 
@@ -25,7 +25,7 @@ returns-4 c =
       omega arith,
       omega (arith, pre, room),
       λ fate ahead used some m.
-          search-put m c.before.before.before.before.before.before.before.args.number (λ x ne. refl) false (m.unmet (omega (arith, pre, room)) _ absent) absent (omega (arith, some)) (λ e. absurd (omega (arith, some, e)))
+          search_put m c.before.before.before.before.before.before.before.args.number (λ x ne. refl) false (m.unmet (omega (arith, pre, room)) _ absent) absent (omega (arith, some)) (λ e. absurd (omega (arith, some, e)))
           (omega (arith, pre, room)) (omega (arith, pre, room)) (omega (arith, pre, room)),
     )
 

@@ -8,18 +8,18 @@ use lib.ListN.{length}
 use borrow.Author.Rules.{rules}
 use Rattle.model.specs.declared.Sizes.{Sizes}
 use Rattle.model.specs.declared.Fate.{Fate}
-use Rattle.model.specs.Scan.{scan, fateIn}
-use Rattle.log.specs.Ring.{readRing, EntriesOf}
-use Rattle.log.proofs.Rings.{entries-long, within, stepped, change-short, close-short}
-use Rattle.log.proofs.Scanning.{got-change, got-close, fate-end, fate-change, fate-other, fate-close, fate-bad}
+use Rattle.model.specs.Scan.{scan, fate_in}
+use Rattle.disk_log.specs.Ring.{read_ring, EntriesOf}
+use Rattle.disk_log.proofs.Rings.{entries_long, within, stepped, change_short, close_short}
+use Rattle.disk_log.proofs.Scanning.{got_change, got_close, fate_end, fate_change, fate_other, fate_close, fate_bad}
 use Rattle.run.specs.Run.{Searched}
-use Rattle.run.proofs.Searching.{search-begun, search-on, search-all, search-end}
+use Rattle.run.proofs.Searching.{search_begun, search_on, search_all, search_end}
 use Rattle.run.proofs.ahead.search_ahead.Statement.{statement}
 use Rattle.run.proofs.ahead.search_ahead.Tie as tie
 
 -- every fate from a position on
 abbrev ahead : Sizes → List ℕ → (tail p : ℕ) → ℕ → Fate
-ahead s ring tail p n = fateIn n (scan s (readRing ring) tail p)
+ahead s ring tail p n = fate_in n (scan s (read_ring ring) tail p)
 
 abbrev invariant-loop : tie.invariant-loop
 invariant-loop numbers₀ closed₀ used slots widths ring tail from sought size count₀ p₀ at₀ numbers closed count p at =
@@ -31,7 +31,7 @@ abbrev decreases-loop : tie.decreases-loop
 decreases-loop numbers₀ closed₀ used slots widths ring tail from sought size count₀ p₀ at₀ numbers closed count p at = tail - p
 
 rem-at : tie.Need-nonzero-rem-at invariant-loop decreases-loop
-rem-at c = omega (arith, c.before.before.before.before.before.requires.4.ring-min)
+rem-at c = omega (arith, c.before.before.before.before.before.requires.4.ring_min)
 
 loop-holds : tie.Need-loop-init invariant-loop decreases-loop
 loop-holds c =
@@ -41,8 +41,8 @@ loop-holds c =
 decode-ring-requires : tie.Need-decode-ring-requires invariant-loop decreases-loop
 decode-ring-requires c κs =
     let pre = c.before.before.before.before.before.before.before.requires in
-    let long = entries-long pre.3 in
-    (long.0, long.1, pre.4, record { before-tail = c.loop-test.true; at-is = c.before.loop.invariant.0 })
+    let long = entries_long pre.3 in
+    (long.0, long.1, pre.4, record { before_tail = c.loop-test.true; at_is = c.before.loop.invariant.0 })
 
 meet-requires : tie.Need-meet-requires invariant-loop decreases-loop
 meet-requires c κs = let inv = c.before.before.before.before.before.before.before.loop.invariant in (inv.2, inv.3, inv.4)
@@ -50,25 +50,25 @@ meet-requires c κs = let inv = c.before.before.before.before.before.before.befo
 sub-advance : tie.Need-overflow-sub-advance invariant-loop decreases-loop
 sub-advance c =
     let e = c.before.before.before.before.before.before.before.before.before.before.before.before.before.before.before.before.before.before.requires.3.are in
-    omega (arith, (change-short _ e.bounds (got-change _ _ _ (c.before.before.before.before.before.before.before.before.before.before.decode-ring.ensures _ e) c.before.before.before.before.before.before.before.before.here.given.1)).0)
+    omega (arith, (change_short _ e.bounds (got_change _ _ _ (c.before.before.before.before.before.before.before.before.before.before.decode-ring.ensures _ e) c.before.before.before.before.before.before.before.before.here.given.1)).0)
 
 advance-requires : tie.Need-advance-requires invariant-loop decreases-loop
 advance-requires c κs =
     let pre = c.before.before.before.before.before.before.before.before.before.before.before.before.before.before.before.before.before.before.requires in
     let e = pre.3.are in
-    let f = change-short _ e.bounds (got-change _ _ _ (c.before.before.before.before.before.before.before.before.before.before.decode-ring.ensures _ e) c.before.before.before.before.before.before.before.before.here.given.1) in
-    (within pre.4 c.before.before.before.before.before.before.before.before.before.before.before.before.loop.p c.before.before.before.before.before.before.before.before.before.before.before.before.loop.invariant.0, omega (arith, f.1, pre.4.ring-min), pre.4.ring-max)
+    let f = change_short _ e.bounds (got_change _ _ _ (c.before.before.before.before.before.before.before.before.before.before.decode-ring.ensures _ e) c.before.before.before.before.before.before.before.before.here.given.1) in
+    (within pre.4 c.before.before.before.before.before.before.before.before.before.before.before.before.loop.p c.before.before.before.before.before.before.before.before.before.before.before.before.loop.invariant.0, omega (arith, f.1, pre.4.ring_min), pre.4.ring_max)
 
 loop-less : tie.Need-loop-smaller invariant-loop decreases-loop
 loop-less c =
     let e = c.before.before.before.before.before.before.before.before.before.before.before.before.before.before.before.before.before.before.before.requires.3.are in
-    let f = change-short _ e.bounds (got-change _ _ _ (c.before.before.before.before.before.before.before.before.before.before.before.decode-ring.ensures _ e) c.before.before.before.before.before.before.before.before.before.here.given.1) in
+    let f = change_short _ e.bounds (got_change _ _ _ (c.before.before.before.before.before.before.before.before.before.before.before.decode-ring.ensures _ e) c.before.before.before.before.before.before.before.before.before.here.given.1) in
     omega (arith, f.0, f.2)
 
 loop-again : tie.Need-loop-preserved invariant-loop decreases-loop
 loop-again c =
     let e = c.before.before.before.before.before.before.before.before.before.before.before.before.before.before.before.before.before.before.before.requires.3.are in
-    let f = change-short _ e.bounds (got-change _ _ _ (c.before.before.before.before.before.before.before.before.before.before.before.decode-ring.ensures _ e) c.before.before.before.before.before.before.before.before.before.here.given.1) in
+    let f = change_short _ e.bounds (got_change _ _ _ (c.before.before.before.before.before.before.before.before.before.before.before.decode-ring.ensures _ e) c.before.before.before.before.before.before.before.before.before.here.given.1) in
     let inv = c.before.before.before.before.before.before.before.before.before.before.before.before.before.loop.invariant in
     let met = c.before.before.before.before.before.meet.ensures in (
       stepped _ _ _ _ (omega (arith, f.0)) (c.advance.ensures.1 _ inv.0),
@@ -77,8 +77,8 @@ loop-again c =
       search (rules, inv.3, c.before.before.before.before.numbers),
       search (rules, inv.4, c.before.before.closed),
       λ s u m.
-          search-on (met.2 _ _ _ inv.1 (inv.5 s u m))
-          (λ n. fate-change _ _ _ (c.before.before.before.before.before.before.before.before.before.before.before.decode-ring.ensures s u) c.before.before.before.before.before.before.before.before.before.before.before.before.loop-test.true n c.before.before.before.before.before.before.before.before.before.here.given.1),
+          search_on (met.2 _ _ _ inv.1 (inv.5 s u m))
+          (λ n. fate_change _ _ _ (c.before.before.before.before.before.before.before.before.before.before.before.decode-ring.ensures s u) c.before.before.before.before.before.before.before.before.before.before.before.before.loop-test.true n c.before.before.before.before.before.before.before.before.before.here.given.1),
     )
 
 close-requires : tie.Need-close-requires invariant-loop decreases-loop
@@ -109,22 +109,22 @@ same-length-6 : tie.Need-same-length-6 invariant-loop decreases-loop
 same-length-6 c = omega (arith, c.before.before.before.loop.invariant.4, c.before.before.before.before.before.before.before.before.before.requires.2)
 
 sub-advance-2 : tie.Need-overflow-sub-advance-2 invariant-loop decreases-loop
-sub-advance-2 c = omega (arith, (close-short (got-close _ _ _ (c.before.before.before.before.before.before.before.before.before.before.before.before.before.decode-ring.ensures _ c.before.before.before.before.before.before.before.before.before.before.before.before.before.before.before.before.before.before.before.before.before.requires.3.are) c.before.before.before.before.before.before.before.before.before.before.before.here2.given.1)).0)
+sub-advance-2 c = omega (arith, (close_short (got_close _ _ _ (c.before.before.before.before.before.before.before.before.before.before.before.before.before.decode-ring.ensures _ c.before.before.before.before.before.before.before.before.before.before.before.before.before.before.before.before.before.before.before.before.before.requires.3.are) c.before.before.before.before.before.before.before.before.before.before.before.here2.given.1)).0)
 
 advance-requires-2 : tie.Need-advance-requires-2 invariant-loop decreases-loop
 advance-requires-2 c κs =
     let pre = c.before.before.before.before.before.before.before.before.before.before.before.before.before.before.before.before.before.before.before.before.before.requires in
-    let f = close-short (got-close _ _ _ (c.before.before.before.before.before.before.before.before.before.before.before.before.before.decode-ring.ensures _ pre.3.are) c.before.before.before.before.before.before.before.before.before.before.before.here2.given.1) in
-    (within pre.4 c.before.before.before.before.before.before.before.before.before.before.before.before.before.before.before.loop.p c.before.before.before.before.before.before.before.before.before.before.before.before.before.before.before.loop.invariant.0, omega (arith, f.1, pre.4.ring-min), pre.4.ring-max)
+    let f = close_short (got_close _ _ _ (c.before.before.before.before.before.before.before.before.before.before.before.before.before.decode-ring.ensures _ pre.3.are) c.before.before.before.before.before.before.before.before.before.before.before.here2.given.1) in
+    (within pre.4 c.before.before.before.before.before.before.before.before.before.before.before.before.before.before.before.loop.p c.before.before.before.before.before.before.before.before.before.before.before.before.before.before.before.loop.invariant.0, omega (arith, f.1, pre.4.ring_min), pre.4.ring_max)
 
 loop-less-2 : tie.Need-loop-smaller-2 invariant-loop decreases-loop
 loop-less-2 c =
-    let f = close-short (got-close _ _ _ (c.before.before.before.before.before.before.before.before.before.before.before.before.before.before.decode-ring.ensures _ c.before.before.before.before.before.before.before.before.before.before.before.before.before.before.before.before.before.before.before.before.before.before.requires.3.are) c.before.before.before.before.before.before.before.before.before.before.before.before.here2.given.1) in
+    let f = close_short (got_close _ _ _ (c.before.before.before.before.before.before.before.before.before.before.before.before.before.before.decode-ring.ensures _ c.before.before.before.before.before.before.before.before.before.before.before.before.before.before.before.before.before.before.before.before.before.before.requires.3.are) c.before.before.before.before.before.before.before.before.before.before.before.before.here2.given.1) in
     omega (arith, f.0, f.2)
 
 loop-again-2 : tie.Need-loop-preserved-2 invariant-loop decreases-loop
 loop-again-2 c =
-    let f = close-short (got-close _ _ _ (c.before.before.before.before.before.before.before.before.before.before.before.before.before.before.decode-ring.ensures _ c.before.before.before.before.before.before.before.before.before.before.before.before.before.before.before.before.before.before.before.before.before.before.requires.3.are) c.before.before.before.before.before.before.before.before.before.before.before.before.here2.given.1) in
+    let f = close_short (got_close _ _ _ (c.before.before.before.before.before.before.before.before.before.before.before.before.before.before.decode-ring.ensures _ c.before.before.before.before.before.before.before.before.before.before.before.before.before.before.before.before.before.before.before.before.before.before.requires.3.are) c.before.before.before.before.before.before.before.before.before.before.before.before.here2.given.1) in
     let inv = c.before.before.before.before.before.before.before.before.before.before.before.before.before.before.before.before.loop.invariant in
     let shut = c.before.before.before.before.before.before.before.before.close.ensures in (
       stepped _ _ _ _ (omega (arith, f.0)) (c.advance2.ensures.1 _ inv.0),
@@ -134,8 +134,8 @@ loop-again-2 c =
       search (rules, inv.4, c.before.before.before.before.before.closed2),
       λ s u m.
           let dec = c.before.before.before.before.before.before.before.before.before.before.before.before.before.before.decode-ring.ensures s u in
-          shut.2 _ _ _ _ _ inv.1 (sym (fate-close _ _ _ dec c.before.before.before.before.before.before.before.before.before.before.before.before.before.before.before.loop-test.true _ c.before.before.before.before.before.before.before.before.before.before.before.before.here2.given.1 refl))
-          (λ n ne. fate-other _ _ _ dec c.before.before.before.before.before.before.before.before.before.before.before.before.before.before.before.loop-test.true n c.before.before.before.before.before.before.before.before.before.before.before.before.here2.given.1 (λ x. ne (sym x))) (inv.5 s u m),
+          shut.2 _ _ _ _ _ inv.1 (sym (fate_close _ _ _ dec c.before.before.before.before.before.before.before.before.before.before.before.before.before.before.before.loop-test.true _ c.before.before.before.before.before.before.before.before.before.before.before.before.here2.given.1 refl))
+          (λ n ne. fate_other _ _ _ dec c.before.before.before.before.before.before.before.before.before.before.before.before.before.before.before.loop-test.true n c.before.before.before.before.before.before.before.before.before.before.before.before.here2.given.1 (λ x. ne (sym x))) (inv.5 s u m),
     )
 
 returns : tie.Need-returns invariant-loop decreases-loop
@@ -146,10 +146,10 @@ returns c =
       shut.1,
       λ s u absent m.
           let dec = c.before.before.before.before.before.before.before.before.before.before.before.before.before.decode-ring.ensures s u in
-          search-all
-          (shut.2 _ _ _ _ _ inv.1 (sym (fate-close _ _ _ dec c.before.before.before.before.before.before.before.before.before.before.before.before.before.before.loop-test.true _ c.before.before.before.before.before.before.before.before.before.before.before.here2.given.1 refl))
-          (λ n ne. fate-other _ _ _ dec c.before.before.before.before.before.before.before.before.before.before.before.before.before.before.loop-test.true n c.before.before.before.before.before.before.before.before.before.before.before.here2.given.1 (λ x. ne (sym x)))
-          (inv.5 s u (search-begun _ absent m (omega (arith, pre)) (omega (arith, pre)) pre.0)))
+          search_all
+          (shut.2 _ _ _ _ _ inv.1 (sym (fate_close _ _ _ dec c.before.before.before.before.before.before.before.before.before.before.before.before.before.before.loop-test.true _ c.before.before.before.before.before.before.before.before.before.before.before.here2.given.1 refl))
+          (λ n ne. fate_other _ _ _ dec c.before.before.before.before.before.before.before.before.before.before.before.before.before.before.loop-test.true n c.before.before.before.before.before.before.before.before.before.before.before.here2.given.1 (λ x. ne (sym x)))
+          (inv.5 s u (search_begun _ absent m (omega (arith, pre)) (omega (arith, pre)) pre.0)))
           (omega (arith, inv.1, shut.0)) (c.before.all_closed.ensures c.if1.true),
     )
 
@@ -162,8 +162,8 @@ returns-2 c =
     let inv = c.before.before.before.before.before.before.loop.invariant in (
       c.cut_short.ensures.0,
       λ s u absent m.
-          c.cut_short.ensures.1 _ _ _ _ _ inv.1 (fate-bad _ _ _ (c.before.before.before.before.decode-ring.ensures s u) c.before.before.before.before.before.loop-test.true _ c.before.before.enum_told.given.1)
-          (inv.5 s u (search-begun _ absent m (omega (arith, pre)) (omega (arith, pre)) pre.0)),
+          c.cut_short.ensures.1 _ _ _ _ _ inv.1 (fate_bad _ _ _ (c.before.before.before.before.decode-ring.ensures s u) c.before.before.before.before.before.loop-test.true _ c.before.before.enum_told.given.1)
+          (inv.5 s u (search_begun _ absent m (omega (arith, pre)) (omega (arith, pre)) pre.0)),
     )
 
 returns-3 : tie.Need-returns-3 invariant-loop decreases-loop
@@ -172,8 +172,8 @@ returns-3 c =
     let inv = c.before.before.before.loop.invariant in (
       inv.2,
       λ s u absent m.
-          let told = search-end (inv.5 s u (search-begun _ absent m (omega (arith, pre)) (omega (arith, pre)) pre.0)) inv.1
-          (λ n. fate-end _ _ _ n _ c.before.before.loop-test.false) in
+          let told = search_end (inv.5 s u (search_begun _ absent m (omega (arith, pre)) (omega (arith, pre)) pre.0)) inv.1
+          (λ n. fate_end _ _ _ n _ c.before.before.loop-test.false) in
           (c.known-fate.ensures ∙ told.0, told.1),
     )
 

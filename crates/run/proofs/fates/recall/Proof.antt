@@ -2,7 +2,7 @@
 use mathlib.Core.Path.{sym, ◌∙◌}
 use native.Mathlib.Omega.{arith}
 use borrow.Author.Rules.{rules}
-use Rattle.run.proofs.Memory.{known, found_nowhere, remembers-fewer}
+use Rattle.run.proofs.Memory.{known, found_nowhere, remembers_fewer}
 use Rattle.run.proofs.fates.recall.Statement.{statement}
 use Rattle.run.proofs.fates.recall.Tie as tie
 
@@ -17,7 +17,7 @@ returns-2 c =
     let few = c.before.before.before.before.before.before.before.kept.ensures.1 in (
       c.before.before.before.before.search-ahead.ensures.0,
       λ s e m.
-          c.before.before.before.before.search-ahead.ensures.1 s e (λ i l. found_nowhere c.before.before.before.before.before.before.before.before.before.before.before.before.before.before.before.before.args.numbers.now c.before.before.before.before.before.before.before.before.before.before.before.before.before.before.before.before.args.used c.before.before.before.before.before.before.before.before.before.before.before.before.before.before.before.before.args.number c.before.before.before.before.before.before.before.before.before.find.ensures c.before.before.before.before.before.before.before.before.if1.false i (omega (arith, l, few))) (remembers-fewer few m),
+          c.before.before.before.before.search-ahead.ensures.1 s e (λ i l. found_nowhere c.before.before.before.before.before.before.before.before.before.before.before.before.before.before.before.before.args.numbers.now c.before.before.before.before.before.before.before.before.before.before.before.before.before.before.before.before.args.used c.before.before.before.before.before.before.before.before.before.before.before.before.before.before.before.before.args.number c.before.before.before.before.before.before.before.before.before.find.ensures c.before.before.before.before.before.before.before.before.if1.false i (omega (arith, l, few))) (remembers_fewer few m),
     )
 
 pub recall-spec : {M : Type 1} → statement M

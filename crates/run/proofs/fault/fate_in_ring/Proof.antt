@@ -6,10 +6,10 @@ use native.Mathlib.Omega.{arith}
 use lib.ListN.{length}
 use borrow.Author.Rules.{rules}
 use Rattle.model.specs.declared.Sizes.{Sizes}
-use Rattle.model.specs.Scan.{scan, fateIn}
-use Rattle.log.specs.Ring.{readRing, EntriesOf}
-use Rattle.log.proofs.Rings.{entries-long, within, stepped, change-short, close-short}
-use Rattle.log.proofs.Scanning.{got-change, got-close, fate-end, fate-change, fate-other, fate-close, fate-bad}
+use Rattle.model.specs.Scan.{scan, fate_in}
+use Rattle.disk_log.specs.Ring.{read_ring, EntriesOf}
+use Rattle.disk_log.proofs.Rings.{entries_long, within, stepped, change_short, close_short}
+use Rattle.disk_log.proofs.Scanning.{got_change, got_close, fate_end, fate_change, fate_other, fate_close, fate_bad}
 use Rattle.run.proofs.fault.fate_in_ring.Statement.{statement}
 use Rattle.run.proofs.fault.fate_in_ring.Tie as tie
 
@@ -17,85 +17,85 @@ abbrev invariant-loop : tie.invariant-loop
 invariant-loop slots widths ring tail from number size p₀ at₀ p at =
     (at ≡ p % length ring)
     × ((s : Sizes) → EntriesOf s slots widths
-    → fateIn number (scan s (readRing ring) tail p) ≡ fateIn number (scan s (readRing ring) tail from))
+    → fate_in number (scan s (read_ring ring) tail p) ≡ fate_in number (scan s (read_ring ring) tail from))
 
 abbrev decreases-loop : tie.decreases-loop
 decreases-loop slots widths ring tail from number size p₀ at₀ p at = tail - p
 
 rem-at : tie.Need-nonzero-rem-at invariant-loop decreases-loop
-rem-at c = omega (arith, c.before.before.before.requires.1.ring-min)
+rem-at c = omega (arith, c.before.before.before.requires.1.ring_min)
 
 loop-holds : tie.Need-loop-init invariant-loop decreases-loop
 loop-holds c = (refl, λ s e. refl)
 
 decode-ring-requires : tie.Need-decode-ring-requires invariant-loop decreases-loop
 decode-ring-requires c κs =
-    let long = entries-long c.before.before.before.before.before.requires.0 in
-    (long.0, long.1, c.before.before.before.before.before.requires.1, record { before-tail = c.if1.false; at-is = c.before.loop.invariant.0 })
+    let long = entries_long c.before.before.before.before.before.requires.0 in
+    (long.0, long.1, c.before.before.before.before.before.requires.1, record { before_tail = c.if1.false; at_is = c.before.loop.invariant.0 })
 
 sub-advance : tie.Need-overflow-sub-advance invariant-loop decreases-loop
 sub-advance c =
     let e = c.before.before.before.before.before.before.before.before.before.requires.0.are in
-    let f = change-short _ e.bounds (got-change _ _ _ (c.before.before.before.decode-ring.ensures _ e) c.before.here.given.1) in
+    let f = change_short _ e.bounds (got_change _ _ _ (c.before.before.before.decode-ring.ensures _ e) c.before.here.given.1) in
     omega (arith, f.0)
 
 advance-requires : tie.Need-advance-requires invariant-loop decreases-loop
 advance-requires c κs =
     let e = c.before.before.before.before.before.before.before.before.before.requires.0.are in
-    let f = change-short _ e.bounds (got-change _ _ _ (c.before.before.before.decode-ring.ensures _ e) c.before.here.given.1) in
-    (within c.before.before.before.before.before.before.before.before.before.requires.1 c.before.before.before.before.before.loop.p c.before.before.before.before.before.loop.invariant.0, omega (arith, f.1, c.before.before.before.before.before.before.before.before.before.requires.1.ring-min), c.before.before.before.before.before.before.before.before.before.requires.1.ring-max)
+    let f = change_short _ e.bounds (got_change _ _ _ (c.before.before.before.decode-ring.ensures _ e) c.before.here.given.1) in
+    (within c.before.before.before.before.before.before.before.before.before.requires.1 c.before.before.before.before.before.loop.p c.before.before.before.before.before.loop.invariant.0, omega (arith, f.1, c.before.before.before.before.before.before.before.before.before.requires.1.ring_min), c.before.before.before.before.before.before.before.before.before.requires.1.ring_max)
 
 loop-less : tie.Need-loop-smaller invariant-loop decreases-loop
 loop-less c =
     let e = c.before.before.before.before.before.before.before.before.before.before.requires.0.are in
-    let f = change-short _ e.bounds (got-change _ _ _ (c.before.before.before.before.decode-ring.ensures _ e) c.before.before.here.given.1) in
+    let f = change_short _ e.bounds (got_change _ _ _ (c.before.before.before.before.decode-ring.ensures _ e) c.before.before.here.given.1) in
     omega (arith, f.0, f.2)
 
 loop-again : tie.Need-loop-preserved invariant-loop decreases-loop
 loop-again c =
     let e = c.before.before.before.before.before.before.before.before.before.before.requires.0.are in
-    let f = change-short _ e.bounds (got-change _ _ _ (c.before.before.before.before.decode-ring.ensures _ e) c.before.before.here.given.1) in
+    let f = change_short _ e.bounds (got_change _ _ _ (c.before.before.before.before.decode-ring.ensures _ e) c.before.before.here.given.1) in
     let inv = c.before.before.before.before.before.before.loop.invariant in (
       stepped _ _ _ _ (omega (arith, f.0)) (c.advance.ensures.1 _ inv.0),
-      λ s u. fate-change _ _ _ (c.before.before.before.before.decode-ring.ensures s u) c.before.before.before.before.before.if1.false _ c.before.before.here.given.1 ∙ inv.1 s u,
+      λ s u. fate_change _ _ _ (c.before.before.before.before.decode-ring.ensures s u) c.before.before.before.before.before.if1.false _ c.before.before.here.given.1 ∙ inv.1 s u,
     )
 
 sub-advance-2 : tie.Need-overflow-sub-advance-2 invariant-loop decreases-loop
 sub-advance-2 c =
-    let f = close-short (got-close _ _ _ (c.before.before.before.before.decode-ring.ensures _ c.before.before.before.before.before.before.before.before.before.before.requires.0.are) c.before.before.here2.given.1) in
+    let f = close_short (got_close _ _ _ (c.before.before.before.before.decode-ring.ensures _ c.before.before.before.before.before.before.before.before.before.before.requires.0.are) c.before.before.here2.given.1) in
     omega (arith, f.0)
 
 advance-requires-2 : tie.Need-advance-requires-2 invariant-loop decreases-loop
 advance-requires-2 c κs =
-    let f = close-short (got-close _ _ _ (c.before.before.before.before.decode-ring.ensures _ c.before.before.before.before.before.before.before.before.before.before.requires.0.are) c.before.before.here2.given.1) in
-    (within c.before.before.before.before.before.before.before.before.before.before.requires.1 c.before.before.before.before.before.before.loop.p c.before.before.before.before.before.before.loop.invariant.0, omega (arith, f.1, c.before.before.before.before.before.before.before.before.before.before.requires.1.ring-min), c.before.before.before.before.before.before.before.before.before.before.requires.1.ring-max)
+    let f = close_short (got_close _ _ _ (c.before.before.before.before.decode-ring.ensures _ c.before.before.before.before.before.before.before.before.before.before.requires.0.are) c.before.before.here2.given.1) in
+    (within c.before.before.before.before.before.before.before.before.before.before.requires.1 c.before.before.before.before.before.before.loop.p c.before.before.before.before.before.before.loop.invariant.0, omega (arith, f.1, c.before.before.before.before.before.before.before.before.before.before.requires.1.ring_min), c.before.before.before.before.before.before.before.before.before.before.requires.1.ring_max)
 
 loop-less-2 : tie.Need-loop-smaller-2 invariant-loop decreases-loop
 loop-less-2 c =
-    let f = close-short (got-close _ _ _ (c.before.before.before.before.before.decode-ring.ensures _ c.before.before.before.before.before.before.before.before.before.before.before.requires.0.are) c.before.before.before.here2.given.1) in
+    let f = close_short (got_close _ _ _ (c.before.before.before.before.before.decode-ring.ensures _ c.before.before.before.before.before.before.before.before.before.before.before.requires.0.are) c.before.before.before.here2.given.1) in
     omega (arith, f.0, f.2)
 
 loop-again-2 : tie.Need-loop-preserved-2 invariant-loop decreases-loop
 loop-again-2 c =
-    let f = close-short (got-close _ _ _ (c.before.before.before.before.before.decode-ring.ensures _ c.before.before.before.before.before.before.before.before.before.before.before.requires.0.are) c.before.before.before.here2.given.1) in
+    let f = close_short (got_close _ _ _ (c.before.before.before.before.before.decode-ring.ensures _ c.before.before.before.before.before.before.before.before.before.before.before.requires.0.are) c.before.before.before.here2.given.1) in
     let inv = c.before.before.before.before.before.before.before.loop.invariant in (
       stepped _ _ _ _ (omega (arith, f.0)) (c.advance2.ensures.1 _ inv.0),
-      λ s u. fate-other _ _ _ (c.before.before.before.before.before.decode-ring.ensures s u) c.before.before.before.before.before.before.if1.false _ c.before.before.before.here2.given.1 c.before.if2.false ∙ inv.1 s u,
+      λ s u. fate_other _ _ _ (c.before.before.before.before.before.decode-ring.ensures s u) c.before.before.before.before.before.before.if1.false _ c.before.before.before.here2.given.1 c.before.if2.false ∙ inv.1 s u,
     )
 
 returns : tie.Need-returns invariant-loop decreases-loop
-returns c = λ s e. fate-end _ _ _ _ _ c.if1.true ∙ c.before.loop.invariant.1 s e
+returns c = λ s e. fate_end _ _ _ _ _ c.if1.true ∙ c.before.loop.invariant.1 s e
 
 returns-2 : tie.Need-returns-2 invariant-loop decreases-loop
 returns-2 c =
     λ s e.
-    fate-close _ _ _ (c.before.before.before.before.decode-ring.ensures s e) c.before.before.before.before.before.if1.false _ c.before.before.here2.given.1 c.if2.true
+    fate_close _ _ _ (c.before.before.before.before.decode-ring.ensures s e) c.before.before.before.before.before.if1.false _ c.before.before.here2.given.1 c.if2.true
     ∙ c.before.before.before.before.before.before.loop.invariant.1 s e
 
 returns-3 : tie.Need-returns-3 invariant-loop decreases-loop
 returns-3 c =
     λ s e.
-    fate-bad _ _ _ (c.before.before.decode-ring.ensures s e) c.before.before.before.if1.false _ c.enum_told.given.1
+    fate_bad _ _ _ (c.before.before.decode-ring.ensures s e) c.before.before.before.if1.false _ c.enum_told.given.1
     ∙ c.before.before.before.before.loop.invariant.1 s e
 
 pub fate-in-ring-spec : {M : Type 1} → statement M

@@ -1,8 +1,8 @@
 -- `store::checkpoints::checkpoint_step` meets its contract: what the call gives on the whole state, kept. Assumes nothing.
 use mathlib.Core.Path.{refl}
-use Rattle.model.specs.World.{worldOf}
-use Rattle.model.specs.Call.{checkpointStep}
-use Rattle.store.proofs.Served.{lent-room, lent-served}
+use Rattle.model.specs.World.{world_of}
+use Rattle.model.specs.Call.{checkpoint_step}
+use Rattle.store.proofs.Served.{lent_room, lent_served}
 use borrow.Author.Rules.{rules}
 use Rattle.store.proofs.checkpoints.checkpoint_step.Statement.{statement}
 use Rattle.store.proofs.checkpoints.checkpoint_step.Tie as tie
@@ -10,14 +10,14 @@ use Rattle.store.proofs.checkpoints.checkpoint_step.Tie as tie
 room : tie.Need-kept-requires
 room c κs =
     let x = c.before.before.before.before.before.before.before.before.before.before.before.before.before.before.before.before.before.args in
-    lent-room (checkpointStep x.budget.now) refl x.state.carried (worldOf x.anchor.now x.pages.now x.backups.now x.logs.now x.work.now)
+    lent_room (checkpoint_step x.budget.now) refl x.state.carried (world_of x.anchor.now x.pages.now x.backups.now x.logs.now x.work.now)
     c.before.before.before.before.before.before.before.before.before.before.loaded.ensures c.before.before.before.before.before.before.before.before.before.body-start.ensures _ _ _
     c.before.before.before.before.before.step.ensures
 
 returns : tie.Need-returns
 returns c =
     let x = c.before.before.before.before.before.before.before.before.before.before.before.before.before.before.before.before.before.before.before.before.args in
-    lent-served (checkpointStep x.budget.now) refl x.state.carried (worldOf x.anchor.now x.pages.now x.backups.now x.logs.now x.work.now)
+    lent_served (checkpoint_step x.budget.now) refl x.state.carried (world_of x.anchor.now x.pages.now x.backups.now x.logs.now x.work.now)
     c.before.before.before.before.before.before.before.before.before.before.before.before.before.loaded.ensures c.before.before.before.before.before.before.before.before.before.before.before.before.body-start.ensures _ _ _
     c.before.before.before.before.before.before.before.before.step.ensures c.before.before.kept.ensures
 

@@ -2,11 +2,11 @@
 use mathlib.Core.Path.{refl}
 use borrow.Author.Rules.{rules}
 use lib.ListN.{length}
-use Rattle.model.specs.World.{worldOf}
-use Rattle.model.specs.Listing.{notALine}
-use Rattle.model.specs.Call.{listLine}
+use Rattle.model.specs.World.{world_of}
+use Rattle.model.specs.Listing.{not_aline}
+use Rattle.model.specs.Call.{list_line}
 use Rattle.model.specs.View.{core_of, body_of}
-use Rattle.model.proofs.View.Listed.{list-serves}
+use Rattle.model.proofs.View.Listed.{list_serves}
 use Rattle.store.proofs.listings.list_line.Statement.{statement}
 use Rattle.store.proofs.listings.list_line.Tie as tie
 
@@ -17,8 +17,8 @@ returns c =
     let carried = c.before.before.before.before.Carried-of.ensures.0 in
     let gave = rw carried at c.before.before.list-line.ensures in (
       λ pages backups work.
-          list-serves (listLine a.number (length a.out.now)) a.state.carried (worldOf a.anchor.now pages backups a.logs.now work)
-          (notALine (length a.out.now)) a.number _ refl gave.0,
+          list_serves (list_line a.number (length a.out.now)) a.state.carried (world_of a.anchor.now pages backups a.logs.now work)
+          (not_aline (length a.out.now)) a.number _ refl gave.0,
       gave.1,
     )
 

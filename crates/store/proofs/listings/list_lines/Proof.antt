@@ -2,11 +2,11 @@
 use mathlib.Core.Path.{refl}
 use borrow.Author.Rules.{rules}
 use lib.ListN.{length}
-use Rattle.model.specs.World.{worldOf}
-use Rattle.model.specs.Listing.{notLines}
-use Rattle.model.specs.Call.{listLines}
+use Rattle.model.specs.World.{world_of}
+use Rattle.model.specs.Listing.{not_lines}
+use Rattle.model.specs.Call.{list_lines}
 use Rattle.model.specs.View.{core_of, body_of}
-use Rattle.model.proofs.View.Listed.{list-serves}
+use Rattle.model.proofs.View.Listed.{list_serves}
 use Rattle.store.proofs.listings.list_lines.Statement.{statement}
 use Rattle.store.proofs.listings.list_lines.Tie as tie
 
@@ -17,8 +17,8 @@ returns c =
     let carried = c.before.before.before.before.Carried-of.ensures.0 in
     let gave = rw carried at c.before.before.list-lines.ensures in (
       λ pages backups work.
-          list-serves (listLines a.first (length a.out.now)) a.state.carried (worldOf a.anchor.now pages backups a.logs.now work)
-          (notLines (length a.out.now)) a.first _ refl gave.0,
+          list_serves (list_lines a.first (length a.out.now)) a.state.carried (world_of a.anchor.now pages backups a.logs.now work)
+          (not_lines (length a.out.now)) a.first _ refl gave.0,
       gave.1,
     )
 

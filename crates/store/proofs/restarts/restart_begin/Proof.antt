@@ -1,8 +1,8 @@
 -- `store::restarts::restart_begin` meets its contract: what the call gives on the whole state, kept. Assumes nothing.
 use mathlib.Core.Path.{refl}
-use Rattle.model.specs.World.{worldOf}
-use Rattle.model.specs.Call.{restartBegin}
-use Rattle.store.proofs.Served.{read-room, read-served}
+use Rattle.model.specs.World.{world_of}
+use Rattle.model.specs.Call.{restart_begin}
+use Rattle.store.proofs.Served.{read_room, read_served}
 use borrow.Author.Rules.{rules}
 use Rattle.store.proofs.restarts.restart_begin.Statement.{statement}
 use Rattle.store.proofs.restarts.restart_begin.Tie as tie
@@ -10,14 +10,14 @@ use Rattle.store.proofs.restarts.restart_begin.Tie as tie
 room : tie.Need-kept-requires
 room c κs =
     let x = c.before.before.before.before.before.before.before.before.before.before.before.before.before.before.before.args in
-    read-room restartBegin refl x.state.carried (worldOf x.anchor.now x.pages.now x.backups.now x.logs.now x.work.now)
+    read_room restart_begin refl x.state.carried (world_of x.anchor.now x.pages.now x.backups.now x.logs.now x.work.now)
     c.before.before.before.before.before.before.before.before.loaded.ensures c.before.before.before.before.before.before.before.body-start.ensures _ _ _
     c.before.before.before.begin.ensures refl
 
 returns : tie.Need-returns
 returns c =
     let x = c.before.before.before.before.before.before.before.before.before.before.before.before.before.before.before.before.before.before.args in
-    read-served restartBegin refl x.state.carried (worldOf x.anchor.now x.pages.now x.backups.now x.logs.now x.work.now)
+    read_served restart_begin refl x.state.carried (world_of x.anchor.now x.pages.now x.backups.now x.logs.now x.work.now)
     c.before.before.before.before.before.before.before.before.before.before.before.loaded.ensures c.before.before.before.before.before.before.before.before.before.before.body-start.ensures _ _ _
     c.before.before.before.before.before.before.begin.ensures refl c.before.before.kept.ensures
 

@@ -1,7 +1,7 @@
 -- `store::restarts::restart_step` meets its contract: what the call gives, handed back. Assumes nothing.
-use Rattle.model.specs.World.{worldOf}
-use Rattle.model.specs.Call.{restartStep}
-use Rattle.store.proofs.Handing.{handed-on}
+use Rattle.model.specs.World.{world_of}
+use Rattle.model.specs.Call.{restart_step}
+use Rattle.store.proofs.Handing.{handed_on}
 use borrow.Author.Rules.{rules}
 use Rattle.store.proofs.restarts.restart_step.Statement.{statement}
 use Rattle.store.proofs.restarts.restart_step.Tie as tie
@@ -9,7 +9,7 @@ use Rattle.store.proofs.restarts.restart_step.Tie as tie
 returns : tie.Need-returns
 returns c =
     let x = c.before.before.before.before.before.before.before.before.before.before.before.before.before.before.args in
-    handed-on (restartStep x.source) x.state.carried (worldOf x.anchor.now x.pages.now x.backups.now x.logs.now x.work.now) _ _ _
+    handed_on (restart_step x.source) x.state.carried (world_of x.anchor.now x.pages.now x.backups.now x.logs.now x.work.now) _ _ _
     c.before.before.before.before.before.before.before.before.Carried-of.ensures c.before.before.before.before.before.step.ensures c.hand-back.ensures
 
 pub restart-step-spec : {M : Type 1} → statement M

@@ -6,9 +6,9 @@ use lib.ListN.{get_or}
 use borrow.Author.Rules.{rules}
 use borrow.Author.Tests.{not-true, not-false}
 use Rattle.model.specs.Classes.{in_set}
-use Rattle.model.specs.Room.{startedBlocks}
+use Rattle.model.specs.Room.{started_blocks}
 use Rattle.table.specs.Parts.{room_for}
-use Rattle.table.proofs.HasRoom.{barred-left, busier-left, idler-taken}
+use Rattle.table.proofs.HasRoom.{barred_left, busier_left, idler_taken}
 use Rattle.table.proofs.room.better_disk.Statement.{statement}
 use Rattle.table.proofs.room.better_disk.Tie as tie
 
@@ -16,7 +16,7 @@ returns : tie.Need-returns
 returns c =
     let s = c.before.before.before.args in (
       search rules,
-      busier-left (in_set s.set s.disk && room_for s.start (s.tail + get_or s.fills.now s.disk 0) s.sum s.ring 2) (λ d. startedBlocks (get_or s.fills.now d 0)) s.disk s.best
+      busier_left (in_set s.set s.disk && room_for s.start (s.tail + get_or s.fills.now s.disk 0) s.sum s.ring 2) (λ d. started_blocks (get_or s.fills.now d 0)) s.disk s.best
           c.before.is-idler.ensures (not-true _ c.if1.true),
     )
 
@@ -24,7 +24,7 @@ returns-2 : tie.Need-returns-2
 returns-2 c =
     let s = c.before.before.before.before.before.args in (
       search rules,
-      barred-left (in_set s.set s.disk && room_for s.start (s.tail + get_or s.fills.now s.disk 0) s.sum s.ring 2) (λ d. startedBlocks (get_or s.fills.now d 0)) s.disk s.best
+      barred_left (in_set s.set s.disk && room_for s.start (s.tail + get_or s.fills.now s.disk 0) s.sum s.ring 2) (λ d. started_blocks (get_or s.fills.now d 0)) s.disk s.best
           (rw (sym c.before.in-set.ensures ∙ not-true _ c.if2.true) refl),
     )
 
@@ -33,7 +33,7 @@ returns-3 c =
     let s = c.before.before.before.before.before.before.before.before.args in
     let serves = sym c.before.before.before.before.in-set.ensures ∙ not-false _ c.before.before.before.if2.false in (
       search rules,
-      idler-taken (in_set s.set s.disk && room_for s.start (s.tail + get_or s.fills.now s.disk 0) s.sum s.ring 2) (λ d. startedBlocks (get_or s.fills.now d 0)) s.disk s.best
+      idler_taken (in_set s.set s.disk && room_for s.start (s.tail + get_or s.fills.now s.disk 0) s.sum s.ring 2) (λ d. started_blocks (get_or s.fills.now d 0)) s.disk s.best
           c.before.before.before.before.before.before.is-idler.ensures (not-false _ c.before.before.before.before.before.if1.false) {there = true} (rw serves (sym c.if3.true ∙ c.before.has_room.ensures)),
     )
 
@@ -42,7 +42,7 @@ returns-4 c =
     let s = c.before.before.before.before.before.before.before.before.args in
     let serves = sym c.before.before.before.before.in-set.ensures ∙ not-false _ c.before.before.before.if2.false in (
       search rules,
-      idler-taken (in_set s.set s.disk && room_for s.start (s.tail + get_or s.fills.now s.disk 0) s.sum s.ring 2) (λ d. startedBlocks (get_or s.fills.now d 0)) s.disk s.best
+      idler_taken (in_set s.set s.disk && room_for s.start (s.tail + get_or s.fills.now s.disk 0) s.sum s.ring 2) (λ d. started_blocks (get_or s.fills.now d 0)) s.disk s.best
           c.before.before.before.before.before.before.is-idler.ensures (not-false _ c.before.before.before.before.before.if1.false) {there = false} (rw serves (sym c.if3.false ∙ c.before.has_room.ensures)),
     )
 

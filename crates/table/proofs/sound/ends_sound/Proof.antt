@@ -6,14 +6,14 @@ use native.Mathlib.Omega.{arith}
 use borrow.Author.Tests.{not-true, not-false}
 use borrow.Author.Rules.{rules}
 use Rattle.model.specs.Below.{all_below}
-use Rattle.model.specs.State.{start_of, tailOf, fillOf, end_of}
-use Rattle.table.specs.Parts.{endWithin}
-use Rattle.model.proofs.Below.{all_more, all-stop, all_done}
+use Rattle.model.specs.State.{start_of, tail_of, fill_of, end_of}
+use Rattle.table.specs.Parts.{end_within}
+use Rattle.model.proofs.Below.{all_more, all_stop, all_done}
 use Rattle.table.proofs.sound.ends_sound.Statement.{statement}
 use Rattle.table.proofs.sound.ends_sound.Tie as tie
 
 abbrev invariant-loop : tie.invariant-loop
-invariant-loop disks logs ends d₀ d = (d ≤ disks) × (all_below (endWithin logs ends) d ≡ true)
+invariant-loop disks logs ends d₀ d = (d ≤ disks) × (all_below (end_within logs ends) d ≡ true)
 
 abbrev decreases-loop : tie.decreases-loop
 decreases-loop disks logs ends d₀ d = disks - d
@@ -23,11 +23,11 @@ unfolding all_below
 loop-holds c = (search rules, refl)
 
 returns : tie.Need-returns invariant-loop decreases-loop
-unfolding endWithin start_of tailOf fillOf end_of
-returns c = all-stop _ _ c.before.before.before.before.before.before.loop.d (omega arith) (sym c.before.covers.ensures ∙ not-true _ c.if1.true)
+unfolding end_within start_of tail_of fill_of end_of
+returns c = all_stop _ _ c.before.before.before.before.before.before.loop.d (omega arith) (sym c.before.covers.ensures ∙ not-true _ c.if1.true)
 
 loop-again : tie.Need-loop-preserved invariant-loop decreases-loop
-unfolding endWithin start_of tailOf fillOf end_of
+unfolding end_within start_of tail_of fill_of end_of
 loop-again c = (search rules, all_more _ _ c.before.before.before.before.before.before.loop.invariant.1 (sym c.before.covers.ensures ∙ not-false _ c.if1.false))
 
 returns-2 : tie.Need-returns-2 invariant-loop decreases-loop

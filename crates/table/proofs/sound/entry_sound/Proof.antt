@@ -2,29 +2,29 @@
 use native.Mathlib.Omega.{arith}
 use borrow.Author.Tests.{lt-leb, le-leb, lt-ltb, le-ltb, eq-eqb, ne_eqb}
 use borrow.Author.Rules.{rules}
-use Rattle.model.specs.State.{start_of, tailOf, fillOf, end_of}
-use Rattle.table.specs.Parts.{entrySound}
+use Rattle.model.specs.State.{start_of, tail_of, fill_of, end_of}
+use Rattle.table.specs.Parts.{entry_sound}
 use Rattle.table.proofs.sound.entry_sound.Statement.{statement}
 use Rattle.table.proofs.sound.entry_sound.Tie as tie
 
 returns : tie.Need-returns
-unfolding entrySound
+unfolding entry_sound
 returns c = rw (eq-eqb _ _ c.if1.true)
 
 returns-2 : tie.Need-returns-2
-unfolding entrySound
+unfolding entry_sound
 returns-2 c = rw (ne_eqb _ _ c.before.if1.false, le-ltb _ _ c.if2.true)
 
 returns-3 : tie.Need-returns-3
-unfolding entrySound
+unfolding entry_sound
 returns-3 c = rw (ne_eqb _ _ c.before.before.if1.false, lt-ltb _ _ c.before.if2.false, lt-leb _ _ c.if3.true)
 
 returns-4 : tie.Need-returns-4
-unfolding entrySound
+unfolding entry_sound
 returns-4 c = rw (ne_eqb _ _ c.before.before.before.if1.false, lt-ltb _ _ c.before.before.if2.false, c.if4.true)
 
 returns-5 : tie.Need-returns-5
-unfolding entrySound start_of tailOf fillOf end_of
+unfolding entry_sound start_of tail_of fill_of end_of
 returns-5 c =
     rw (
       ne_eqb _ _ c.before.before.before.before.before.before.before.if1.false,

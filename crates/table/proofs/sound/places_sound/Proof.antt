@@ -6,26 +6,26 @@ use native.Mathlib.Omega.{arith}
 use borrow.Author.Tests.{not-true, not-false}
 use borrow.Author.Rules.{rules}
 use lib.ListN.{length, get_or, get_or-replicate}
-use Rattle.model.specs.Below.{sumBelow, all_below}
-use Rattle.model.specs.State.{placeSound}
-use Rattle.model.proofs.Below.{all_more, all-stop, all_done}
-use Rattle.model.proofs.Reserved.{reservedBy}
-use Rattle.table.specs.Parts.{cap, logs_of, entriesOf, table_of, core_of}
-use Rattle.table.proofs.Places.{reserved-more, reserved-all}
-use Rattle.table.proofs.Tests.{place-computed}
+use Rattle.model.specs.Below.{sum_below, all_below}
+use Rattle.model.specs.State.{place_sound}
+use Rattle.model.proofs.Below.{all_more, all_stop, all_done}
+use Rattle.model.proofs.Reserved.{reserved_by}
+use Rattle.table.specs.Parts.{cap, logs_of, entries_of, table_of, core_of}
+use Rattle.table.proofs.Places.{reserved_more, reserved_all}
+use Rattle.table.proofs.Tests.{place_computed}
 use Rattle.table.proofs.sound.places_sound.Statement.{statement}
 use Rattle.table.proofs.sound.places_sound.Tie as tie
 
 abbrev invariant-loop : tie.invariant-loop
 invariant-loop sums₀ disks starts tails fills numbers homes firsts reserved i₀ sums i =
-    (i ≤ 16) × (all_below (placeSound (core_of disks 0 (logs_of starts tails fills) (entriesOf numbers homes firsts reserved))) i ≡ true)
-    × (length sums ≡ 8) × ((d : ℕ) → d < 8 → get_or sums d 0 ≡ min cap (sumBelow (reservedBy (table_of numbers homes reserved) d) i))
+    (i ≤ 16) × (all_below (place_sound (core_of disks 0 (logs_of starts tails fills) (entries_of numbers homes firsts reserved))) i ≡ true)
+    × (length sums ≡ 8) × ((d : ℕ) → d < 8 → get_or sums d 0 ≡ min cap (sum_below (reserved_by (table_of numbers homes reserved) d) i))
 
 abbrev decreases-loop : tie.decreases-loop
 decreases-loop sums₀ disks starts tails fills numbers homes firsts reserved i₀ sums i = 16 - i
 
 loop-holds : tie.Need-loop-init invariant-loop decreases-loop
-unfolding all_below sumBelow
+unfolding all_below sum_below
 loop-holds c = (search rules, refl, rw c.before.requires.1 refl, λ d h. rw c.before.requires.1 (get_or-replicate 8 d 0 0 h))
 
 same_length : tie.Need-same-length invariant-loop decreases-loop
@@ -34,7 +34,7 @@ same_length c = rw c.before.before.before.before.before.before.before.before.bef
 returns : tie.Need-returns invariant-loop decreases-loop
 returns c = (
   λ e d h. absurd (true≢false (sym e)),
-  all-stop _ _ c.before.before.before.before.before.before.before.loop.i (omega arith) (place-computed _ _ _ _ _ ∙ sym c.before.entry-sound.ensures ∙ not-true _ c.if1.true),
+  all_stop _ _ c.before.before.before.before.before.before.before.loop.i (omega arith) (place_computed _ _ _ _ _ ∙ sym c.before.entry_sound_lem.ensures ∙ not-true _ c.if1.true),
 )
 
 add-place-requires : tie.Need-add-place-requires invariant-loop decreases-loop
@@ -43,9 +43,9 @@ add-place-requires c κs = (c.before.before.before.before.before.before.before.b
 loop-again : tie.Need-loop-preserved invariant-loop decreases-loop
 loop-again c = (
   search rules,
-  all_more _ _ c.before.before.before.before.before.before.before.before.before.before.before.before.before.before.loop.invariant.1 (place-computed _ _ _ _ _ ∙ sym c.before.before.before.before.before.before.before.before.entry-sound.ensures ∙ not-false _ c.before.before.before.before.before.before.before.if1.false),
+  all_more _ _ c.before.before.before.before.before.before.before.before.before.before.before.before.before.before.loop.invariant.1 (place_computed _ _ _ _ _ ∙ sym c.before.before.before.before.before.before.before.before.entry_sound_lem.ensures ∙ not-false _ c.before.before.before.before.before.before.before.if1.false),
   search rules,
-  λ d h. reserved-more _ _ _ d _ _ _ _ _ (c.before.before.before.before.before.before.before.before.before.before.before.before.before.before.loop.invariant.3 d h) refl (c.before.before.add-place.ensures d h),
+  λ d h. reserved_more _ _ _ d _ _ _ _ _ (c.before.before.before.before.before.before.before.before.before.before.before.before.before.before.loop.invariant.3 d h) refl (c.before.before.add-place.ensures d h),
 )
 
 same-length-2 : tie.Need-same-length-2 invariant-loop decreases-loop
@@ -55,7 +55,7 @@ returns-2 : tie.Need-returns-2 invariant-loop decreases-loop
 returns-2 c =
     let a = c.before.before.before.args in
     let last : c.before.loop.i ≡ 16 = omega arith in (
-      λ e d h. rw last at (c.before.loop.invariant.3 d h) ∙ ap (min cap) (reserved-all a.numbers.now a.homes.now a.reserved.now d),
+      λ e d h. rw last at (c.before.loop.invariant.3 d h) ∙ ap (min cap) (reserved_all a.numbers.now a.homes.now a.reserved.now d),
       all_done _ _ _ c.before.loop.invariant.0 (omega arith) c.before.loop.invariant.1,
     )
 

@@ -6,13 +6,13 @@ use native.Mathlib.Omega.{arith}
 use borrow.Author.Tests.{not-true, not-false}
 use borrow.Author.Rules.{rules}
 use Rattle.model.specs.Below.{all_below}
-use Rattle.table.specs.Parts.{positionWithin}
-use Rattle.model.proofs.Below.{all_more, all-stop, all_done}
+use Rattle.table.specs.Parts.{position_within}
+use Rattle.model.proofs.Below.{all_more, all_stop, all_done}
 use Rattle.table.proofs.sound.positions_sound.Statement.{statement}
 use Rattle.table.proofs.sound.positions_sound.Tie as tie
 
 abbrev invariant-loop : tie.invariant-loop
-invariant-loop disks tails positions d₀ d = (d ≤ disks) × (all_below (positionWithin tails positions) d ≡ true)
+invariant-loop disks tails positions d₀ d = (d ≤ disks) × (all_below (position_within tails positions) d ≡ true)
 
 abbrev decreases-loop : tie.decreases-loop
 decreases-loop disks tails positions d₀ d = disks - d
@@ -22,11 +22,11 @@ unfolding all_below
 loop-holds c = (search rules, refl)
 
 returns : tie.Need-returns invariant-loop decreases-loop
-unfolding positionWithin
-returns c = all-stop _ _ c.before.before.before.loop.d (omega arith) (sym c.before.position-sound.ensures ∙ not-true _ c.if1.true)
+unfolding position_within
+returns c = all_stop _ _ c.before.before.before.loop.d (omega arith) (sym c.before.position-sound.ensures ∙ not-true _ c.if1.true)
 
 loop-again : tie.Need-loop-preserved invariant-loop decreases-loop
-unfolding positionWithin
+unfolding position_within
 loop-again c = (search rules, all_more _ _ c.before.before.before.loop.invariant.1 (sym c.before.position-sound.ensures ∙ not-false _ c.if1.false))
 
 returns-2 : tie.Need-returns-2 invariant-loop decreases-loop

@@ -1,0 +1,13 @@
+-- `disk_log::front::part_end` meets its contract, by its test.
+use borrow.Author.Tests.{lt-ltb, le-ltb}
+use Rattle.disk_log.proofs.front.part_end.Statement.{statement}
+use Rattle.disk_log.proofs.front.part_end.Tie as tie
+
+returns : tie.Need-returns
+returns c = simp (lt-ltb _ _ c.if1.true)
+
+returns-2 : tie.Need-returns-2
+returns-2 c = simp (le-ltb _ _ c.if1.false)
+
+pub part-end-spec : {M : Type 1} → statement M
+part-end-spec = tie.close (tie.spec returns returns-2)
