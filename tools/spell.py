@@ -114,7 +114,7 @@ def tables():
 def turn_code(text, to, only=None, fields=None):
     def one(m):
         x = m[0]
-        if x not in to or only is not None and x not in only:
+        if x not in to or only is not None and x not in only or text[: m.start()].endswith("Memᴰ."):
             return x
         if fields is not None and m.start() and text[m.start() - 1] == "." and x not in fields:
             return x

@@ -13,7 +13,7 @@ module _ {A : Type 0} where
   Every P l = (a : A) → Memᴰ a l → P a
 
   pub every_nil : (P : A → Type 0) → Every P []
-  every_nil P a m = absurd (Memᴰ.not_nil m)
+  every_nil P a m = absurd (Memᴰ.not-nil m)
 
   pub every_cons : (P : A → Type 0) (x : A) (l : List A) → P x → Every P l → Every P (x ∷ l)
   every_cons P x l here rest a m = go (Memᴰ.cases_cons m)

@@ -72,8 +72,8 @@ module _ (number : ℕ) where
   pub updates_all : (sc : Scan) (u : Update) (copy : ℕ) → Memᴰ (item_of number u copy) (items sc)
       → Memᴰ u (updates_in number sc)
   unfolding updates_in items
-  updates_all end u copy m = absurd (Memᴰ.not_nil m)
-  updates_all (bad p) u copy m = absurd (Memᴰ.not_nil m)
+  updates_all end u copy m = absurd (Memᴰ.not-nil m)
+  updates_all (bad p) u copy m = absurd (Memᴰ.not-nil m)
   updates_all (item p (close kind n) rest) u copy m = go (Memᴰ.cases_cons m) (updates_all rest u copy)
     where
       go : (item_of number u copy ≡ record { position = p; content = close kind n }) ⊎ Memᴰ (item_of number u copy) (items rest)

@@ -1,5 +1,5 @@
 -- Entries that lie one after the other: their positions ascend, and a boundary among them cuts the list, and its words, in two.
-use mathlib.Core.Path.{◌≡◌, refl, ap}
+use mathlib.Core.Path.{◌≡◌, refl, sym, ap, subst}
 use mathlib.Core.List.{List, [], ◌∷◌, ◌++◌, append_assoc}
 use mathlib.Core.Bool.{Bool, true, false, ◌||◌}
 use Prim.Native.Nat.{ℕ, ◌+◌, ◌≤◌, ◌<◌}
@@ -72,7 +72,8 @@ unfolding boundary
 boundary_end p [] = eq-eqb (p + length (words_of [])) p (rw words_none (omega arith))
 boundary_end p (r ∷ l) =
     let e : p + length (words_of (r ∷ l)) ≡ p + size_of r + length (words_of l) = omega (arith, length_words r l) in
-    rw e (or_right (eqb (p + size_of r + length (words_of l)) p) _ (boundary_end (p + size_of r) l))
+    or_right (eqb (p + length (words_of (r ∷ l))) p) _
+    (subst (λ (z : ℕ). boundary z (p + size_of r) l ≡ true) (sym e) (boundary_end (p + size_of r) l))
 
 pub boundary_more : (q p : ℕ) (l m : List Entry) → boundary q p l ≡ true → boundary q p (l ++ m) ≡ true
 unfolding boundary
@@ -131,7 +132,8 @@ boundary_suffix p q (r ∷ l) h b = go (eqb q p) refl b (boundary_suffix (p + si
     go : (c : Bool) → eqb q p ≡ c → c || boundary q (p + size_of r) l ≡ true
         → (boundary q (p + size_of r) l ≡ true → Suffix (p + size_of r) q l (pick (λ r. leb q r.position) l))
         → Suffix p q (r ∷ l) (pick (λ r. leb q r.position) (r ∷ l))
-    go true e x ih = rw (eqb-true q p e) (suffix_whole p (r ∷ l) h)
+    go true e x ih =
+        subst (λ (z : ℕ). Suffix p z (r ∷ l) (pick (λ r. leb z r.position) (r ∷ l))) (sym (eqb-true q p e)) (suffix_whole p (r ∷ l) h)
     go false e x ih =
         let s = ih x in
         let after : r.position < q = omega (arith, boundary_from q (p + size_of r) l x, size_ge r) in

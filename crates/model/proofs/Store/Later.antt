@@ -39,7 +39,7 @@ split_at p s (r ∷ l) h b = go (eqb s p) refl b (split_at (p + size_of r) s l h
         let all = all_map (λ r y. le-leb p r.position y) (r ∷ l) (laid_from p (r ∷ l) h) in
         record {
           gone = [];
-          whole = rw same (sym (pick_whole (λ r. leb p r.position) (r ∷ l) all));
+          whole = subst (λ (z : ℕ). r ∷ l ≡ pick (λ r. leb z r.position) (r ∷ l)) (sym same) (sym (pick_whole (λ r. leb p r.position) (r ∷ l) all));
           cut = rw words_none (omega arith);
           before = tt;
         }

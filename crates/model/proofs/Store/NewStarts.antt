@@ -1,5 +1,5 @@
 -- The new starts of a checkpoint: each is a boundary of its disk's log, and nobody needs what lies before them.
-use mathlib.Core.Path.{◌≡◌, refl, sym, ◌∙◌}
+use mathlib.Core.Path.{◌≡◌, refl, sym, subst, ◌∙◌}
 use mathlib.Core.Logic.{◌⊎◌, inl, inr}
 use mathlib.Core.List.{List, [], ◌∷◌, ◌++◌, append-nil}
 use mathlib.Core.Bool.{Bool, true, false, ◌&&◌, ◌||◌, and-eq-true_iff}
@@ -47,7 +47,8 @@ boundary_kept p s q (r ∷ l) h b k m = go (eqb s p) refl b (boundary_kept (p + 
     go true e x ih =
         let same : s ≡ p = eqb-true s p e in
         let all = all_map (λ r y. le-leb p r.position y) (r ∷ l) (laid_from p (r ∷ l) h) in
-        rw (same, pick_whole (λ r. leb p r.position) (r ∷ l) all) k
+        subst (λ (z : ℕ). boundary q z (pick (λ r. leb z r.position) (r ∷ l)) ≡ true) (sym same)
+        (subst (λ (m : List Entry). boundary q p m ≡ true) (sym (pick_whole (λ r. leb p r.position) (r ∷ l) all)) k)
     go false e x ih =
         let late : p + size_of r ≤ s = boundary_from s (p + size_of r) l x in
         let two = size_ge r in

@@ -6,6 +6,7 @@ use Prim.Native.Nat.{ℕ, ◌+◌, ◌≤◌, ◌<◌}
 use native.Mathlib.Omega.{arith}
 use Rattle.model.specs.declared.Sizes.{Sizes}
 use Rattle.model.specs.declared.Table.{Table}
+use Rattle.model.specs.declared.Logs.{Logs}
 use Rattle.model.specs.declared.Core.{Core}
 use Rattle.model.specs.Word.{◌⊕◌}
 use Rattle.model.specs.Sizes.{total, ring_of}
@@ -190,8 +191,9 @@ module _ {x : ℕ} {home : ℕ → ℕ} {puts : Told} {c : Core} {w : World} {r 
         → Safe y home (with_log c put.logs t) u q F1 (B1 ++ e ∷ [])
     unfolding with_log view
     put_safe y t q sizes shaped good =
-        rw put_logs
-        (safe_written serving1.safe e may1 written1 y t q sizes shaped (rw put_logs at good))
+        subst (λ (l : Logs). Safe y home (with_log c l t) u q F1 (B1 ++ e ∷ [])) (sym put_logs)
+        (safe_written serving1.safe e may1 written1 y t q sizes shaped
+        (subst (λ (l : Logs). Good y (total c.sizes) (view (with_log c l t) u q F1 (B1 ++ e ∷ []))) put_logs good))
 
     pub put_copies : ((p : ℕ) → p < c.sizes.pages → copy_of c.sizes u.work p ≡ copy_of c.sizes (perform put.actions w).work p)
         → (is_close e ≡ false → e.copy ≤ c.epoch + 1) → (before c e ≡ true → is_close e ≡ false → e.copy ≤ c.epoch)

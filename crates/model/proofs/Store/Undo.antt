@@ -115,5 +115,5 @@ undone {t} {puts = puts} {c = c} {w = w} g opened has below small (u ∷ us) slo
       in_limit = omega arith;
     }) in
     first_undone puts u us one
-    (undone one.serving opened has below one.small us slotted.1 (omega (arith, one.kept (disk_of c t), one.ends))
+    (undone {puts = also puts (compensations c w t (u ∷ []))} one.serving opened has below one.small us slotted.1 (omega (arith, one.kept (disk_of c t), one.ends))
     (omega (arith, one.ends))) first

@@ -60,7 +60,7 @@ undo_fills : (s : Sizes) (l : Logs) (w : World) (number disk : ℕ) (us : List U
     → length (undo_all s l w number disk us).logs.fills ≡ length l.fills
 unfolding undo_all compensate
 undo_fills s l w number disk [] = refl
-undo_fills s l w number disk (u ∷ us) = undo_fills s _ _ number disk us ∙ append_fills s l w.work disk _
+undo_fills s l w number disk (u ∷ us) = undo_fills s (compensate s l w number disk u).logs _ number disk us ∙ append_fills s l w.work disk _
 
 pub begin_fits : (c : Core) (w : World) (class : ℕ) → HeadSized c → verdict (begin_rows c w class) ≡ accepted → Fits (begin_task c w class).core w.work
 unfolding begin_rows begin_task begun with_reserved with_place HeadSized
