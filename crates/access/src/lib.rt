@@ -1,4 +1,5 @@
 // The calls on a slot: update and read.
+#![tactic(auto)]
 mod change;
 mod plan;
 pub mod read;

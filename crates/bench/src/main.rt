@@ -1,5 +1,6 @@
 // The benchmark's program: a stream of transactions on a formatted store, a power failure, restarts. It reads its sizes from standard
 // input and prints counts and digests; it has no clock, bench/run times it.
+#![tactic(auto)]
 mod answers;
 mod copying;
 mod input;

@@ -1,4 +1,5 @@
 // A checkpoint: its begin, its steps and its end.
+#![tactic(auto)]
 pub mod begin;
 mod copy;
 pub mod end;

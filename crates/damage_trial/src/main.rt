@@ -7,6 +7,7 @@
 // - a refused call must leave every word.
 // Standard input may begin with a number: how many random images are tried (500 where there is none). To run it longer:
 //     echo 60000 | target/bin/damage_trial
+#![tactic(auto)]
 mod acts;
 mod machine;
 mod probe;

@@ -1,4 +1,5 @@
 // A disk's log on slices and numbers, without state: its ring in the logs of all disks, then its buffer.
+#![tactic(auto)]
 mod front;
 pub mod kinds;
 pub mod read;

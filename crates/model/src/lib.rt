@@ -1,4 +1,5 @@
 // The types of the store: its state and its answers. What they mean stands in specs/; there are no functions here.
+#![tactic(auto)]
 
 // 01's stages.
 #[derive(Drop)]

@@ -3,6 +3,7 @@
 // lent a slice that is a word short; of these it is also compared that they leave the slices (of the logs, the first 8,192 words).
 // Standard input may begin with a number: how many lists are tried on each size (1 where there is none). To run it longer:
 //     echo 100 | target/bin/power_trial
+#![tactic(auto)]
 mod turns;
 mod watching;
 

@@ -1,4 +1,5 @@
 // Many restart steps of one source in one call.
+#![tactic(auto)]
 mod ahead;
 mod fates;
 mod fault;

@@ -1,4 +1,6 @@
 // Leaf functions on words: a difference that stops at 0; and on slices, exclusive or, copy, fill, and the difference of a slot, one loop each.
+#![tactic(auto)]
+
 ghost use Rattle.std.specs.Prelude.{◌≡◌, ◌+◌, ◌-◌, ◌≤◌, length, replicate};
 ghost use Rattle.std.proofs.lemmas.List.Edits.{sets};
 ghost use Rattle.model.specs.Word.{xors, ones_over, part};

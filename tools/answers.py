@@ -1,0 +1,365 @@
+#!/usr/bin/env python3
+"""Turns a crate's old Proof.antt files, which close a function's needs by hand, into Invariants.antt and Answers.antt.
+
+usage: tools/answers.py CRATE NAMES      in the repository's root; NAMES is what `rt check --generated DIR --old-names` wrote as DIR/names.json
+
+Needs and goals stand in the same order, so each answer goes to the goal at its place. `c.before..F.x` becomes `c.STEP.x`, where STEP is the
+step that stands so many places back. An answer that is only `search rules` or `omega arith` goes: the check tries those itself.
+What it cannot turn it says, on a line that begins with the function; such a Proof.antt stays.
+"""
+import json
+import os
+import re
+import sys
+
+CRATE, NAMES = sys.argv[1], sys.argv[2]
+ONLY = set(sys.argv[3:])
+HERE = os.path.join("crates", CRATE)
+OPEN, CLOSE = "([{", ")]}"
+TRIVIAL = re.compile(r"\(?λ c( κs)?\. (search rules|omega arith|tt|refl)\)?$")
+
+
+def read(p):
+    with open(p, encoding="utf-8") as f:
+        return f.read()
+
+
+def clause_names():
+    """The names of each function's ensures clauses, where it has two or more."""
+    out = {}
+    for folder, dirs, names in os.walk("crates"):
+        dirs[:] = [d for d in dirs if d != "out"]
+        for n in names:
+            if n.endswith(".rt"):
+                t = re.sub(r"(?m)^\s*//.*$", "", read(os.path.join(folder, n)))
+                for m in re.finditer(r"\bfn (\w+)(.*?)(?=\n\}|\bfn )", t, re.S):
+                    head = m[2]
+                    ens = re.findall(r"(?m)^\s*ensures(?: (\w+))? \{", head)
+                    if len(ens) > 1:
+                        out.setdefault(m[1], ens)
+    return out
+
+
+ENSURES = clause_names()
+
+
+def args_of(text):
+    """Splits the arguments of tie.spec."""
+    out, depth, word = [], 0, ""
+    for ch in text:
+        if ch in OPEN:
+            depth += 1
+        if ch in CLOSE:
+            depth -= 1
+        if ch.isspace() and depth == 0:
+            if word:
+                out.append(word)
+            word = ""
+        else:
+            word += ch
+    if word:
+        out.append(word)
+    return out
+
+
+def chunks(text):
+    """Top-level declarations: (name, type, unfolding lines, body lines, comment)."""
+    decls, cur = [], []
+    lines = text.split("\n")
+    groups, cur = [], []
+    for l in lines:
+        if l.strip() == "":
+            if cur:
+                groups.append(cur)
+            cur = []
+        else:
+            cur.append(l)
+    if cur:
+        groups.append(cur)
+    return groups
+
+
+def norm(x):
+    return re.sub(r"[-_]", "", x).lower()
+
+
+def projected(path, n):
+    """Which of n nested pairs' parts the projections begin with, and how many of them are read: .1.0 is the second."""
+    i = 0
+    while i < n - 1 and len(path) > i and path[i] == "1":
+        i += 1
+    if i == n - 1:
+        return i, i
+    if len(path) > i and path[i] == "0":
+        return i, i + 1
+    return None, 0
+
+
+class Fn:
+    def __init__(self, path, j, text):
+        self.path, self.j, self.text = path, j, text
+        self.places = {p[0]: p for p in j["places"]}
+        self.order = [p[0] for p in j["places"]]
+        self.said = []
+
+    def say(self, it):
+        self.said.append(it)
+
+    def up(self, place, n):
+        for _ in range(n):
+            if place is None or place not in self.places:
+                return None
+            place = self.places[place][1]
+        return place
+
+    def chain(self, place):
+        while place is not None and place in self.places:
+            yield place
+            place = self.places[place][1]
+
+    def step(self, place):
+        return self.places[place][2]
+
+    def fixed(self, place, need_place, fields):
+        """`c` at place with the projections fields, in today's names."""
+        if not fields:
+            return "c"
+        f, rest = fields[0], fields[1:]
+        if place == "Start" or self.places.get(place, [0, None])[1] is None:
+            if f in ("requires",):
+                names = self.j["pre"].get("fields") or []
+                if len(names) > 1:
+                    i, used = projected(rest, len(names))
+                    if i is not None:
+                        return ".".join(["c", "requires", names[i]] + rest[used:])
+            return ".".join(["c", f] + rest)
+        if rest[:1] == ["given"]:
+            k = self.order.index(need_place)
+            for name, old in self.j["typed"][k]:
+                if norm(old) == norm(f):
+                    return ".".join(["c", "type_inv", name] + rest[1:])
+            for q in self.chain(need_place):
+                for name, old in self.j["typed"][self.order.index(q)]:
+                    if norm(old) == norm(f):
+                        return ".".join(["c", "type_inv", name] + rest[1:])
+            return ".".join(["c", self.step(place)[1]] + rest)
+        new = self.step(place)[1]
+        if rest[:1] == ["ensures"] or rest[:1] == ["requires"]:
+            callee = f.replace("-", "_")
+            names = ENSURES.get(re.sub(r"\d+$", "", callee)) or ENSURES.get(callee)
+            if names and rest[0] == "ensures":
+                i, used = projected(rest[1:], len(names))
+                if i is not None and names[i]:
+                    return ".".join(["c", new, "ensures", names[i]] + rest[1 + used:])
+        return ".".join(["c", new] + rest)
+
+    def turn(self, body, place):
+        """The body of an answer at a place, with its paths in today's names."""
+        aliases = {}
+
+        def let(m):
+            n = m[2].count(".before")
+            aliases[m[1]] = self.up(place, n)
+            return ""
+
+        body = re.sub(r"let ([\w'₀-₉-]+) = c((?:\.before)*) in\s*", let, body)
+
+        def one(m):
+            word = m[0]
+            head, *rest = word.split(".")
+            at = place if head == "c" else aliases.get(head)
+            if head != "c" and head not in aliases:
+                return word
+            n = 0
+            while n < len(rest) and rest[n] == "before":
+                n += 1
+            at2 = self.up(at, n)
+            if at2 is None:
+                self.say(f"no place {n} before {at} for {word}")
+                return word
+            return self.fixed(at2, place, rest[n:])
+
+        names = "|".join(["c"] + [re.escape(a) for a in aliases])
+        return re.sub(rf"(?<![\w.'-])(?:{names})(?:\.[\w'₀-₉-]+)*(?![\w'-])", one, body)
+
+
+def convert(path):
+    folder = os.path.join(HERE, "proofs", path)
+    text = read(os.path.join(folder, "Proof.antt"))
+    label = path.replace("/", ".")
+    key = f"Rattle-{CRATE}-proofs.{label}.Lts"
+    names = json.loads(read(NAMES))
+    if key not in names:
+        print(f"{CRATE} {label}: not in the list of names")
+        return
+    j = names[key]
+    fn = Fn(label, j, text)
+    groups = chunks(text)
+    head, uses, decls, spec = [], [], [], None
+    for g in groups:
+        g2 = [l for l in g if not l.lstrip().startswith("--")]
+        if not g2:
+            head += g
+            continue
+        if g2[0].startswith("use ") or g2[0].startswith("pub use"):
+            head += [l for l in g if l.lstrip().startswith("--")]
+            uses += [l for l in g2 if not re.search(r"\.(Statement|Tie|Lts)\b", l)]
+            if any(".Lts" in l for l in g2):
+                fn.say("uses Lts")
+            continue
+        if re.match(r"pub \S+-spec : |pub \S+_spec : ", g2[0]):
+            spec = "\n".join(g2)
+            continue
+        decls.append(g)
+    if spec is None:
+        print(f"{CRATE} {label}: no spec")
+        return
+    m = re.search(r"tie\.spec\s*(.*)$", spec, re.S)
+    if not m:
+        args = []
+    else:
+        tail = m[1]
+        # drop what closes the parentheses around tie.spec
+        depth, end = 0, len(tail)
+        for i, ch in enumerate(tail):
+            if ch in OPEN:
+                depth += 1
+            if ch in CLOSE:
+                depth -= 1
+                if depth < 0:
+                    end = i
+                    break
+        args = args_of(tail[:end])
+    by_name = {}
+    for g in decls:
+        body = [l for l in g if not l.startswith("--")]
+        notes = [l for l in g if l.startswith("--")]
+        m = re.match(r"(?:abbrev |unfoldable |pub )*(\S+) : (.*)$", body[0])
+        if not m:
+            fn.say(f"unread declaration {body[0][:60]}")
+            continue
+        k = 1
+        typ = m[2]
+        while k < len(body) and not body[k].startswith("unfolding") and not body[k].startswith(m[1]):
+            typ += "\n" + body[k]
+            k += 1
+        unf = []
+        if k < len(body) and body[k].startswith("unfolding"):
+            unf.append(body[k])
+            k += 1
+        by_name[m[1]] = dict(type=typ, unf=unf, body=body[k:], notes=notes, all=g)
+    pre = [a for a in args if a in by_name and re.match(r"tie\.(invariant|decreases|measure)", by_name[a]["type"])]
+    needs = [a for a in args if a not in pre]
+    goals = j["needs"]
+    lam = [a for a in needs]
+    if len(lam) != len(goals):
+        print(f"{CRATE} {label}: {len(lam)} needs and {len(goals)} goals: old {[by_name[a]['type'] if a in by_name else a for a in lam]} new {goals}")
+        return
+    inv_out, ans_out = [], []
+    ends_used = set(pre)
+    # invariants and measures
+    loops = j["loops"]
+    count = {}
+    for a in pre:
+        d = by_name[a]
+        m = re.match(r"tie\.(invariant|decreases|measure)(\S*)", d["type"])
+        kind = m[1]
+        k = count.get(kind, 0)
+        count[kind] = k + 1
+        if kind == "measure" or k >= len(loops):
+            fn.say(f"measure {d['type']}")
+            continue
+        loop, vs = loops[k][0], loops[k][1]
+        changed = j["changed"][k]
+        first = "\n".join(d["body"])
+        m = re.match(re.escape(a) + r"\s*((?:\S+\s+)*?)=\s*(.*)$", first, re.S)
+        binders = m[1].split()
+        body = m[2]
+        want = len(vs) + sum(changed)
+        if len(binders) != want:
+            fn.say(f"{a} has {len(binders)} binders and the loop {want}: {vs} {changed}")
+            continue
+        to = {}
+        for b, v, ch in zip(binders, vs, changed):
+            to[b] = f"l.initial.{v}" if ch else f"l.{v}"
+        for b, v in zip(binders[len(vs):], [v for v, ch in zip(vs, changed) if ch]):
+            to[b] = f"l.{v}"
+        to.pop("_", None)
+        body = re.sub(r"(?<![\w.'₀-₉-])[A-Za-z_][\w'₀-₉-]*", lambda m: to.get(m[0], m[0]), body)
+        name = f"{kind}-{loop[1]}"
+        inv_out.append((d["notes"], f"abbrev pub {name} : goal.{name}", d["unf"], f"{name} l ={' ' if chr(10) not in m[0][:m.start(2)] and not first[m.start(2)-1] == chr(10) else ' '}{body}"))
+    # answers
+    helpers = []
+    for nm, d in by_name.items():
+        if nm in pre or nm in needs:
+            continue
+        helpers.append((nm, d))
+    for a, g, at in zip(needs, goals, j["asked_at"]):
+        new = g[1]
+        place = at[0]
+        if a in by_name:
+            d = by_name[a]
+            first = "\n".join(d["body"])
+            if re.match(re.escape(a) + r" c( κs)? =\s*(search rules|omega arith)$", first):
+                continue
+            if len(re.findall(rf"(?m)^{re.escape(a)}(?=\s)", first)) != 1:
+                fn.say(f"{a} has several clauses")
+            first = re.sub(rf"(?m)^{re.escape(a)}(?=\s)", new, first)
+            first = re.sub(rf"^({re.escape(new)} c) κs\b", r"\1", first)
+            cut = first.index("=") if "=" in first else 0
+            body = first[: cut + 1] + fn.turn(first[cut + 1 :], place)
+            ans_out.append((d["notes"], f"pub {new} : goal.{new}", d["unf"], body))
+        else:
+            if TRIVIAL.match(a):
+                continue
+            m = re.match(r"\(λ c( κs)?\. (.*)\)$", a, re.S)
+            if not m:
+                if a == "?":
+                    continue
+                if re.match(r"\(λ c( κs)?\. c\)$", a):
+                    continue
+                fn.say(f"argument {a[:60]}")
+                continue
+            ans_out.append(([], f"pub {new} : goal.{new}", [], f"{new} c = {fn.turn(m[2], place)}"))
+    base = f"Rattle.{CRATE}.proofs.{label}"
+    top = [l for l in head]
+
+    def out(name, module, items, extra):
+        p = os.path.join(folder, name)
+        if not items and not extra:
+            return
+        lines = list(top) + uses + [f"use {base}.{module} as goal"]
+        t = "\n".join(lines) + "\n"
+        for nm, d in extra:
+            t += "\n" + "\n".join(d["all"]) + "\n"
+        for notes, sig, unf, body in items:
+            t += "\n" + "".join(n + "\n" for n in notes) + sig + "\n" + "".join(u + "\n" for u in unf) + body + "\n"
+        with open(p, "w", encoding="utf-8") as f:
+            f.write(t)
+
+    out("Invariants.antt", "Given", inv_out, [])
+    if ans_out:
+        out("Answers.antt", "Goals", ans_out, helpers)
+    elif helpers and any("tie." not in d["type"] for _, d in helpers):
+        fn.say("helpers without answers: " + ", ".join(n for n, _ in helpers))
+    os.rename(os.path.join(folder, "Proof.antt"), os.path.join("/tmp/old-proofs", CRATE + "--" + label + ".antt"))
+    for s in fn.said:
+        print(f"{CRATE} {label}: {s}")
+
+
+def main():
+    os.makedirs("/tmp/old-proofs", exist_ok=True)
+    root = os.path.join(HERE, "proofs")
+    n = 0
+    for folder, dirs, files in os.walk(root):
+        if "Proof.antt" in files:
+            path = os.path.relpath(folder, root)
+            if ONLY and path not in ONLY:
+                continue
+            if "Tie" in read(os.path.join(folder, "Proof.antt")):
+                n += 1
+                convert(path)
+    print(f"{CRATE}: {n} proofs read")
+
+
+main()
