@@ -24,8 +24,8 @@ def read(p):
         return f.read()
 
 
-def clause_names():
-    """The names of each function's ensures clauses, where it has two or more."""
+def clause_names(kind):
+    """The names of each function's clauses of a kind, where it has two or more."""
     out = {}
     for folder, dirs, names in os.walk("crates"):
         dirs[:] = [d for d in dirs if d != "out"]
@@ -34,13 +34,50 @@ def clause_names():
                 t = re.sub(r"(?m)^\s*//.*$", "", read(os.path.join(folder, n)))
                 for m in re.finditer(r"\bfn (\w+)(.*?)(?=\n\}|\bfn )", t, re.S):
                     head = m[2]
-                    ens = re.findall(r"(?m)^\s*ensures(?: (\w+))? \{", head)
+                    ens = re.findall(rf"(?m)^\s*{kind}\*?(?: (\w+))? \{{", head)
                     if len(ens) > 1:
                         out.setdefault(m[1], ens)
     return out
 
 
-ENSURES = clause_names()
+ENSURES = clause_names("ensures")
+REQUIRES = clause_names("requires")
+
+
+def as_record(body, names):
+    """A body that ends in a tuple, as a record with a field for each clause."""
+    s = body.rstrip()
+    if s.endswith(")"):
+        depth, i = 0, len(s)
+        while i > 0:
+            i -= 1
+            if s[i] in CLOSE:
+                depth += 1
+            if s[i] in OPEN:
+                depth -= 1
+                if depth == 0:
+                    break
+        before = s[:i].rstrip()
+        if before == "" or before.endswith((" in", "=", "\nin")):
+            parts, depth, word = [], 0, ""
+            for ch in s[i + 1 : -1]:
+                if ch in OPEN:
+                    depth += 1
+                if ch in CLOSE:
+                    depth -= 1
+                if ch == "," and depth == 0:
+                    parts.append(word.strip())
+                    word = ""
+                else:
+                    word += ch
+            if word.strip():
+                parts.append(word.strip())
+            if len(parts) == len(names):
+                rows = "".join(f"      {n} = {x};\n" for n, x in zip(names, parts))
+                return f"{s[:i].rstrip()}\n    record {{\n{rows}    }}"
+            if len(parts) == 1:
+                return as_record(s[:i] + s[i + 1 : -1].strip(), names)
+    return None
 
 
 def args_of(text):
@@ -127,7 +164,7 @@ class Fn:
         f, rest = fields[0], fields[1:]
         if place == "Start" or self.places.get(place, [0, None])[1] is None:
             if f in ("requires",):
-                names = self.j["pre"].get("fields") or []
+                names = (self.j["pre"] or {}).get("fields") or []
                 if len(names) > 1:
                     i, used = projected(rest, len(names))
                     if i is not None:
@@ -153,16 +190,34 @@ class Fn:
                     return ".".join(["c", new, "ensures", names[i]] + rest[1 + used:])
         return ".".join(["c", new] + rest)
 
+    def clauses(self, goal, head, body):
+        """The body of an answer, as a record where its goal has a field for each clause."""
+        m = re.match(r"(\w+)-requires", goal)
+        names = REQUIRES.get(m[1]) if m else ENSURES.get(self.path.split(".")[-1]) if goal.startswith("returns") else None
+        if not names:
+            return head + body
+        done = as_record(body, names)
+        if done is None:
+            self.say(f"{goal} wants a record of {names}")
+            return head + body
+        return head + done
+
     def turn(self, body, place):
         """The body of an answer at a place, with its paths in today's names."""
         aliases = {}
+        # a test of `!x` says what x is
+        body = re.sub(r"not-(?:true|false) _ (?=c[.])", "", body)
 
         def let(m):
-            n = m[2].count(".before")
-            aliases[m[1]] = self.up(place, n)
+            n = m[3].count(".before")
+            aliases[m[1]] = self.up(place if m[2] == "c" else aliases[m[2]], n)
             return ""
 
-        body = re.sub(r"let ([\w'₀-₉-]+) = c((?:\.before)*) in\s*", let, body)
+        was = None
+        while was != body:
+            was = body
+            heads = "|".join(["c"] + [re.escape(a) for a in aliases])
+            body = re.sub(rf"let ([\w'₀-₉-]+) = ({heads})((?:\.before)*) in\s*", let, body, count=1)
 
         def one(m):
             word = m[0]
@@ -307,7 +362,7 @@ def convert(path):
             first = re.sub(rf"(?m)^{re.escape(a)}(?=\s)", new, first)
             first = re.sub(rf"^({re.escape(new)} c) κs\b", r"\1", first)
             cut = first.index("=") if "=" in first else 0
-            body = first[: cut + 1] + fn.turn(first[cut + 1 :], place)
+            body = fn.clauses(new, first[: cut + 1], fn.turn(first[cut + 1 :], place))
             ans_out.append((d["notes"], f"pub {new} : goal.{new}", d["unf"], body))
         else:
             if TRIVIAL.match(a):
@@ -320,7 +375,7 @@ def convert(path):
                     continue
                 fn.say(f"argument {a[:60]}")
                 continue
-            ans_out.append(([], f"pub {new} : goal.{new}", [], f"{new} c = {fn.turn(m[2], place)}"))
+            ans_out.append(([], f"pub {new} : goal.{new}", [], fn.clauses(new, f"{new} c =", " " + fn.turn(m[2], place))))
     base = f"Rattle.{CRATE}.proofs.{label}"
     top = [l for l in head]
 

@@ -12,7 +12,7 @@ use disk_log::read::{Extent, extent_of, read_word};
 use model::Sizes;
 
 // Where an update's record stands, the slot that it changed, and the slot's width.
-#[derive(Drop)]
+#[derive(Clone, Copy)]
 pub struct Site {
     pub position: u64,
     pub page: u64,
@@ -21,7 +21,7 @@ pub struct Site {
 }
 
 // A difference: its words, the first of these 32, as many as the slot has, and how many of their bits are 1.
-#[derive(Drop)]
+#[derive(Clone, Copy)]
 pub struct Difference {
     pub words: [u64; 32],
     pub ones: u64,

@@ -11,7 +11,7 @@ use crate::window::Tip;
 use model::{Fault, Sizes};
 
 // The fault, and where the updates are read from if there is none.
-#[derive(Drop)]
+#[derive(Clone, Copy)]
 pub struct Examined {
     pub fault: Fault,
     pub notes: Notes,

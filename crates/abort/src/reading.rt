@@ -14,7 +14,7 @@ use disk_log::updates::{Group, next_updates, survey_log};
 use model::{Fault, Sizes};
 
 // The first malformed record, the words of a transaction's updates, and where these are read from.
-#[derive(Drop)]
+#[derive(Clone, Copy)]
 pub struct Found {
     pub fault: Fault,
     pub words: u64,

@@ -14,7 +14,7 @@ use disk_log::write::{Head, Logged, append_change, append_close};
 use model::Sizes;
 
 // How far an abort came: whether all its stores were made, and where its disk's log ends.
-#[derive(Drop)]
+#[derive(Clone, Copy)]
 pub struct Progress {
     pub finished: bool,
     pub tip: Tip,

@@ -14,7 +14,7 @@ use table::place::CLOSE_WORDS;
 use words::saturating_sub;
 
 // The disk, where the log is read from, the first position, and how many words of updates are reserved.
-#[derive(Drop)]
+#[derive(Clone, Copy)]
 pub struct Scope {
     pub disk: u64,
     pub from: u64,
@@ -23,7 +23,7 @@ pub struct Scope {
 }
 
 // The number of the row that refuses a transaction, 0 where none does; then its entry, what of its log is read, and the sizes.
-#[derive(Drop)]
+#[derive(Clone, Copy)]
 pub struct Target {
     pub refusal: u64,
     pub entry: Entry,

@@ -18,7 +18,7 @@ use model::Sizes;
 use words::xor_in;
 
 // How far the taking back came; where it was not cut, how many bits are 1 over the differences taken back.
-#[derive(Drop)]
+#[derive(Clone, Copy)]
 pub struct Undone {
     pub progress: Progress,
     pub ones: u64,

@@ -6,14 +6,14 @@ ghost use Rattle.abort.specs.Undo.{only_log, window_of};
 use layout::memory::buffer_place;
 
 // A disk's log ends `fill` buffered words behind its tail.
-#[derive(Drop)]
+#[derive(Clone, Copy)]
 pub struct Tip {
     pub tail: u64,
     pub fill: u64,
 }
 
 // `end` is the tail plus the buffered words; these are the words of the work memory from `start` up to `stop`.
-#[derive(Drop)]
+#[derive(Clone, Copy)]
 pub struct Window {
     pub tail: u64,
     pub end: u64,

@@ -16,7 +16,7 @@ use disk_log::write::{Head, Home, Logged, flush_disk};
 use words::{copy_words, difference};
 
 // How the append of a change ended, and how many bits of its difference are 1.
-#[derive(Drop)]
+#[derive(Clone, Copy)]
 pub struct Changed {
     pub logged: Logged,
     pub ones: u64,

@@ -25,7 +25,7 @@ use table::room::fits_ring;
 // The number of the row that refuses an update, 0 where none does. Then where its slot lies, where the slot's owner is behind the head, and
 // the page's copy number; the transaction's place, its first position and its reserved words after the update; its disk's tail and fill
 // before it, and the words reserved there after it.
-#[derive(Drop)]
+#[derive(Clone, Copy)]
 pub struct Plan {
     pub refusal: u64,
     pub at: usize,

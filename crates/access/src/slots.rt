@@ -15,7 +15,7 @@ use head::table::is_open;
 use layout::memory::owner_place;
 
 // The number of the row that refuses a slot, 0 where none does; then its first word in the page memory, and its width.
-#[derive(Drop)]
+#[derive(Clone, Copy)]
 pub struct Slot {
     pub refusal: u64,
     pub at: usize,

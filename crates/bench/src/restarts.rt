@@ -6,7 +6,7 @@ use store::State;
 use store::restarts::{restart_begin, restart_end, restart_run, restart_step};
 
 // A restart under way, and the records of the logs that it took.
-#[derive(Drop)]
+#[derive(Clone, Copy)]
 struct Progress {
     state: State,
     records: u64,

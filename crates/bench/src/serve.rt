@@ -9,7 +9,7 @@ use store::transactions::{abort, begin, commit, update};
 use trial_table::words::get;
 
 // An open transaction: the state, and its number.
-#[derive(Drop)]
+#[derive(Clone, Copy)]
 struct Transaction {
     state: State,
     number: u64,
@@ -121,7 +121,7 @@ fn all_updated(
 }
 
 // What the transactions come to.
-#[derive(Drop)]
+#[derive(Clone, Copy)]
 pub struct Tally {
     pub taken: u64,
     pub aborts: u64,

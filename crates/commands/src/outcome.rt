@@ -7,7 +7,7 @@ use model::Answer;
 use store::{Called, State};
 
 // 01's number, the stores made, and the value shown. OTHER stands for a line of any other form.
-#[derive(Drop)]
+#[derive(Clone, Copy)]
 pub struct Outcome {
     pub answer: u64,
     pub stores: u64,
@@ -18,7 +18,7 @@ pub struct Outcome {
 pub const OTHER: u64 = 17;
 
 // An outcome, and the state for the next line.
-#[derive(Drop)]
+#[derive(Clone, Copy)]
 pub struct Done {
     pub outcome: Outcome,
     pub state: State,

@@ -28,7 +28,7 @@ pub fn run_begin(
 }
 
 // A slot, and the number of the transaction that sees it; 0 has no transaction.
-#[derive(Drop)]
+#[derive(Clone, Copy)]
 pub struct Seen {
     pub number: u64,
     pub page: u64,

@@ -1,7 +1,7 @@
 // What is lent to a store: one page of two one-word slots, one disk, W = 128.
 use trial_table::words::{differing, put_words};
 
-#[derive(Drop)]
+#[derive(Clone, Copy)]
 pub struct Devices {
     pub anchor: [u64; 148],
     pub pages: [u64; 2],

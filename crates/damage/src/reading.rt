@@ -10,7 +10,7 @@ use trial_table::words::{get, less, sum, tally, times};
 pub const LIMIT: u64 = 4611686018427387904;
 
 // A number of 01's table and the values that come with it; the number 0 for a taken call.
-#[derive(Drop)]
+#[derive(Clone, Copy)]
 pub struct Expected {
     number: u64,
     first: u64,

@@ -7,7 +7,7 @@ use store::restarts::restart_remaining;
 use trial_table::calls::Call;
 use trial_table::shape::Shape;
 
-#[derive(Drop)]
+#[derive(Clone, Copy)]
 pub struct Machine {
     pub devices: Devices,
     pub answer: Answer,

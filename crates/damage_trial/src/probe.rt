@@ -6,7 +6,7 @@ use trial_table::calls::{Call, Kind};
 use trial_table::words::{more, sum, tally};
 
 // The machine, and what was found so far. `taken` tells that the restart's begin was taken: until then every later call answers 1.
-#[derive(Drop)]
+#[derive(Clone, Copy)]
 pub struct Probe {
     pub machine: Machine,
     pub taken: bool,

@@ -12,6 +12,7 @@
 //    word as it was, the contracts do not tell which word it is; what stands on the devices is the same.)
 // This is about the source. What the compiler may make of it: docs/PROMISES.md, section 3.
 #![tactic(auto)]
+
 ghost use Rattle.std.specs.Prelude.{◌≡◌, [], ◌∷◌, ◌+◌, ◌%◌, ◌≤◌, ◌<◌, length, replicate};
 ghost use Rattle.model.specs.Word.{part};
 ghost use Rattle.device.specs.Ran.{Stored, StoredRing};

@@ -13,14 +13,14 @@ use crate::ring::is_outside;
 use model::RecordSize;
 
 // The positions from `low` up to `near` lie one after the other in the ring, from its first word on.
-#[derive(Drop)]
+#[derive(Clone, Copy)]
 pub struct Turn {
     pub low: u64,
     pub near: u64,
 }
 
 // The first two words of a record.
-#[derive(Drop)]
+#[derive(Clone, Copy)]
 pub struct Front {
     pub first: u64,
     pub number: u64,

@@ -8,7 +8,7 @@ use layout::disks::{disk_at, ring_of};
 use model::{Decoded, RecordSize, Sizes};
 
 // What a reader needs of a disk's log: the index of its tail word in the logs of all disks, its ring size, its tail, and where it ends.
-#[derive(Drop)]
+#[derive(Clone, Copy)]
 pub struct Extent {
     pub place: u64,
     pub ring: u64,

@@ -12,7 +12,7 @@ use crate::read::Extent;
 use model::{Fault, Sizes};
 
 // What a survey of a log finds: its first malformed record, and a transaction's updates up to there, counted and in words.
-#[derive(Drop)]
+#[derive(Clone, Copy)]
 pub struct Survey {
     pub fault: Fault,
     pub count: u64,
@@ -20,7 +20,7 @@ pub struct Survey {
 }
 
 // Positions of a transaction's updates, oldest first.
-#[derive(Drop)]
+#[derive(Clone, Copy)]
 pub struct Group {
     pub count: u64,
     pub at: [u64; 128],

@@ -16,7 +16,7 @@ use words::copy_words;
 
 // A disk, and what a writer needs of it: the index of its tail word in the logs of all disks, its ring size, where its buffer lies in
 // the work memory, its tail, and how many words are buffered.
-#[derive(Drop)]
+#[derive(Clone, Copy)]
 pub struct Home {
     pub disk: u64,
     pub place: u64,
@@ -54,7 +54,7 @@ pub fn flush_disk(logs: &mut [u64], work: &[u64], home: Home, budget: &mut u64) 
 }
 
 // What a change says beside its difference. `copy` is 01's copy number.
-#[derive(Drop)]
+#[derive(Clone, Copy)]
 pub struct Head {
     pub kind: u64,
     pub page: u64,
@@ -84,7 +84,7 @@ fn put_record(work: &mut [u64], at: u64, words: &[u64])
 }
 
 // What an append answers: whether all its stores were made, and the disk's tail and fill after it.
-#[derive(Drop)]
+#[derive(Clone, Copy)]
 pub struct Logged {
     pub finished: bool,
     pub tail: u64,

@@ -11,7 +11,7 @@ use head::table::place_of;
 
 // The number of the row that refuses a transaction, 0 where none does; then its place, the words reserved for it, its disk with tail and
 // fill, and the words reserved there.
-#[derive(Drop)]
+#[derive(Clone, Copy)]
 pub struct Entry {
     pub refusal: u64,
     pub place: usize,

@@ -10,7 +10,7 @@ use layout::bounds::sizes_in_bounds;
 use model::Sizes;
 
 // Whether the sizes pass, and then the sizes.
-#[derive(Drop)]
+#[derive(Clone, Copy)]
 pub struct Known {
     pub fits: bool,
     pub sizes: Sizes,

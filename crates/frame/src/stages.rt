@@ -6,7 +6,7 @@ ghost use Rattle.frame.specs.Checks.{allowed_in};
 use model::Stage;
 
 // The stages that a call is for, if it is not for a shut state.
-#[derive(Drop)]
+#[derive(Clone, Copy)]
 pub enum When {
     Replaying,
     Open,

@@ -13,7 +13,7 @@ use store::State;
 
 // The store's state, the tally, how many lines there were, what is read of the next one and whether anything is, and the fill of
 // the output's buffer.
-#[derive(Drop)]
+#[derive(Clone, Copy)]
 pub struct Console {
     pub state: State,
     pub tally: Tally,
@@ -57,7 +57,7 @@ fn take_line(
 }
 
 // A console, and where in the piece it goes on.
-#[derive(Drop)]
+#[derive(Clone, Copy)]
 struct Step {
     console: Console,
     next: usize,

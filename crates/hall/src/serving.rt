@@ -11,7 +11,7 @@ use libc::{STDIN_FILENO, STDOUT_FILENO};
 use lines::output::put_tally;
 
 // A console, and whether what was handed to write was written.
-#[derive(Drop)]
+#[derive(Clone, Copy)]
 pub struct Flushed {
     pub console: Console,
     pub written: bool,
@@ -30,7 +30,7 @@ pub fn flush(console: Console, out: &[u8]) -> Flushed
 }
 
 // A console, how many bytes the last read gave, and whether a read or a write has failed.
-#[derive(Drop)]
+#[derive(Clone, Copy)]
 pub struct Served {
     pub console: Console,
     got: usize,

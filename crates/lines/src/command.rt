@@ -3,7 +3,7 @@ ghost use Rattle.std.specs.Prelude.{◌≡◌};
 ghost use Rattle.lines.specs.Line.{same, without_numbers, set_of, commit_of, abort_of, get_of, form_without_numbers, form_of};
 
 // What a line asks for. Other: a line of any other form.
-#[derive(Drop)]
+#[derive(Clone, Copy)]
 pub enum Command {
     Begin,
     Set {

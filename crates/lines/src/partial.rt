@@ -7,7 +7,7 @@ use crate::command::{Command, form_of};
 
 // What has been read of a line: the first field's bytes; how many numbers have begun, 5 where the line is no command however it
 // goes on; the values of all but the last; of the last the value so far, and whether nothing of it is read yet.
-#[derive(Drop)]
+#[derive(Clone, Copy)]
 pub struct Partial {
     pub name: [u8; 7],
     pub length: usize,

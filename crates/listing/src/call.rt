@@ -13,7 +13,7 @@ use model::{Answer, Sizes, Stage};
 use replay::image::{anchor_refusal, anchor_sizes, check_logs, current_starts, tails_on};
 
 // A row that applies, and the values it returns; 0 for none, and then how many lines the listing has.
-#[derive(Drop)]
+#[derive(Clone, Copy)]
 pub struct Found {
     pub number: u64,
     pub first: u64,

@@ -19,7 +19,7 @@ use model::{Decoded, Sizes};
 const LINE_BYTES: u64 = 73;
 
 // The number of the next line, and how many more records go on this page.
-#[derive(Drop)]
+#[derive(Clone, Copy)]
 pub struct Sheet {
     pub line: u64,
     pub left: u64,

@@ -12,7 +12,7 @@ use trial_table::words::{front, less, sum, tally, times};
 pub type Out = [u8; 36500];
 
 // One line, or the lines from `first` on, into so many bytes. So many words of the logs are lent.
-#[derive(Drop)]
+#[derive(Clone, Copy)]
 pub struct Ask {
     pub single: bool,
     pub first: u64,

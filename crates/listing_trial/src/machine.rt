@@ -10,7 +10,7 @@ pub type Anchor = [u64; 148];
 pub type Logs = [u64; 1539];
 
 // `newest` is the newest transaction's number.
-#[derive(Drop)]
+#[derive(Clone, Copy)]
 pub struct Machine {
     pub anchor: Anchor,
     pub pages: [u64; 512],

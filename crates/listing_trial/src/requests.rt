@@ -7,7 +7,7 @@ use store::State;
 use trial_table::words::{front, less, more, sum, times};
 
 // What was found so far.
-#[derive(Drop)]
+#[derive(Clone, Copy)]
 pub struct Found {
     pub lines: u64,
     pub refusals: u64,

@@ -5,7 +5,7 @@ use crate::reading::{Notes, ring_word};
 use trial_table::words::{get, less, sum, times};
 
 // A line: a heading, or a record with its first word and its transaction.
-#[derive(Drop)]
+#[derive(Clone, Copy)]
 pub struct Shown {
     heading: bool,
     disk: u64,

@@ -84,7 +84,7 @@ fn made(
 }
 
 // The state after all calls, the number of the next transaction, and how many calls were refused.
-#[derive(Drop)]
+#[derive(Clone, Copy)]
 struct Reached {
     state: State,
     next: u64,

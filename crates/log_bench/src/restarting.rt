@@ -5,7 +5,7 @@ use store::restarts::{restart_begin, restart_end, restart_run};
 use trial_table::answers::value_of;
 
 // A restart under way, and the items of the source that it took last.
-#[derive(Drop)]
+#[derive(Clone, Copy)]
 struct Progress {
     state: State,
     items: u64,

@@ -4,7 +4,7 @@ use trial_table::words::{more, sum, times};
 
 // In a round `together` transactions begin, make `length` updates each, by turns, and are closed. One long transaction is a round,
 // sixteen interleaved ones are a round, short ones are a round each. Those that are left open have one round, and are at most sixteen.
-#[derive(Drop)]
+#[derive(Clone, Copy)]
 pub struct Plan {
     together: u64,
     pub length: u64,
@@ -43,7 +43,7 @@ pub fn calls(plan: Plan) -> u64 {
 }
 
 // The next call: its number of all, its lap, and the transaction that makes it; `first` is the round's first transaction.
-#[derive(Drop)]
+#[derive(Clone, Copy)]
 pub struct Turn {
     pub call: u64,
     pub lap: u64,

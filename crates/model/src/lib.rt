@@ -2,7 +2,7 @@
 #![tactic(auto)]
 
 // 01's stages.
-#[derive(Drop)]
+#[derive(Clone, Copy)]
 pub enum Stage {
     Shut,
     Replaying,
@@ -11,7 +11,7 @@ pub enum Stage {
 }
 
 // 01's P, D and W, the slots in each page and the words in each slot of that page.
-#[derive(Drop)]
+#[derive(Clone, Copy)]
 pub struct Sizes {
     pub pages: u64,
     pub disks: u64,
@@ -21,14 +21,14 @@ pub struct Sizes {
 }
 
 // What is kept of the sizes, so that no call sums them up: the first word of each page in the page memory, and 01's T.
-#[derive(Drop)]
+#[derive(Clone, Copy)]
 pub struct Bases {
     pub pages: [u16; 64],
     pub total: u64,
 }
 
 // For each disk: where the retained log starts, its tail, and how many words are buffered.
-#[derive(Drop)]
+#[derive(Clone, Copy)]
 pub struct Logs {
     pub starts: [u64; 8],
     pub tails: [u64; 8],
@@ -37,7 +37,7 @@ pub struct Logs {
 
 // The open transactions, by place: number (0: the place is free), disk, position of the first update record, reserved words; and the
 // reserved words by disk.
-#[derive(Drop)]
+#[derive(Clone, Copy)]
 pub struct Table {
     pub numbers: [u64; 16],
     pub disks: [u64; 16],
@@ -47,21 +47,21 @@ pub struct Table {
 }
 
 // A checkpoint under way: each disk's end at its begin, and how many pages are copied.
-#[derive(Drop)]
+#[derive(Clone, Copy)]
 pub struct Checkpoint {
     pub ends: [u64; 8],
     pub copied: u64,
 }
 
 // A restart under way: each log's next position, and the next page of the backup.
-#[derive(Drop)]
+#[derive(Clone, Copy)]
 pub struct Replay {
     pub positions: [u64; 8],
     pub page: u64,
 }
 
 // Which disks serve which class of transactions, by line: lowest class, highest class, set of disks; zeros where there is no line.
-#[derive(Drop)]
+#[derive(Clone, Copy)]
 pub struct Classes {
     pub lows: [u8; 16],
     pub highs: [u8; 16],
@@ -70,7 +70,7 @@ pub struct Classes {
 
 // The state by value: `epoch` is 01's checkpoint number c, `next` the number that the next begin answers.
 // Buffers, slot owners and copy numbers lie in the lent work memory.
-#[derive(Drop)]
+#[derive(Clone, Copy)]
 pub struct Core {
     pub stage: Stage,
     pub sizes: Sizes,
@@ -85,7 +85,7 @@ pub struct Core {
 }
 
 // What a call answers; specs/Refusal.antt gives 01's number and values for each case.
-#[derive(Drop)]
+#[derive(Clone, Copy)]
 pub enum Answer {
     Finished {
         stores: u64,
@@ -102,14 +102,14 @@ pub enum Answer {
 }
 
 // How many words a record of a kind has, or that there is no such kind.
-#[derive(Drop)]
+#[derive(Clone, Copy)]
 pub enum RecordSize {
     Words { n: u64 },
     NoKind,
 }
 
 // What stands at a position of a log.
-#[derive(Drop)]
+#[derive(Clone, Copy)]
 pub enum Decoded {
     Change {
         kind: u64,
@@ -129,7 +129,7 @@ pub enum Decoded {
 }
 
 // What the search ahead for a transaction's closing record finds.
-#[derive(Drop)]
+#[derive(Clone, Copy)]
 pub enum Fate {
     Closed,
     Unclosed,
@@ -137,14 +137,14 @@ pub enum Fate {
 }
 
 // What a check of log records finds.
-#[derive(Drop)]
+#[derive(Clone, Copy)]
 pub enum Fault {
     NoFault,
     BadRecord { disk: u64, position: u64 },
 }
 
 // What a call hands back beside the lent slices and the budget.
-#[derive(Drop)]
+#[derive(Clone, Copy)]
 pub struct Reply {
     pub answer: Answer,
     pub core: Core,
@@ -152,7 +152,7 @@ pub struct Reply {
 
 // A state in two parts: what goes from call to call by value, 304 bytes; the rest of Core lies in the head of the lent work memory
 // (specs/View.antt). `total` is 01's T, `copied` how many pages the checkpoint under way has copied, `ends` its ends.
-#[derive(Drop)]
+#[derive(Clone, Copy)]
 pub struct Carried {
     pub stage: Stage,
     pub pages: u64,
@@ -169,7 +169,7 @@ pub struct Carried {
 }
 
 // What a call hands back beside the lent slices and the budget, where the state is in two parts.
-#[derive(Drop)]
+#[derive(Clone, Copy)]
 pub struct Handed {
     pub answer: Answer,
     pub carried: Carried,

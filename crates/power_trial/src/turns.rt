@@ -11,7 +11,7 @@ use trial_table::shape::{HEAD_WORDS, Shape, total_of, work_words};
 use trial_table::wanted::cause;
 use trial_table::words::{front, less, more, put, tail_mut, wipe};
 
-#[derive(Drop)]
+#[derive(Clone, Copy)]
 pub struct Trial {
     pub state: State,
     pub progress: Progress,
@@ -142,7 +142,7 @@ fn remaining(state: State, call: Call, source: u64, disks: u64, work: &[u64]) ->
 }
 
 // A call, its budget, and what remains to be replayed as it is made.
-#[derive(Drop)]
+#[derive(Clone, Copy)]
 struct Asked {
     call: Call,
     budget: u64,

@@ -6,7 +6,7 @@ use trial_table::random::digest;
 use trial_table::shape::Shape;
 
 // What a call handed back, the budget after it, and whether it left what it has to leave.
-#[derive(Drop)]
+#[derive(Clone, Copy)]
 pub struct Made {
     pub called: Called,
     pub left: u64,

@@ -7,7 +7,7 @@ use store::{Called, State};
 
 // What a transaction does; the first number is the transaction. `Score` sets a slot of page 0 to a value, `Round` the three words of a
 // slot of page 1.
-#[derive(Drop)]
+#[derive(Clone, Copy)]
 pub enum Act {
     Begin,
     Score(u64, u64, u64),

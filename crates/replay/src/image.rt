@@ -16,7 +16,7 @@ use model::{Fault, Sizes};
 use table::room::LIMIT;
 
 // The row that applies, 0 for none, and what it returns.
-#[derive(Drop)]
+#[derive(Clone, Copy)]
 pub struct Finding {
     pub number: u64,
     pub first: u64,

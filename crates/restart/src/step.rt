@@ -27,7 +27,7 @@ use replay::take::replay_span;
 use words::xor_in;
 
 // What was made of a record: the position of the next one, or of a malformed one.
-#[derive(Drop)]
+#[derive(Clone, Copy)]
 struct Taken {
     malformed: bool,
     position: u64,

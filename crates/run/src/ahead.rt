@@ -12,7 +12,7 @@ use disk_log::ring::{advance, decode_ring};
 use model::{Decoded, Fate};
 
 // A fate, and how many are remembered now.
-#[derive(Drop)]
+#[derive(Clone, Copy)]
 pub struct Recalled {
     pub used: usize,
     pub fate: Fate,

@@ -13,7 +13,7 @@ use replay::record::is_replayed;
 use replay::ring::replay_ring;
 
 // How many fates are remembered after a record, and where the next one stands: at its own place if it is not taken.
-#[derive(Drop)]
+#[derive(Clone, Copy)]
 pub struct Taken {
     pub used: usize,
     pub next: u64,

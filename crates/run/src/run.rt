@@ -32,7 +32,7 @@ fn next_position(replay: Replay, disk: u64) -> u64
 }
 
 // Where a run of a log stopped, and how many steps it made.
-#[derive(Drop)]
+#[derive(Clone, Copy)]
 pub struct Ran {
     pub position: u64,
     pub made: u64,

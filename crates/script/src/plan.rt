@@ -8,7 +8,7 @@ use trial_table::words::{less, more, tally, times};
 
 // What the next turn does: a call (of a format, of the restart after a cut format, of a list, of a restart), or power is lost, or
 // the pages are compared with the results, or the size's counts are told.
-#[derive(Drop)]
+#[derive(Clone, Copy)]
 pub enum Mode {
     Formatting,
     Probing,
@@ -22,7 +22,7 @@ pub enum Mode {
 // `sweeps` are left on this size, with the one under way; `run` is the budget, or the length, of its run; `calls` are left of the list, or
 // calls of the restart; `budget` is that of the next call, `attempt` that of the next restart end; `cut` tells that the list
 // was cut; a list's calls follow from the seed `list`, the next call from `seed`.
-#[derive(Drop)]
+#[derive(Clone, Copy)]
 pub struct Plan {
     pub mode: Mode,
     pub sweeps: u64,

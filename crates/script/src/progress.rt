@@ -14,7 +14,7 @@ use trial_table::words::{differing, get, more, tally};
 use trial_table::{plain, write_sets};
 
 // Calls made, and those that answered as expected; restarts taken, and those after which the pages were the results.
-#[derive(Drop)]
+#[derive(Clone, Copy)]
 pub struct Counts {
     pub calls: u64,
     pub agreed: u64,
@@ -22,7 +22,7 @@ pub struct Counts {
     pub right: u64,
 }
 
-#[derive(Drop)]
+#[derive(Clone, Copy)]
 pub struct Progress {
     pub shape: Shape,
     pub plain: Plain,

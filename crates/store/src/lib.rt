@@ -18,13 +18,13 @@ use frame::handed::new_carried;
 use model::{Answer, Carried, Handed};
 
 // What is handed from one call to the next, 304 bytes; the lent work memory goes with it, and has the rest of the state in its head.
-#[derive(Drop)]
+#[derive(Clone, Copy)]
 pub struct State {
     carried: Carried,
 }
 
 // What a call hands back: its answer, and the state for the next call.
-#[derive(Drop)]
+#[derive(Clone, Copy)]
 pub struct Called {
     pub answer: Answer,
     pub state: State,

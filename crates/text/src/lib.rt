@@ -1,5 +1,6 @@
 // Writing text into bytes from its end: what is put stands in front of what is there, and the answer is where it starts.
 #![tactic(auto)]
+
 ghost use Rattle.std.specs.Prelude.{◌≡◌, ◌+◌, ◌-◌, ◌≤◌, ◌++◌, length, drop, replicate};
 ghost use Rattle.model.specs.Text.{last_digits};
 

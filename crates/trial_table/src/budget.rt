@@ -2,7 +2,7 @@
 use crate::words::less;
 
 // What is left of an allowance, and whether it was used up.
-#[derive(Drop)]
+#[derive(Clone, Copy)]
 pub struct Budget {
     pub left: u64,
     pub cut: bool,

@@ -1,7 +1,7 @@
 // The store's calls as data: which one, and with what arguments.
 use crate::random::fill;
 
-#[derive(Drop)]
+#[derive(Clone, Copy)]
 pub enum Kind {
     Format,
     Begin,
@@ -22,7 +22,7 @@ pub enum Kind {
 // `class` is that of a begin, `number` the transaction, the reader or the source. A value has `length` words: the first `filled` follow
 // from the seed, the others are 0; a table of classes follows from the seed. A restart's run makes up to `most` steps. `short` tells which
 // slice is lent a word short: 1 the anchor, 2 pages, 3 backups, 4 logs, 5 work; 0 for none.
-#[derive(Drop)]
+#[derive(Clone, Copy)]
 pub struct Call {
     pub kind: Kind,
     pub class: u8,

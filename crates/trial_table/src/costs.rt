@@ -53,7 +53,7 @@ fn steps_of(shape: Shape, call: Call, book: &[u64]) -> u64 {
 }
 
 // A transaction's place and its disk; for 0 the first free place.
-#[derive(Drop)]
+#[derive(Clone, Copy)]
 struct Seat {
     place: u64,
     disk: u64,

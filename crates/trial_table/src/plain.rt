@@ -6,7 +6,7 @@ use crate::{classes, logs, write_sets};
 
 // Stages are 0 shut, 1 replaying, 2 open, 3 copying. `next` is the number that a begin answers, `epoch` 01's c, `copied` the pages that
 // the checkpoint under way has copied, `entries` the entries of all write sets.
-#[derive(Drop)]
+#[derive(Clone, Copy)]
 pub struct Plain {
     pub stage: u64,
     pub next: u64,

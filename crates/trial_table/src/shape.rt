@@ -2,7 +2,7 @@
 // four kinds in turn, of 32 one-word, 8 four-word, one 32-word and 5 three-word slots.
 use crate::words::{put, sum, times};
 
-#[derive(Drop)]
+#[derive(Clone, Copy)]
 pub struct Shape {
     pub pages: u64,
     pub disks: u64,

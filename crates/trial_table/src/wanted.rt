@@ -5,7 +5,7 @@ use crate::words::less;
 use model::Answer;
 
 // The number, the value, and the budget that is left.
-#[derive(Drop)]
+#[derive(Clone, Copy)]
 pub struct Wanted {
     pub number: u64,
     value: u64,
