@@ -1,0 +1,17 @@
+-- `classes::kept::line_for` meets its contract: no line before i covers the class. Assumes nothing.
+use Prim.Native.Nat.{ℕ, ◌-◌, ◌≤◌, ◌<◌}
+use mathlib.Core.Path.{◌≡◌, sym, ◌∙◌}
+use mathlib.Core.Bool.{false}
+use native.Mathlib.Omega.{arith}
+use borrow.Author.Rules.{rules}
+use borrow.Author.Count.{below_none, below_more}
+use lib.ListN.{get_or}
+use Rattle.model.specs.Below.{within}
+use Rattle.model.proofs.Below.{first_unique, first_none}
+use Rattle.classes.proofs.kept.line_for.Given as goal
+
+abbrev pub invariant-loop-i : goal.invariant-loop-i
+invariant-loop-i l = (l.i ≤ 16) × ((k : ℕ) → k < l.i → within (get_or l.lows k 0) (get_or l.highs k 0) l.class ≡ false)
+
+abbrev pub decreases-loop-i : goal.decreases-loop-i
+decreases-loop-i l = 16 - l.i

@@ -1,0 +1,35 @@
+-- `classes::lines::times_covered` meets its contract: the sum over the lines before i. Assumes nothing.
+use Prim.Native.Nat.{◌+◌, ◌/◌, ◌-◌, ◌≤◌}
+use mathlib.Core.Path.{◌≡◌, refl, ◌∙◌}
+use mathlib.Core.Bool.{cond}
+use mathlib.Core.Logic.{⊎_elim}
+use native.Mathlib.Omega.{arith}
+use borrow.Author.Rules.{rules}
+use lib.ListN.{length}
+use Rattle.model.specs.Below.{within, sum_below}
+use Rattle.model.specs.Classes.{low_at, high_at, line_count, times_covered}
+use Rattle.classes.proofs.Tables.{covered_more}
+use Rattle.classes.proofs.lines.times_covered.Goals as goal
+
+pub loop-i-init : goal.loop-i-init
+unfolding sum_below
+loop-i-init c = (search rules, search rules, refl)
+
+pub loop-i-preserved : goal.loop-i-preserved
+unfolding low_at high_at
+loop-i-preserved c =
+    let s = c.args in
+    let l = c.loop-i in
+    let grown : c.if-covers.times ≡ l.times + cond c.covers.result 1 0 =
+    ⊎_elim (λ w. rw w.0.taken w.1) (λ w. rw w.0.left (omega arith)) c.if-covers.branch in (
+      omega arith,
+      ⊎_elim (λ w. omega arith) (λ w. omega arith) c.if-covers.branch,
+      grown ∙ covered_more s.lines.now s.class l.i l.times l.invariant.2 c.covers.ensures,
+    )
+
+pub returns : goal.returns
+unfolding times_covered line_count
+returns c =
+    let l = c.loop-i in
+    let last : l.i ≡ length c.args.lines.now / 3 = omega arith in
+    rw last at l.invariant.2

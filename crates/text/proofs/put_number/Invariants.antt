@@ -1,0 +1,17 @@
+-- `text::put_number` meets its contract: the digits still to put stand in front of those that are there.
+use native.Mathlib.Omega.{arith}
+use borrow.Author.Rules.{rules}
+use mathlib.Core.Path.{◌≡◌, refl, sym, ◌∙◌}
+use Prim.Native.Nat.{◌-◌, ◌≤◌}
+use mathlib.Core.List.{◌++◌}
+use lib.ListN.{length, drop, length-set}
+use Rattle.model.specs.Text.{last_digits}
+use Rattle.text.proofs.Putting.{put_ends, digit_last, digit_more, digits_none}
+use Rattle.text.proofs.put_number.Given as goal
+
+abbrev pub invariant-loop-i : goal.invariant-loop-i
+invariant-loop-i l = (l.least ≤ l.i) × (l.i ≤ l.end) × (length l.out ≡ length l.initial.out)
+    × (last_digits (l.i - l.least) l.rest ++ drop l.i l.out ≡ last_digits l.most l.n ++ drop l.end l.initial.out)
+
+abbrev pub decreases-loop-i : goal.decreases-loop-i
+decreases-loop-i l = l.i - l.least

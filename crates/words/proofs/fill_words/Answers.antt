@@ -1,0 +1,28 @@
+-- `words::fill_words` meets its contract: after i turns the first i words are the value. Assumes nothing.
+use mathlib.Core.Path.{◌≡◌, refl}
+use Prim.Native.Nat.{◌-◌, ◌≤◌}
+use native.Mathlib.Omega.{arith}
+use lib.ListN.{replicate}
+use lib.Seq.{sets, length-sets}
+use Rattle.words.proofs.Laws.{fill_more}
+use Rattle.words.proofs.fill_words.Goals as goal
+
+pub loop-i-init : goal.loop-i-init
+loop-i-init c = (omega arith, refl)
+
+pub bounds-target-at : goal.bounds-target-at
+bounds-target-at c = rw (c.loop-i.invariant.1, length-sets) (omega arith)
+
+pub loop-i-preserved : goal.loop-i-preserved
+loop-i-preserved c =
+    let s = c.args in
+    let l = c.loop-i in
+    (omega arith, rw l.invariant.1 (fill_more s.target.now s.at s.value l.i))
+
+pub shape_of-target : goal.shape_of-target
+shape_of-target c = rw (c.loop-i.invariant.1, length-sets)
+
+pub returns : goal.returns
+returns c =
+    let e : c.loop-i.i ≡ c.args.n = omega arith in
+    rw (← e) c.loop-i.invariant.1

@@ -1,0 +1,14 @@
+-- `words::fill_words` meets its contract: after i turns the first i words are the value. Assumes nothing.
+use mathlib.Core.Path.{◌≡◌, refl}
+use Prim.Native.Nat.{◌-◌, ◌≤◌}
+use native.Mathlib.Omega.{arith}
+use lib.ListN.{replicate}
+use lib.Seq.{sets, length-sets}
+use Rattle.words.proofs.Laws.{fill_more}
+use Rattle.words.proofs.fill_words.Given as goal
+
+abbrev pub invariant-loop-i : goal.invariant-loop-i
+invariant-loop-i l = (l.i ≤ l.n) × (l.target ≡ sets l.initial.target l.at (replicate l.i l.value))
+
+abbrev pub decreases-loop-i : goal.decreases-loop-i
+decreases-loop-i l = l.n - l.i
