@@ -5,15 +5,11 @@ use native.Mathlib.Omega.{arith}
 use native.Mathlib.Nat.{mul-le-mul_right}
 use borrow.Author.Rules.{rules}
 use Rattle.model.specs.Sizes.{disk_at}
-use Rattle.layout.proofs.disks.disk_at.Statement.{statement}
-use Rattle.layout.proofs.disks.disk_at.Tie as tie
+use Rattle.layout.proofs.disks.disk_at.Goals as goal
 
-mul-result : tie.Need-overflow-mul-result
-mul-result c = omega (arith, mul-le-mul_right (c.args.ring + 1) c.requires.0)
+pub overflow_mul-result : goal.overflow_mul-result
+overflow_mul-result c = omega (arith, mul-le-mul_right (c.args.ring + 1) c.requires.0)
 
-returns : tie.Need-returns
+pub returns : goal.returns
 unfolding disk_at
 returns c = (λ s same. rw same refl, omega (arith, mul-le-mul_right (c.args.ring + 1) c.requires.0))
-
-pub disk-at-spec : {M : Type 1} → statement M
-disk-at-spec = tie.close (tie.spec (λ c. search rules) mul-result returns)

@@ -1,0 +1,20 @@
+-- The loop's invariant: the sum is that of the pages passed, each below 2^16.
+use Prim.Native.Nat.{◌*◌, ◌-◌, ◌≤◌}
+use mathlib.Core.Path.{◌≡◌}
+use native.Mathlib.Omega.{arith}
+use borrow.Author.Rules.{rules}
+use lib.ListN.{get_or}
+use Rattle.model.specs.Below.{sum_below}
+use Rattle.model.specs.Sizes.{slots_in, width_in, page_words, page_base}
+use Rattle.model.proofs.Below.{sum_step}
+use Rattle.layout.proofs.places.page_base.Goals as goal
+
+pub loop-i-preserved : goal.loop-i-preserved
+loop-i-preserved c =
+    (omega arith, omega arith, rw (sum_step, c.words_in_slots-words.ensures, c.loop-i.invariant.2))
+
+pub returns : goal.returns
+unfolding page_base page_words slots_in width_in
+returns c =
+    let last : c.loop-i.i ≡ c.args.page = omega arith in
+    (rw (← last) c.loop-i.invariant.2, omega arith)
