@@ -16,7 +16,7 @@ CRATE, NAMES = sys.argv[1], sys.argv[2]
 ONLY = set(sys.argv[3:])
 HERE = os.path.join("crates", CRATE)
 OPEN, CLOSE = "([{", ")]}"
-TRIVIAL = re.compile(r"\(?λ c( κs)?\. (search rules|omega arith|tt|refl)\)?$")
+TRIVIAL = re.compile(r"\(?λ c( κs)?\. (search rules|omega arith)\)?$")
 
 
 def read(p):
@@ -138,16 +138,13 @@ class Fn:
         self.places = {p[0]: p for p in j["places"]}
         self.order = [p[0] for p in j["places"]]
         self.said = []
+        name = path.split(".")[-1]
+        src = "".join(read(os.path.join(HERE, "src", n)) for n in sorted(os.listdir(os.path.join(HERE, "src"))) if n.endswith(".rt"))
+        m = re.search(rf"\bfn {name}(?:<[^(]*>)?\((.*?)\)(?: ->|\s*\n| \{{)", src, re.S)
+        self.params = re.findall(r"(\w+): ", m[1]) if m else []
 
     def say(self, it):
         self.said.append(it)
-
-    def up(self, place, n):
-        for _ in range(n):
-            if place is None or place not in self.places:
-                return None
-            place = self.places[place][1]
-        return place
 
     def chain(self, place):
         while place is not None and place in self.places:
@@ -157,13 +154,31 @@ class Fn:
     def step(self, place):
         return self.places[place][2]
 
-    def fixed(self, place, need_place, fields):
-        """`c` at place with the projections fields, in today's names."""
+    def found(self, need_place, n, field):
+        """The place that has a field: the one of that name that is nearest to the n-th before the need's, else that one."""
+        row = [q for q in self.chain(need_place) if not self.step(q)[0].startswith("way_told") and q != "Untold"]
+        if field in ("args", "requires", "ranges"):
+            return "Start"
+        alike = [i for i, q in enumerate(row) if norm(self.step(q)[0]) == norm(field)]
+        if not alike:
+            alike = [i for i, q in enumerate(row) if norm(re.sub(r"\d+$", "", self.step(q)[0])) == norm(re.sub(r"\d+$", "", field))]
+        if alike:
+            return row[min(alike, key=lambda i: abs(i - n))]
+        return row[n] if n < len(row) else None
+
+    def fixed(self, need_place, n, fields):
+        """`c` n places back with the projections fields, in today's names."""
         if not fields:
             return "c"
         f, rest = fields[0], fields[1:]
-        if place == "Start" or self.places.get(place, [0, None])[1] is None:
-            if f in ("requires",):
+        place = self.found(need_place, n, f)
+        if place is None:
+            self.say(f"no place {n} before {need_place} for {'.'.join(fields)}")
+            return ".".join(["c"] + fields)
+        if place == "Start":
+            if f == "args" and rest and re.match(r"t\d+$", rest[0]) and self.params:
+                rest = [self.params[int(rest[0][1:]) - 1]] + rest[1:] if int(rest[0][1:]) <= len(self.params) else rest
+            if f == "requires":
                 names = (self.j["pre"] or {}).get("fields") or []
                 if len(names) > 1:
                     i, used = projected(rest, len(names))
@@ -171,20 +186,22 @@ class Fn:
                         return ".".join(["c", "requires", names[i]] + rest[used:])
             return ".".join(["c", f] + rest)
         if rest[:1] == ["given"]:
-            k = self.order.index(need_place)
-            for name, old in self.j["typed"][k]:
-                if norm(old) == norm(f):
-                    return ".".join(["c", "type_inv", name] + rest[1:])
-            for q in self.chain(need_place):
-                for name, old in self.j["typed"][self.order.index(q)]:
+            rows = [self.j["typed"][self.order.index(q)] for q in self.chain(need_place)]
+            for row in rows:
+                for name, old in row:
                     if norm(old) == norm(f):
                         return ".".join(["c", "type_inv", name] + rest[1:])
+            old = self.step(place)[0]
+            for row in rows:
+                for name, it in row:
+                    if it == old:
+                        return ".".join(["c", "type_inv", name] + rest[1:])
+            self.say(f"no type_inv for {'.'.join(fields)}")
             return ".".join(["c", self.step(place)[1]] + rest)
         new = self.step(place)[1]
-        if rest[:1] == ["ensures"] or rest[:1] == ["requires"]:
-            callee = f.replace("-", "_")
-            names = ENSURES.get(re.sub(r"\d+$", "", callee)) or ENSURES.get(callee)
-            if names and rest[0] == "ensures":
+        if rest[:1] == ["ensures"]:
+            names = ENSURES.get(re.sub(r"\d+$", "", f.replace("-", "_")))
+            if names:
                 i, used = projected(rest[1:], len(names))
                 if i is not None and names[i]:
                     return ".".join(["c", new, "ensures", names[i]] + rest[1 + used:])
@@ -206,11 +223,11 @@ class Fn:
         """The body of an answer at a place, with its paths in today's names."""
         aliases = {}
         # a test of `!x` says what x is
-        body = re.sub(r"not-(?:true|false) _ (?=c[.])", "", body)
+        body = re.sub(r"not-(?:true|false) \S+ (?=(?:\(rw [^()]*(?:\([^()]*\)[^()]*)* at )?[\w'.-]+\.(?:true|false)(?![\w-]))", "", body)
 
         def let(m):
             n = m[3].count(".before")
-            aliases[m[1]] = self.up(place if m[2] == "c" else aliases[m[2]], n)
+            aliases[m[1]] = n + (0 if m[2] == "c" else aliases[m[2]])
             return ""
 
         was = None
@@ -220,19 +237,13 @@ class Fn:
             body = re.sub(rf"let ([\w'₀-₉-]+) = ({heads})((?:\.before)*) in\s*", let, body, count=1)
 
         def one(m):
-            word = m[0]
-            head, *rest = word.split(".")
-            at = place if head == "c" else aliases.get(head)
+            head, *rest = m[0].split(".")
             if head != "c" and head not in aliases:
-                return word
+                return m[0]
             n = 0
             while n < len(rest) and rest[n] == "before":
                 n += 1
-            at2 = self.up(at, n)
-            if at2 is None:
-                self.say(f"no place {n} before {at} for {word}")
-                return word
-            return self.fixed(at2, place, rest[n:])
+            return self.fixed(place, n + (0 if head == "c" else aliases[head]), rest[n:])
 
         names = "|".join(["c"] + [re.escape(a) for a in aliases])
         return re.sub(rf"(?<![\w.'-])(?:{names})(?:\.[\w'₀-₉-]+)*(?![\w'-])", one, body)
@@ -256,7 +267,7 @@ def convert(path):
         if not g2:
             head += g
             continue
-        if g2[0].startswith("use ") or g2[0].startswith("pub use"):
+        if g2[0].startswith(("use ", "pub use ")):
             head += [l for l in g if l.lstrip().startswith("--")]
             uses += [l for l in g2 if not re.search(r"\.(Statement|Tie|Lts)\b", l)]
             if any(".Lts" in l for l in g2):
@@ -355,7 +366,7 @@ def convert(path):
         if a in by_name:
             d = by_name[a]
             first = "\n".join(d["body"])
-            if re.match(re.escape(a) + r" c( κs)? =\s*(search rules|omega arith)$", first):
+            if not d["unf"] and re.match(re.escape(a) + r" c( κs)? =\s*(search rules|omega arith)$", first):
                 continue
             if len(re.findall(rf"(?m)^{re.escape(a)}(?=\s)", first)) != 1:
                 fn.say(f"{a} has several clauses")

@@ -10,6 +10,7 @@ use Rattle.model.specs.Below.{within, sum_below}
 use Rattle.model.specs.Classes.{low_at, high_at, line_count, times_covered}
 use Rattle.classes.proofs.Tables.{covered_more}
 use Rattle.classes.proofs.lines.times_covered.Goals as goal
+use Rattle.classes.proofs.lines.times_covered.Goals.{then-covers, else-covers}
 
 pub loop-i-init : goal.loop-i-init
 unfolding sum_below
@@ -21,9 +22,9 @@ loop-i-preserved c =
     let s = c.args in
     let l = c.loop-i in
     let grown : c.if-covers.times ≡ l.times + cond c.covers.result 1 0 =
-    ⊎_elim (λ w. rw w.0.taken w.1) (λ w. rw w.0.left (omega arith)) c.if-covers.branch in (
+    elim c.if-covers.branch [ then-covers w ↦ rw w.if-covers.true w.times-is | else-covers w ↦ rw w.if-covers.false (omega arith) ] in (
       omega arith,
-      ⊎_elim (λ w. omega arith) (λ w. omega arith) c.if-covers.branch,
+      elim c.if-covers.branch [ then-covers w ↦ omega arith | else-covers w ↦ omega arith ],
       grown ∙ covered_more s.lines.now s.class l.i l.times l.invariant.2 c.covers.ensures,
     )
 
