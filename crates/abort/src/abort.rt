@@ -2,7 +2,6 @@
 ghost use Rattle.std.specs.Prelude.{◌≡◌, List, ℕ, ◌≤◌, ◌<◌, length};
 ghost use Rattle.model.specs.Scan.{scan, updates_in};
 ghost use Rattle.model.specs.World.{world_of};
-ghost use Rattle.model.specs.Moments.{old, new, old_world};
 ghost use Rattle.model.specs.State.{places, end_of};
 ghost use Rattle.model.specs.Call.{abort};
 ghost use Rattle.model.specs.View.{head_words, Serves};
@@ -71,7 +70,7 @@ fn roll_back(
 // The place is free; `fill` words are buffered on its disk, and `sum` words stay reserved.
 fn close_place(work: &mut [u64], place: usize, disk: usize, fill: u64, sum: u64)
     requires { (place < places) × (disk < 8) × (head_words ≤ length work.old) }
-    ensures { new work ≡ put_words (closed place disk fill sum) (old work) }
+    ensures { work.new ≡ put_words (closed place disk fill sum) work.old }
 {
     set_fill(work, disk, fill);
     leave(work, place, disk, sum);
@@ -87,8 +86,8 @@ pub fn abort(
     work: &mut [u64],
     budget: &mut u64,
 ) -> Handed
-    ensures { Serves (abort number (old budget)) carried (old_world anchor pages backups logs work)
-        result (new budget) (world_of (old anchor) (new pages) (old backups) (new logs) (new work)) }
+    ensures { Serves (abort number budget.old) carried (world_of anchor.now pages.old backups.now logs.old work.old)
+        result budget.new (world_of anchor.now pages.new backups.now logs.new work.new) }
 {
     let stage = carried.stage;
     let refusal = lent_refusal(

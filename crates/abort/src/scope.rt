@@ -1,7 +1,6 @@
 // What an abort reads of the head: its transaction's entry, the log that it reads, and the sizes; all that row 1 tests of them.
 ghost use Rattle.std.specs.Prelude.{◌≡◌, true, not, ◌||◌, ◌+◌, ◌-◌, ◌≤◌, leb, ltb, length};
 ghost use Rattle.model.specs.declared.Carried.{Carried};
-ghost use Rattle.model.specs.Moments.{old};
 ghost use Rattle.model.specs.State.{limit};
 ghost use Rattle.model.specs.View.{head_words, own_work, core_of};
 ghost use Rattle.abort.specs.Scope.{OfState, scope_in, Read};
@@ -99,8 +98,8 @@ pub fn find_scope(
     number: u64,
 ) -> Target
     requires { (disks ≤ 8) × (head_words ≤ length work.now) × OfState work.now disks tails }
-    ensures { (h : Carried) → own_work h (old work) ≡ true → h.pages ≡ pages → h.disks ≡ disks → h.ring ≡ ring → h.total ≡ total
-        → h.tails ≡ tails → Read (core_of h (old work)) number result }
+    ensures { (h : Carried) → own_work h work.now ≡ true → h.pages ≡ pages → h.disks ≡ disks → h.ring ≡ ring → h.total ≡ total
+        → h.tails ≡ tails → Read (core_of h work.now) number result }
 {
     let entry = find_entry(work, disks, &tails, number);
     if entry.refusal != 0 {

@@ -1,7 +1,7 @@
 // What an update reads before it stores: its rows, the slot, its transaction and that one's disk.
 ghost use Rattle.std.specs.Prelude.{◌≡◌, true, cond, not, ◌&&◌, ◌+◌, ◌*◌, ◌≤◌, ◌<◌, ltb, eqb, length, get_or, drop};
+ghost use Rattle.model.specs.World.{world_of};
 ghost use Rattle.model.specs.declared.Carried.{Carried};
-ghost use Rattle.model.specs.Moments.{old, old_world};
 ghost use Rattle.model.specs.Anchor.{anchor_words};
 ghost use Rattle.model.specs.Record.{words_of, update_kind};
 ghost use Rattle.model.specs.Memory.{buffer_at, owner_of};
@@ -92,9 +92,9 @@ fn late_refusal(
 ) -> u64
     requires disks_bound { (disks ≤ 8) × (found.at < 8192) × (found.width ≤ 32) × (head_words + (buffer_at disks + 64 + found.at) < length work.now) }
     requires sum_bound { entry.tail + entry.fill + entry.sum ≤ limit }
-    ensures { (h : Carried) → own_work h (old work) ≡ true → h.disks ≡ disks
-        → result ≡ cond (in_table (core_of h (old work)).table (owner_of (core_of h (old work)).sizes (drop head_words (old work)) found.at)
-        && not (eqb (owner_of (core_of h (old work)).sizes (drop head_words (old work)) found.at) number)) 11
+    ensures { (h : Carried) → own_work h work.now ≡ true → h.disks ≡ disks
+        → result ≡ cond (in_table (core_of h work.now).table (owner_of (core_of h work.now).sizes (drop head_words work.now) found.at)
+        && not (eqb (owner_of (core_of h work.now).sizes (drop head_words work.now) found.at) number)) 11
         (cond (room_for start (entry.tail + entry.fill) entry.sum ring (2 * words_of update_kind found.width)) 0 14) }
 {
     if is_locked(work, disks, found.at, number) {
@@ -119,7 +119,7 @@ fn first_position(reserved: u64, first: u64, end: u64) -> u64
 fn make_plan(found: Slot, entry: Entry, work: &[u64], disks: u64, page: u64) -> Plan
     requires disks_bound { (disks ≤ 8) × (page < 64) × (found.at < 8192) × (found.width ≤ 32) × (head_words + (buffer_at disks + 64 + found.at) < length work.now) }
     requires place_bound { (entry.place < 16) × (entry.reserved ≤ entry.sum) × (entry.tail + entry.fill + entry.sum ≤ limit) }
-    ensures { result ≡ plan_of found entry (buffer_at disks + 64 + found.at) (get_or (old work) (head_words + (buffer_at disks + page)) 0) (get_or (old work) (head_firsts + entry.place) 0) }
+    ensures { result ≡ plan_of found entry (buffer_at disks + 64 + found.at) (get_or work.now (head_words + (buffer_at disks + page)) 0) (get_or work.now (head_firsts + entry.place) 0) }
 {
     let place = entry.place;
     let first = first_position(
@@ -163,7 +163,7 @@ pub fn plan_update(
     work: &[u64],
 ) -> Plan
     ensures { (h : Carried) → Told h stage count disks ring total → h.starts ≡ starts → h.tails ≡ tails
-        → Planned h (old_world anchor pages backups logs work) number page slot width result }
+        → Planned h (world_of anchor.now pages.now backups.now logs.now work.now) number page slot width result }
 {
     let first = lent_refusal(
         stage,

@@ -1,7 +1,7 @@
 // Read: the slot's words as a part of the page memory, and the companion call for the number.
 ghost use Rattle.std.specs.Prelude.{◌≡◌, ◌≤◌};
+ghost use Rattle.model.specs.World.{world_of};
 ghost use Rattle.model.specs.declared.Carried.{Carried};
-ghost use Rattle.model.specs.Moments.{old, old_world};
 ghost use Rattle.model.specs.Transaction.{read_words};
 ghost use Rattle.model.specs.Call.{read, look};
 ghost use Rattle.model.specs.View.{core_of, body_of, Serves};
@@ -29,7 +29,7 @@ fn readable(
     work: &[u64],
 ) -> Slot
     ensures { (h : Carried) → Told h stage count disks ring total
-        → Readable h (old_world anchor pages backups logs work) reader page slot result }
+        → Readable h (world_of anchor.now pages.now backups.now logs.now work.now) reader page slot result }
 {
     let first = lent_refusal(
         stage,
@@ -76,8 +76,8 @@ pub fn read_answer(
     logs: &[u64],
     work: &[u64],
 ) -> Answer
-    ensures { Serves (look (read reader page slot)) carried (old_world anchor pages backups logs work)
-        (record { answer = result; carried = carried }) 0 (old_world anchor pages backups logs work) }
+    ensures { Serves (look (read reader page slot)) carried (world_of anchor.now pages.now backups.now logs.now work.now)
+        (record { answer = result; carried = carried }) 0 (world_of anchor.now pages.now backups.now logs.now work.now) }
 {
     let stage = carried.stage;
     let found = readable(
@@ -120,7 +120,7 @@ pub fn read<'a>(
     logs: &[u64],
     work: &[u64],
 ) -> &'a [u64]
-    ensures { result.now ≡ read_words (core_of carried (old work)) (body_of (old_world anchor pages backups logs work)) reader page slot }
+    ensures { result.now ≡ read_words (core_of carried work.now) (body_of (world_of anchor.now pages.now backups.now logs.now work.now)) reader page slot }
 {
     let stage = carried.stage;
     let found = readable(

@@ -1,7 +1,6 @@
 // A slot: whether it is there and where it lies, by the head of the work memory; and who holds it.
 ghost use Rattle.std.specs.Prelude.{◌≡◌, true, not, ◌&&◌, ℕ, ◌+◌, ◌*◌, ◌≤◌, ◌<◌, eqb, length, drop};
 ghost use Rattle.model.specs.declared.Carried.{Carried};
-ghost use Rattle.model.specs.Moments.{old};
 ghost use Rattle.model.specs.Word.{part};
 ghost use Rattle.model.specs.Memory.{buffer_at, owner_of};
 ghost use Rattle.model.specs.State.{in_table};
@@ -59,8 +58,8 @@ fn page_fits(slots: u64, width: u64, base: u64, total: u64) -> bool
 // Row 8, and what row 1 asks of the page of a slot that is there; P and T are the state's.
 pub fn find_slot(work: &[u64], pages: u64, total: u64, page: u64, slot: u64) -> Slot
     requires { (pages ≤ 64) × (total ≤ 8192) × (head_words ≤ length work.now) }
-    ensures { (h : Carried) → own_work h (old work) ≡ true → h.pages ≡ pages → h.total ≡ total
-        → Finds (core_of h (old work)) page slot result }
+    ensures { (h : Carried) → own_work h work.now ≡ true → h.pages ≡ pages → h.total ≡ total
+        → Finds (core_of h work.now) page slot result }
 {
     if page >= pages {
         return no_slot(8);
@@ -85,9 +84,9 @@ pub fn find_slot(work: &[u64], pages: u64, total: u64, page: u64, slot: u64) -> 
 // Held by a transaction other than this one; D is the state's.
 pub fn is_locked(work: &[u64], disks: u64, at: usize, number: u64) -> bool
     requires { (disks ≤ 8) × (at < 8192) × (head_words + (buffer_at disks + 64 + at) < length work.now) }
-    ensures { (h : Carried) → own_work h (old work) ≡ true → h.disks ≡ disks
-        → result ≡ (in_table (core_of h (old work)).table (owner_of (core_of h (old work)).sizes (drop head_words (old work)) at)
-        && not (eqb (owner_of (core_of h (old work)).sizes (drop head_words (old work)) at) number)) }
+    ensures { (h : Carried) → own_work h work.now ≡ true → h.disks ≡ disks
+        → result ≡ (in_table (core_of h work.now).table (owner_of (core_of h work.now).sizes (drop head_words work.now) at)
+        && not (eqb (owner_of (core_of h work.now).sizes (drop head_words work.now) at) number)) }
 {
     let owner = work[HEAD_WORDS + owner_place(disks, at)];
     if owner == number {
@@ -99,7 +98,7 @@ pub fn is_locked(work: &[u64], disks: u64, at: usize, number: u64) -> bool
 // A reader with a number that is not open; reader 0 has no transaction.
 pub fn reader_missing(work: &[u64], reader: u64) -> bool
     requires { head_words ≤ length work.now }
-    ensures { (h : Carried) → own_work h (old work) ≡ true → result ≡ reader_not_open (core_of h (old work)) reader }
+    ensures { (h : Carried) → own_work h work.now ≡ true → result ≡ reader_not_open (core_of h work.now) reader }
 {
     if reader == 0 {
         return false;

@@ -1,7 +1,6 @@
 // Update: its checks, then the change.
 ghost use Rattle.std.specs.Prelude.{◌≡◌, ◌≤◌, ◌<◌, length};
 ghost use Rattle.model.specs.World.{world_of};
-ghost use Rattle.model.specs.Moments.{old, new, old_world};
 ghost use Rattle.model.specs.Call.{update};
 ghost use Rattle.model.specs.View.{head_words, Serves};
 ghost use Rattle.model.specs.Fields.{put_words, entering, filling};
@@ -20,8 +19,8 @@ use words::saturating_sub;
 // The head after an update whose log then ends with so many buffered words.
 fn count_update(work: &mut [u64], plan: Plan, number: u64, fill: u64)
     requires { (plan.place < 16) × (plan.disk < 8) × (head_words ≤ length work.old) }
-    ensures { new work ≡ put_words (filling plan.disk fill)
-        (put_words (entering plan.place number plan.disk plan.first plan.reserved plan.sum) (old work)) }
+    ensures { work.new ≡ put_words (filling plan.disk fill)
+        (put_words (entering plan.place number plan.disk plan.first plan.reserved plan.sum) work.old) }
 {
     let disk = plan.disk as usize;
     enter(
@@ -49,8 +48,8 @@ pub fn update(
     work: &mut [u64],
     budget: &mut u64,
 ) -> Handed
-    ensures { Serves (update number page slot (old value) (old budget)) carried (old_world anchor pages backups logs work)
-        result (new budget) (world_of (old anchor) (new pages) (old backups) (new logs) (new work)) }
+    ensures { Serves (update number page slot value.now budget.old) carried (world_of anchor.now pages.old backups.now logs.old work.old)
+        result budget.new (world_of anchor.now pages.new backups.now logs.new work.new) }
 {
     let stage = carried.stage;
     let starts = carried.starts;

@@ -1,7 +1,6 @@
 // Checkpoint begin: each disk's end is remembered, and no page is copied yet.
 ghost use Rattle.std.specs.Prelude.{◌≡◌, true};
-ghost use Rattle.model.specs.World.{World};
-ghost use Rattle.model.specs.Moments.{old_world};
+ghost use Rattle.model.specs.World.{world_of, World};
 ghost use Rattle.model.specs.State.{serving_sound};
 ghost use Rattle.model.specs.Checkpoint.{checkpoint_begin_task};
 ghost use Rattle.model.specs.Call.{checkpoint_begin, Gives};
@@ -34,8 +33,8 @@ pub fn begin(
     logs: &[u64],
     work: &[u64],
 ) -> Reply
-    ensures { Gives checkpoint_begin core (old_world anchor pages backups logs work)
-        result 0 (old_world anchor pages backups logs work) }
+    ensures { Gives checkpoint_begin core (world_of anchor.now pages.now backups.now logs.now work.now)
+        result 0 (world_of anchor.now pages.now backups.now logs.now work.now) }
 {
     let refusal = common_refusal(When::Open, core, anchor, pages, backups, logs, work);
     if refusal != 0 {

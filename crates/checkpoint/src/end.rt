@@ -1,7 +1,6 @@
 // Checkpoint end: the disks are flushed, the new starts go to the other row, and the checkpoint's number makes it current.
 ghost use Rattle.std.specs.Prelude.{◌≡◌, true, List, ℕ, ◌<◌};
 ghost use Rattle.model.specs.World.{World, world_of};
-ghost use Rattle.model.specs.Moments.{old, new, old_world};
 ghost use Rattle.model.specs.State.{limit, serving_sound};
 ghost use Rattle.model.specs.Checkpoint.{per_disk, new_start, checkpoint_end_task};
 ghost use Rattle.model.specs.Call.{checkpoint_end, Gives};
@@ -88,8 +87,8 @@ pub fn end(
     work: &[u64],
     budget: &mut u64,
 ) -> Reply
-    ensures { Gives (checkpoint_end (old budget)) core (old_world anchor pages backups logs work)
-        result (new budget) (world_of (new anchor) (old pages) (old backups) (new logs) (old work)) }
+    ensures { Gives (checkpoint_end budget.old) core (world_of anchor.old pages.now backups.now logs.old work.now)
+        result budget.new (world_of anchor.new pages.now backups.now logs.new work.now) }
 {
     let refusal = common_refusal(When::Copying, core, anchor, pages, backups, logs, work);
     if refusal != 0 {

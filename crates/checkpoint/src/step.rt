@@ -1,7 +1,6 @@
 // Checkpoint step: the lowest page not yet copied goes whole to the other backup and takes the checkpoint's number.
 ghost use Rattle.std.specs.Prelude.{List, ℕ};
 ghost use Rattle.model.specs.World.{world_of};
-ghost use Rattle.model.specs.Moments.{old, new, old_world};
 ghost use Rattle.model.specs.Checkpoint.{checkpoint_step_task};
 ghost use Rattle.model.specs.Call.{checkpoint_step, Gives};
 ghost use Rattle.frame.specs.Settle.{Concludes};
@@ -58,8 +57,8 @@ pub fn step(
     work: &mut [u64],
     budget: &mut u64,
 ) -> Reply
-    ensures { Gives (checkpoint_step (old budget)) core (old_world anchor pages backups logs work)
-        result (new budget) (world_of (old anchor) (old pages) (new backups) (old logs) (new work)) }
+    ensures { Gives (checkpoint_step budget.old) core (world_of anchor.now pages.now backups.old logs.now work.old)
+        result budget.new (world_of anchor.now pages.now backups.new logs.now work.new) }
 {
     let refusal = common_refusal(When::Copying, core, anchor, pages, backups, logs, work);
     if refusal != 0 {

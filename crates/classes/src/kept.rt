@@ -1,6 +1,5 @@
 // A table as it is kept by value, and what it says of a class.
 ghost use Rattle.std.specs.Prelude.{◌≡◌, ℕ, ◌+◌, ◌*◌, ◌<◌, ◌≤◌, get_or};
-ghost use Rattle.model.specs.Moments.{old};
 ghost use Rattle.model.specs.Below.{within, list_below, first_below};
 ghost use Rattle.model.specs.Classes.{max_lines, in_set, classes_of, set_for};
 
@@ -10,7 +9,7 @@ use model::Classes;
 // The word at a place, or 0 past the end.
 fn byte_at(lines: &[u64], at: usize) -> u8
     requires { get_or lines.now at 0 < 256 }
-    ensures { result ≡ get_or (old lines) at 0 }
+    ensures { result ≡ get_or lines.now at 0 }
 {
     if at < lines.len() { lines[at] as u8 } else { 0 }
 }
@@ -18,7 +17,7 @@ fn byte_at(lines: &[u64], at: usize) -> u8
 // The same word of each line.
 fn column(lines: &[u64], word: usize) -> [u8; 16]
     requires { (word < 3) × ((i : ℕ) → get_or lines.now i 0 < 256) }
-    ensures { result ≡ list_below (λ i. get_or (old lines) (3 * i + word) 0) max_lines }
+    ensures { result ≡ list_below (λ i. get_or lines.now (3 * i + word) 0) max_lines }
 {
     let mut out = [0u8; 16];
     let mut i: usize = 0;
@@ -31,7 +30,7 @@ fn column(lines: &[u64], word: usize) -> [u8; 16]
 
 pub fn classes_of(lines: &[u64]) -> Classes
     requires { (i : ℕ) → get_or lines.now i 0 < 256 }
-    ensures { result ≡ classes_of (old lines) }
+    ensures { result ≡ classes_of lines.now }
 {
     let lows = column(lines, 0);
     let highs = column(lines, 1);

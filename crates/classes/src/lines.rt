@@ -1,11 +1,10 @@
 // The checks of a table as it is lent: lowest class, highest class and set of disks, three words a line.
 ghost use Rattle.std.specs.Prelude.{◌≡◌, ◌≤◌};
-ghost use Rattle.model.specs.Moments.{old};
 ghost use Rattle.model.specs.Below.{within};
 ghost use Rattle.model.specs.Classes.{line_count, not_atable, line_wrong, wrong_line, times_covered, uncovered_class, twice_covered};
 
 pub fn not_a_table(lines: &[u64]) -> bool
-    ensures { result ≡ not_atable (old lines) }
+    ensures { result ≡ not_atable lines.now }
 {
     let len = lines.len();
     if len % 3 != 0 {
@@ -18,7 +17,7 @@ pub fn not_a_table(lines: &[u64]) -> bool
 }
 
 pub fn line_count(lines: &[u64]) -> usize
-    ensures { result ≡ line_count (old lines) }
+    ensures { result ≡ line_count lines.now }
 {
     lines.len() / 3
 }
@@ -42,7 +41,7 @@ fn line_wrong(disks: u64, low: u64, high: u64, set: u64) -> bool
 // The first line that is wrong, or how many lines there are.
 pub fn wrong_line(disks: u64, lines: &[u64]) -> usize
     requires { disks ≤ 8 }
-    ensures { result ≡ wrong_line disks (old lines) }
+    ensures { result ≡ wrong_line disks lines.now }
 {
     let count = lines.len() / 3;
     let mut i: usize = 0;
@@ -66,7 +65,7 @@ pub fn covers(low: u64, high: u64, class: u64) -> bool
 }
 
 fn times_covered(lines: &[u64], class: u64) -> u64
-    ensures { result ≡ times_covered (old lines) class }
+    ensures { result ≡ times_covered lines.now class }
 {
     let count = lines.len() / 3;
     let mut times: u64 = 0;
@@ -83,7 +82,7 @@ fn times_covered(lines: &[u64], class: u64) -> u64
 
 // The lowest class that no line covers, or 256.
 pub fn uncovered_class(lines: &[u64]) -> u64
-    ensures { result ≡ uncovered_class (old lines) }
+    ensures { result ≡ uncovered_class lines.now }
 {
     let mut class: u64 = 0;
     while class < 256 {
@@ -97,7 +96,7 @@ pub fn uncovered_class(lines: &[u64]) -> u64
 
 // The lowest class that two lines cover, or 256.
 pub fn twice_covered(lines: &[u64]) -> u64
-    ensures { result ≡ twice_covered (old lines) }
+    ensures { result ≡ twice_covered lines.now }
 {
     let mut class: u64 = 0;
     while class < 256 {

@@ -1,6 +1,5 @@
 // The three commands of a checkpoint.
 ghost use Rattle.model.specs.World.{world_of};
-ghost use Rattle.model.specs.Moments.{old, new, old_world};
 ghost use Rattle.lines.specs.declared.command.Command.TheVariants.{Mark, Copy, Close};
 ghost use Rattle.commands.specs.Meaning.{Runs};
 
@@ -15,8 +14,8 @@ pub fn run_mark(
     logs: &[u64],
     work: &mut [u64],
 ) -> Done
-    ensures { Runs Mark state.carried (old_world anchor pages backups logs work)
-        result (world_of (old anchor) (old pages) (old backups) (old logs) (new work)) }
+    ensures { Runs Mark state.carried (world_of anchor.now pages.now backups.now logs.now work.old)
+        result (world_of anchor.now pages.now backups.now logs.now work.new) }
 {
     let called = store::checkpoints::checkpoint_begin(state, anchor, pages, backups, logs, work);
     done_of(called, 0)
@@ -30,8 +29,8 @@ pub fn run_copy(
     logs: &[u64],
     work: &mut [u64],
 ) -> Done
-    ensures { Runs Copy state.carried (old_world anchor pages backups logs work)
-        result (world_of (old anchor) (old pages) (new backups) (old logs) (new work)) }
+    ensures { Runs Copy state.carried (world_of anchor.now pages.now backups.old logs.now work.old)
+        result (world_of anchor.now pages.now backups.new logs.now work.new) }
 {
     let mut budget = u64::MAX;
     let called = store::checkpoints::checkpoint_step(
@@ -54,8 +53,8 @@ pub fn run_close(
     logs: &mut [u64],
     work: &mut [u64],
 ) -> Done
-    ensures { Runs Close state.carried (old_world anchor pages backups logs work)
-        result (world_of (new anchor) (old pages) (old backups) (new logs) (new work)) }
+    ensures { Runs Close state.carried (world_of anchor.old pages.now backups.now logs.old work.old)
+        result (world_of anchor.new pages.now backups.now logs.new work.new) }
 {
     let mut budget = u64::MAX;
     let called = store::checkpoints::checkpoint_end(

@@ -1,7 +1,6 @@
 // A restart: each source to its end, then the end of the restart. It stops at its first refusal.
 ghost use Rattle.std.specs.Prelude.{◌≡◌};
 ghost use Rattle.model.specs.World.{world_of};
-ghost use Rattle.model.specs.Moments.{old, new, old_world};
 ghost use Rattle.model.specs.View.{core_of, body_of};
 ghost use Rattle.lines.specs.declared.command.Command.TheVariants.{Restart};
 ghost use Rattle.commands.specs.Restarting.{to_end, replayed_all, given};
@@ -20,8 +19,8 @@ fn replay(
     logs: &[u64],
     work: &mut [u64],
 ) -> Called
-    ensures { given result (world_of (old anchor) (new pages) (old backups) (old logs) (new work))
-        ≡ to_end source (given begun (old_world anchor pages backups logs work)) }
+    ensures { given result (world_of anchor.now pages.new backups.now logs.now work.new)
+        ≡ to_end source (given begun (world_of anchor.now pages.old backups.now logs.now work.old)) }
 {
     let answer = begun.answer;
     if !is_finished(answer) {
@@ -44,8 +43,8 @@ fn replay_all(
     logs: &[u64],
     work: &mut [u64],
 ) -> Called
-    ensures { given result (world_of (old anchor) (new pages) (old backups) (old logs) (new work))
-        ≡ replayed_all (core_of state.carried (old work)) (body_of (old_world anchor pages backups logs work)) }
+    ensures { given result (world_of anchor.now pages.new backups.now logs.now work.new)
+        ≡ replayed_all (core_of state.carried work.old) (body_of (world_of anchor.now pages.old backups.now logs.now work.old)) }
 {
     let begun = store::restarts::restart_begin(state, anchor, pages, backups, logs, work);
     let first = replay(begun, 0, anchor, pages, backups, logs, work);
@@ -62,8 +61,8 @@ pub fn run_restart(
     logs: &[u64],
     work: &mut [u64],
 ) -> Done
-    ensures { Runs Restart state.carried (old_world anchor pages backups logs work)
-        result (world_of (new anchor) (new pages) (new backups) (old logs) (new work)) }
+    ensures { Runs Restart state.carried (world_of anchor.old pages.old backups.old logs.now work.old)
+        result (world_of anchor.new pages.new backups.new logs.now work.new) }
 {
     let replayed = replay_all(state, anchor, pages, backups, logs, work);
     let answer = replayed.answer;

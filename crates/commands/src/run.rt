@@ -1,6 +1,5 @@
 // A command, run.
 ghost use Rattle.model.specs.World.{World, world_of};
-ghost use Rattle.model.specs.Moments.{new, old_world};
 ghost use Rattle.lines.specs.declared.command.Command.TheVariants.{Other};
 ghost use Rattle.commands.specs.Meaning.{Runs};
 
@@ -32,8 +31,8 @@ pub fn run(
     logs: &mut [u64],
     work: &mut [u64],
 ) -> Done
-    ensures { Runs command state.carried (old_world anchor pages backups logs work)
-        result (world_of (new anchor) (new pages) (new backups) (new logs) (new work)) }
+    ensures { Runs command state.carried (world_of anchor.old pages.old backups.old logs.old work.old)
+        result (world_of anchor.new pages.new backups.new logs.new work.new) }
 {
     match command {
         Command::Begin => run_begin(state, anchor, pages, backups, logs, work),

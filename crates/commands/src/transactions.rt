@@ -1,7 +1,6 @@
 // The commands of a transaction, and get.
 ghost use Rattle.std.specs.Prelude.{◌≡◌};
 ghost use Rattle.model.specs.World.{world_of};
-ghost use Rattle.model.specs.Moments.{old, new, old_world};
 ghost use Rattle.model.specs.View.{core_of, body_of};
 ghost use Rattle.lines.specs.declared.command.Command.TheVariants.{Begin, Set, Commit, Abort, Get};
 ghost use Rattle.commands.specs.Shown.{slot_word};
@@ -18,8 +17,8 @@ pub fn run_begin(
     logs: &[u64],
     work: &mut [u64],
 ) -> Done
-    ensures { Runs Begin state.carried (old_world anchor pages backups logs work)
-        result (world_of (old anchor) (old pages) (old backups) (old logs) (new work)) }
+    ensures { Runs Begin state.carried (world_of anchor.now pages.now backups.now logs.now work.old)
+        result (world_of anchor.now pages.now backups.now logs.now work.new) }
 {
     let called = store::transactions::begin(state, 0, anchor, pages, backups, logs, work);
     let answer = called.answer;
@@ -45,7 +44,7 @@ fn slot_word(
     logs: &[u64],
     work: &[u64],
 ) -> u64
-    ensures { result ≡ slot_word (core_of state.carried (old work)) (body_of (old_world anchor pages backups logs work)) seen.number seen.page seen.slot }
+    ensures { result ≡ slot_word (core_of state.carried work.now) (body_of (world_of anchor.now pages.now backups.now logs.now work.now)) seen.number seen.page seen.slot }
 {
     let words = store::transactions::read(
         state,
@@ -75,8 +74,8 @@ pub fn run_set(
     logs: &mut [u64],
     work: &mut [u64],
 ) -> Done
-    ensures { Runs (Set seen.number seen.page seen.slot value) state.carried (old_world anchor pages backups logs work)
-        result (world_of (old anchor) (new pages) (old backups) (new logs) (new work)) }
+    ensures { Runs (Set seen.number seen.page seen.slot value) state.carried (world_of anchor.now pages.old backups.now logs.old work.old)
+        result (world_of anchor.now pages.new backups.now logs.new work.new) }
 {
     let before = slot_word(state, seen, anchor, pages, backups, logs, work);
     let after = [value];
@@ -107,8 +106,8 @@ pub fn run_commit(
     logs: &mut [u64],
     work: &mut [u64],
 ) -> Done
-    ensures { Runs (Commit number allowance) state.carried (old_world anchor pages backups logs work)
-        result (world_of (old anchor) (old pages) (old backups) (new logs) (new work)) }
+    ensures { Runs (Commit number allowance) state.carried (world_of anchor.now pages.now backups.now logs.old work.old)
+        result (world_of anchor.now pages.now backups.now logs.new work.new) }
 {
     let mut budget = allowance;
     let called = store::transactions::commit(
@@ -133,8 +132,8 @@ pub fn run_abort(
     logs: &mut [u64],
     work: &mut [u64],
 ) -> Done
-    ensures { Runs (Abort number) state.carried (old_world anchor pages backups logs work)
-        result (world_of (old anchor) (new pages) (old backups) (new logs) (new work)) }
+    ensures { Runs (Abort number) state.carried (world_of anchor.now pages.old backups.now logs.old work.old)
+        result (world_of anchor.now pages.new backups.now logs.new work.new) }
 {
     let mut budget = u64::MAX;
     let called = store::transactions::abort(
@@ -160,8 +159,8 @@ pub fn run_get(
     logs: &[u64],
     work: &[u64],
 ) -> Done
-    ensures { Runs (Get page slot) state.carried (old_world anchor pages backups logs work)
-        result (old_world anchor pages backups logs work) }
+    ensures { Runs (Get page slot) state.carried (world_of anchor.now pages.now backups.now logs.now work.now)
+        result (world_of anchor.now pages.now backups.now logs.now work.now) }
 {
     let seen = Seen {
         number: 0,

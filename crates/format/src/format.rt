@@ -1,6 +1,5 @@
 // The call format.
 ghost use Rattle.model.specs.World.{world_of};
-ghost use Rattle.model.specs.Moments.{old, new, old_world};
 ghost use Rattle.model.specs.Call.{format, Gives};
 ghost use Rattle.layout.specs.Raw.{sizes_of};
 
@@ -25,8 +24,8 @@ pub fn format(
     work: &mut [u64],
     budget: &mut u64,
 ) -> Reply
-    ensures { Gives (format (sizes_of raw) (old budget)) core (old_world anchor pages backups logs work)
-        result (new budget) (world_of (new anchor) (new pages) (new backups) (new logs) (new work)) }
+    ensures { Gives (format (sizes_of raw) budget.old) core (world_of anchor.old pages.old backups.old logs.old work.old)
+        result budget.new (world_of anchor.new pages.new backups.new logs.new work.new) }
 {
     let stage = core.stage;
     if !is_shut(stage) {

@@ -1,8 +1,8 @@
 // The checks that every call but format and restart begin makes first: its stage with its test of the state, the anchor's length, the
 // other lengths.
 ghost use Rattle.std.specs.Prelude.{◌≡◌};
+ghost use Rattle.model.specs.World.{world_of};
 ghost use Rattle.model.specs.State.{serving_sound, replay_sound, sound};
-ghost use Rattle.model.specs.Moments.{old_world};
 ghost use Rattle.frame.specs.Checks.{anchor_refusal, allowed_in, CommonRefusal};
 
 use crate::fits::counts_fit;
@@ -78,7 +78,7 @@ pub fn common_refusal(
     logs: &[u64],
     work: &[u64],
 ) -> u64
-    ensures { CommonRefusal (allowed_in when) core (old_world anchor pages backups logs work) result }
+    ensures { CommonRefusal (allowed_in when) core (world_of anchor.now pages.now backups.now logs.now work.now) result }
 {
     let stage = core.stage;
     if !is_allowed(when, stage) {

@@ -1,7 +1,6 @@
 // An open transaction, as the head of the work memory has it: its place in the table, and its disk.
 ghost use Rattle.std.specs.Prelude.{◌≡◌, true, ◌≤◌, length};
 ghost use Rattle.model.specs.declared.Carried.{Carried};
-ghost use Rattle.model.specs.Moments.{old};
 ghost use Rattle.model.specs.View.{head_words, own_work, core_of};
 ghost use Rattle.frame.specs.Entry.{Entered};
 
@@ -39,8 +38,8 @@ fn no_entry(refusal: u64) -> Entry
 // Row 9, and what row 1 asks of a transaction that is open. D and the tails are the state's.
 pub fn find_entry(work: &[u64], disks: u64, tails: &[u64], number: u64) -> Entry
     requires { (disks ≤ 8) × (head_words ≤ length work.now) × (length tails.now ≡ 8) }
-    ensures { (h : Carried) → own_work h (old work) ≡ true → h.disks ≡ disks → h.tails ≡ old tails
-        → Entered (core_of h (old work)) number result }
+    ensures { (h : Carried) → own_work h work.now ≡ true → h.disks ≡ disks → h.tails ≡ tails.now
+        → Entered (core_of h work.now) number result }
 {
     if number == 0 {
         return no_entry(9);

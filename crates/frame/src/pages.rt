@@ -4,7 +4,6 @@ ghost use Rattle.std.specs.Prelude.{◌≡◌, true, ◌&&◌, ◌≤◌, length
 ghost use Rattle.model.specs.declared.Carried.{Carried};
 ghost use Rattle.model.specs.Sizes.{counts_in_bounds, sizes_in_bounds};
 ghost use Rattle.model.specs.State.{bases_right};
-ghost use Rattle.model.specs.Moments.{old};
 ghost use Rattle.model.specs.View.{head_words, own_work, core_of};
 ghost use Rattle.frame.specs.Pages.{used_right, unused_right};
 
@@ -13,7 +12,7 @@ use head::places::{BASES_AT, SLOTS_AT, WIDTHS_AT};
 // The pages below `end`: each within bounds, each begins where those before it end, and they end at T.
 fn used_right(work: &[u64], end: usize, total: u64) -> bool
     requires { (end ≤ 64) × (head_words ≤ length work.now) }
-    ensures { result ≡ used_right (old work) end total }
+    ensures { result ≡ used_right work.now end total }
 {
     let mut sum: u64 = 0;
     let mut i: usize = 0;
@@ -45,7 +44,7 @@ fn used_right(work: &[u64], end: usize, total: u64) -> bool
 // The entries from `from` on: no words, and T as their base.
 fn unused_right(work: &[u64], from: usize, total: u64) -> bool
     requires { (from ≤ 64) × (head_words ≤ length work.now) }
-    ensures { result ≡ unused_right (old work) from total }
+    ensures { result ≡ unused_right work.now from total }
 {
     let mut i = from;
     while i < 64 {
@@ -66,9 +65,9 @@ fn unused_right(work: &[u64], from: usize, total: u64) -> bool
 // P and T are the state's, and its counts are within bounds.
 pub fn pages_right(work: &[u64], pages: u64, total: u64) -> bool
     requires { (pages ≤ 64) × (head_words ≤ length work.now) }
-    ensures { (h : Carried) → own_work h (old work) ≡ true → h.pages ≡ pages → h.total ≡ total
-        → counts_in_bounds (core_of h (old work)).sizes ≡ true
-        → result ≡ (sizes_in_bounds (core_of h (old work)).sizes && bases_right (core_of h (old work))) }
+    ensures { (h : Carried) → own_work h work.now ≡ true → h.pages ≡ pages → h.total ≡ total
+        → counts_in_bounds (core_of h work.now).sizes ≡ true
+        → result ≡ (sizes_in_bounds (core_of h work.now).sizes && bases_right (core_of h work.now)) }
 {
     let end = pages as usize;
     if !used_right(work, end, total) {

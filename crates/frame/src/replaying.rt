@@ -4,7 +4,6 @@ ghost use Rattle.model.specs.declared.Carried.{Carried};
 ghost use Rattle.model.specs.Below.{all_below};
 ghost use Rattle.model.specs.Sizes.{counts_in_bounds};
 ghost use Rattle.model.specs.State.{replay_sound};
-ghost use Rattle.model.specs.Moments.{old};
 ghost use Rattle.model.specs.View.{head_words, own_work, core_of};
 ghost use Rattle.frame.specs.Pages.{position_right};
 
@@ -15,7 +14,7 @@ use table::room::LIMIT;
 // Every log's tail is within bounds, and its next position not past it.
 fn positions_right(work: &[u64], disks: u64, tails: [u64; 8]) -> bool
     requires { (disks ≤ 8) × (head_words ≤ length work.now) }
-    ensures { result ≡ all_below (position_right (old work) tails) disks }
+    ensures { result ≡ all_below (position_right work.now tails) disks }
 {
     let end = disks as usize;
     let mut d: usize = 0;
@@ -42,8 +41,8 @@ pub fn replay_right(
     tails: [u64; 8],
 ) -> bool
     requires { (pages ≤ 64) × (disks ≤ 8) × (head_words ≤ length work.now) }
-    ensures { (h : Carried) → own_work h (old work) ≡ true → h.pages ≡ pages → h.disks ≡ disks → h.total ≡ total → h.epoch ≡ epoch
-        → h.tails ≡ tails → counts_in_bounds (core_of h (old work)).sizes ≡ true → result ≡ replay_sound (core_of h (old work)) }
+    ensures { (h : Carried) → own_work h work.now ≡ true → h.pages ≡ pages → h.disks ≡ disks → h.total ≡ total → h.epoch ≡ epoch
+        → h.tails ≡ tails → counts_in_bounds (core_of h work.now).sizes ≡ true → result ≡ replay_sound (core_of h work.now) }
 {
     if epoch >= LIMIT {
         return false;

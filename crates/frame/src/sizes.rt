@@ -1,7 +1,6 @@
 // The sizes as the head of the work memory has them, tested. They are narrow where they pass: a loop over pages takes many of them at once.
 ghost use Rattle.std.specs.Prelude.{◌≡◌, false, ℕ, ◌+◌, ◌≤◌, ◌<◌, length, get_or};
 ghost use Rattle.model.specs.Word.{part};
-ghost use Rattle.model.specs.Moments.{old};
 ghost use Rattle.model.specs.View.{head_slots, head_widths};
 ghost use Rattle.frame.specs.Sizes.{sizes_at, Tested};
 
@@ -19,7 +18,7 @@ pub struct Known {
 // The slots and widths of 64 pages stand side by side. The sum of what is above a byte is 0 where all of them are bytes.
 fn above_bytes(work: &[u64]) -> u64
     requires { 128 ≤ length work.now }
-    ensures { (result ≡ 0 → (i : ℕ) → i < 128 → get_or (old work) i 0 < 256) × (((i : ℕ) → i < 128 → get_or (old work) i 0 < 256) → result ≡ 0) }
+    ensures { (result ≡ 0 → (i : ℕ) → i < 128 → get_or work.now i 0 < 256) × (((i : ℕ) → i < 128 → get_or work.now i 0 < 256) → result ≡ 0) }
 {
     let mut above: u64 = 0;
     let mut i: usize = 0;
@@ -32,7 +31,7 @@ fn above_bytes(work: &[u64]) -> u64
 
 fn entries_at(work: &[u64], at: usize) -> [u8; 64]
     requires { (at + 64 ≤ length work.now) × ((i : ℕ) → i < 64 → get_or work.now (at + i) 0 < 256) }
-    ensures { result ≡ part at 64 (old work) }
+    ensures { result ≡ part at 64 work.now }
 {
     let mut out = [0u8; 64];
     let mut i: usize = 0;
@@ -45,7 +44,7 @@ fn entries_at(work: &[u64], at: usize) -> [u8; 64]
 
 fn sizes_at(work: &[u64], pages: u64, disks: u64, ring: u64) -> Sizes
     requires { (128 ≤ length work.now) × ((i : ℕ) → i < 128 → get_or work.now i 0 < 256) }
-    ensures { result ≡ sizes_at pages disks ring (old work) }
+    ensures { result ≡ sizes_at pages disks ring work.now }
 {
     Sizes {
         pages,
@@ -74,7 +73,7 @@ fn unfit() -> Known
 // Every page is within its bounds, and T is `words`.
 pub fn known_sizes(work: &[u64], pages: u64, disks: u64, ring: u64, words: u64) -> Known
     requires { 128 ≤ length work.now }
-    ensures { Tested (sizes_at pages disks ring (old work)) words result }
+    ensures { Tested (sizes_at pages disks ring work.now) words result }
 {
     if above_bytes(work) != 0 {
         return unfit();

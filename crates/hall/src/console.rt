@@ -1,7 +1,6 @@
 // What the program keeps from line to line.
 ghost use Rattle.std.specs.Prelude.{◌≡◌, ℕ, ◌+◌, ◌*◌, ◌-◌, ◌≤◌, ◌<◌, List, length, drop};
 ghost use Rattle.model.specs.World.{world_of};
-ghost use Rattle.model.specs.Moments.{old, new, old_world};
 ghost use Rattle.hall.specs.Running.{Program, line_taken, fed, ended};
 ghost use Rattle.hall.specs.Held.{Holds, Stands};
 
@@ -35,8 +34,8 @@ fn take_line(
 ) -> Console
     requires { console.fill + 84 ≤ length out.old }
     ensures fill_bound { result.fill ≤ console.fill + 84 }
-    ensures by_index { (handed : List ℕ) (p : Program) → Holds console (old_world anchor pages backups logs work) (old out) handed p
-        → Stands result (world_of (new anchor) (new pages) (new backups) (new logs) (new work)) (new out) handed (line_taken p) }
+    ensures by_index { (handed : List ℕ) (p : Program) → Holds console (world_of anchor.old pages.old backups.old logs.old work.old) out.old handed p
+        → Stands result (world_of anchor.new pages.new backups.new logs.new work.new) out.new handed (line_taken p) }
 {
     let command = command_of(console.partial);
     let done = run(command, console.state, anchor, pages, backups, logs, work);
@@ -78,9 +77,9 @@ fn feed_line(
     requires at_in_bounds { at < length bytes.now }
     requires at_in_bounds_2 { console.fill + 84 * (length bytes.now - at) ≤ length out.old }
     ensures at_lt_next { (at < result.next) × (result.next ≤ length bytes.now) × (result.console.fill + 84 * (length bytes.now - result.next) ≤ length out.old) }
-    ensures by_index { (handed : List ℕ) (p : Program) → Stands console (old_world anchor pages backups logs work) (old out) handed p
-        → (q : Program) × Stands result.console (world_of (new anchor) (new pages) (new backups) (new logs) (new work)) (new out) handed q
-        × (fed q (drop result.next (old bytes)) ≡ fed p (drop at (old bytes))) }
+    ensures by_index { (handed : List ℕ) (p : Program) → Stands console (world_of anchor.old pages.old backups.old logs.old work.old) out.old handed p
+        → (q : Program) × Stands result.console (world_of anchor.new pages.new backups.new logs.new work.new) out.new handed q
+        × (fed q (drop result.next bytes.now) ≡ fed p (drop at bytes.now)) }
 {
     let n = line_length(&bytes[at..]);
     let end = at + n;
@@ -114,8 +113,8 @@ pub fn feed(
 ) -> Console
     requires { console.fill + 84 * length bytes.now ≤ length out.old }
     ensures fill_in_bounds { result.fill ≤ length out.old }
-    ensures by_index { (handed : List ℕ) (p : Program) → Stands console (old_world anchor pages backups logs work) (old out) handed p
-        → Stands result (world_of (new anchor) (new pages) (new backups) (new logs) (new work)) (new out) handed (fed p (old bytes)) }
+    ensures by_index { (handed : List ℕ) (p : Program) → Stands console (world_of anchor.old pages.old backups.old logs.old work.old) out.old handed p
+        → Stands result (world_of anchor.new pages.new backups.new logs.new work.new) out.new handed (fed p bytes.now) }
 {
     let mut c = console;
     let mut at = 0;
@@ -139,8 +138,8 @@ pub fn last_line(
 ) -> Console
     requires { console.fill + 84 ≤ length out.old }
     ensures fill_bound { result.fill ≤ console.fill + 84 }
-    ensures by_index { (handed : List ℕ) (p : Program) → Stands console (old_world anchor pages backups logs work) (old out) handed p
-        → Stands result (world_of (new anchor) (new pages) (new backups) (new logs) (new work)) (new out) handed (ended p) }
+    ensures by_index { (handed : List ℕ) (p : Program) → Stands console (world_of anchor.old pages.old backups.old logs.old work.old) out.old handed p
+        → Stands result (world_of anchor.new pages.new backups.new logs.new work.new) out.new handed (ended p) }
 {
     if console.begun {
         return take_line(console, anchor, pages, backups, logs, work, out);

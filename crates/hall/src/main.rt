@@ -6,7 +6,6 @@ mod serving;
 
 ghost use Rattle.std.specs.Prelude.{◌≡◌, ◌≤◌, [], length};
 ghost use Rattle.model.specs.World.{world_of};
-ghost use Rattle.model.specs.Moments.{new, old_world};
 ghost use Rattle.model.specs.View.{core_of, body_of};
 ghost use Rattle.hall.specs.Running.{formatting, started};
 ghost use Rattle.hall.specs.Held.{Stands};
@@ -26,9 +25,9 @@ fn formatted(
     logs: &mut [u64],
     work: &mut [u64],
 ) -> State
-    ensures work_value { core_of result.carried (new work) ≡ (formatting (body_of (old_world anchor pages backups logs work))).core }
-    ensures work_value_2 { body_of (world_of (new anchor) (new pages) (new backups) (new logs) (new work))
-        ≡ (formatting (body_of (old_world anchor pages backups logs work))).world }
+    ensures work_value { core_of result.carried work.new ≡ (formatting (body_of (world_of anchor.old pages.old backups.old logs.old work.old))).core }
+    ensures work_value_2 { body_of (world_of anchor.new pages.new backups.new logs.new work.new)
+        ≡ (formatting (body_of (world_of anchor.old pages.old backups.old logs.old work.old))).world }
 {
     let mut slots = [0u64; 64];
     let mut widths = [0u64; 64];
@@ -65,8 +64,8 @@ fn opened(
 ) -> Console
     requires { 84 ≤ length out.old }
     ensures fill_in_bounds { result.fill ≤ length out.old }
-    ensures stands { Stands result (world_of (new anchor) (new pages) (new backups) (new logs) (new work)) (new out)
-        [] (started (body_of (old_world anchor pages backups logs work))) }
+    ensures stands { Stands result (world_of anchor.new pages.new backups.new logs.new work.new) out.new
+        [] (started (body_of (world_of anchor.old pages.old backups.old logs.old work.old))) }
 {
     let state = formatted(anchor, pages, backups, logs, work);
     let fill = add(out, 0, b"line answer stores value\n");

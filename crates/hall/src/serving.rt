@@ -1,7 +1,6 @@
 // Reading the input, answering it, and writing the answers.
 ghost use Rattle.std.specs.Prelude.{◌≡◌, ◌⊎◌, true, false, ℕ, ◌+◌, ◌≤◌, List, length};
 ghost use Rattle.model.specs.World.{World, world_of};
-ghost use Rattle.model.specs.Moments.{old, new, old_world};
 ghost use Rattle.hall.specs.Running.{Program, fed, ended, with_tally};
 ghost use Rattle.hall.specs.Held.{Stands};
 
@@ -50,9 +49,9 @@ fn serve_some(
 ) -> Served
     requires { (console.fill ≡ 0) × (65520 ≤ length out.old) }
     ensures fill_value { result.console.fill ≡ 0 }
-    ensures by_index { (p : Program) → Stands console (old_world anchor pages backups logs work) (old out) p.text p
+    ensures by_index { (p : Program) → Stands console (world_of anchor.old pages.old backups.old logs.old work.old) out.old p.text p
         → (input : List ℕ) × (length input ≡ result.got)
-        × Stands result.console (world_of (new anchor) (new pages) (new backups) (new logs) (new work)) (new out) (fed p input).text (fed p input) }
+        × Stands result.console (world_of anchor.new pages.new backups.new logs.new work.new) out.new (fed p input).text (fed p input) }
 {
     let mut input = [0u8; 780];
     let answer = libc::read(STDIN_FILENO, &mut input);
@@ -89,8 +88,8 @@ fn serve(
     requires { (console.fill ≡ 0) × (65520 ≤ length out.old) }
     ensures fact { (result.got ≡ 0) ⊎ (result.failed ≡ true) }
     ensures fill_value { result.console.fill ≡ 0 }
-    ensures by_index { (p : Program) → Stands console (old_world anchor pages backups logs work) (old out) p.text p
-        → (input : List ℕ) × Stands result.console (world_of (new anchor) (new pages) (new backups) (new logs) (new work)) (new out) (fed p input).text (fed p input) }
+    ensures by_index { (p : Program) → Stands console (world_of anchor.old pages.old backups.old logs.old work.old) out.old p.text p
+        → (input : List ℕ) × Stands result.console (world_of anchor.new pages.new backups.new logs.new work.new) out.new (fed p input).text (fed p input) }
 {
     let mut c = console;
     let mut turns = u64::MAX;
@@ -139,8 +138,8 @@ pub fn answer_input(
 ) -> Served
     requires { (console.fill ≡ 0) × (65520 ≤ length out.old) }
     ensures fill_in_bounds { result.console.fill ≤ length out.old }
-    ensures by_index { result.failed ≡ false → (p : Program) → Stands console (old_world anchor pages backups logs work) (old out) p.text p
-        → (input : List ℕ) × Stands result.console (world_of (new anchor) (new pages) (new backups) (new logs) (new work)) (new out)
+    ensures by_index { result.failed ≡ false → (p : Program) → Stands console (world_of anchor.old pages.old backups.old logs.old work.old) out.old p.text p
+        → (input : List ℕ) × Stands result.console (world_of anchor.new pages.new backups.new logs.new work.new) out.new
         (fed p input).text (with_tally (ended (fed p input))) }
 {
     let served = serve(console, anchor, pages, backups, logs, work, out);

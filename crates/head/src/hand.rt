@@ -1,6 +1,5 @@
 // What a call that takes a state by value hands back, to a caller whose state is in two parts.
 ghost use Rattle.std.specs.Prelude.{◌≡◌, true, ◌++◌, ◌≤◌, length, drop};
-ghost use Rattle.model.specs.Moments.{old, new};
 ghost use Rattle.model.specs.View.{head_words, carried_of, head_after};
 ghost use Rattle.head.specs.Saves.{saves};
 
@@ -21,7 +20,7 @@ fn is_saved(answer: Answer, stage: Stage) -> bool
 pub fn hand_back(reply: Reply, work: &mut [u64]) -> Handed
     requires { saves reply.answer reply.core.stage ≡ true → head_words ≤ length work.old }
     ensures { (result ≡ record { answer = reply.answer; carried = carried_of reply.core })
-        × (new work ≡ head_after reply.answer reply.core (old work) ++ drop head_words (old work)) }
+        × (work.new ≡ head_after reply.answer reply.core work.old ++ drop head_words work.old) }
 {
     let answer = reply.answer;
     let core = reply.core;

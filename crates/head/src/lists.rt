@@ -2,7 +2,6 @@
 ghost use Rattle.std.specs.Prelude.{◌≡◌, ◌+◌, ◌≤◌, min, length};
 ghost use Rattle.std.proofs.lemmas.List.Edits.{sets};
 ghost use Rattle.model.specs.Word.{part};
-ghost use Rattle.model.specs.Moments.{old, new};
 ghost use Rattle.head.specs.Narrow.{capped, byte_most, base_most};
 
 use words::copy_words;
@@ -21,7 +20,7 @@ fn two_bytes_of(word: u64) -> u16
 
 pub fn bytes_at(work: &[u64], at: usize) -> [u8; 64]
     requires { at + 64 ≤ length work.now }
-    ensures { result ≡ capped byte_most (part at 64 (old work)) }
+    ensures { result ≡ capped byte_most (part at 64 work.now) }
 {
     let mut out = [0u8; 64];
     let mut i: usize = 0;
@@ -34,7 +33,7 @@ pub fn bytes_at(work: &[u64], at: usize) -> [u8; 64]
 
 pub fn bases_at(work: &[u64], at: usize) -> [u16; 64]
     requires { at + 64 ≤ length work.now }
-    ensures { result ≡ capped base_most (part at 64 (old work)) }
+    ensures { result ≡ capped base_most (part at 64 work.now) }
 {
     let mut out = [0u16; 64];
     let mut i: usize = 0;
@@ -47,7 +46,7 @@ pub fn bases_at(work: &[u64], at: usize) -> [u16; 64]
 
 pub fn eight_at(work: &[u64], at: usize) -> [u64; 8]
     requires { at + 8 ≤ length work.now }
-    ensures { result ≡ part at 8 (old work) }
+    ensures { result ≡ part at 8 work.now }
 {
     let mut out = [0u64; 8];
     copy_words(&mut out, 0, work, at, 8);
@@ -56,7 +55,7 @@ pub fn eight_at(work: &[u64], at: usize) -> [u64; 8]
 
 pub fn sixteen_at(work: &[u64], at: usize) -> [u64; 16]
     requires { at + 16 ≤ length work.now }
-    ensures { result ≡ part at 16 (old work) }
+    ensures { result ≡ part at 16 work.now }
 {
     let mut out = [0u64; 16];
     copy_words(&mut out, 0, work, at, 16);
@@ -65,7 +64,7 @@ pub fn sixteen_at(work: &[u64], at: usize) -> [u64; 16]
 
 pub fn put_bytes(work: &mut [u64], at: usize, bytes: &[u8])
     requires { at + length bytes.now ≤ length work.old }
-    ensures { new work ≡ sets (old work) at (old bytes) }
+    ensures { work.new ≡ sets work.old at bytes.now }
 {
     let n = bytes.len();
     let mut i: usize = 0;
@@ -77,7 +76,7 @@ pub fn put_bytes(work: &mut [u64], at: usize, bytes: &[u8])
 
 pub fn put_bases(work: &mut [u64], at: usize, bases: &[u16])
     requires { at + length bases.now ≤ length work.old }
-    ensures { new work ≡ sets (old work) at (old bases) }
+    ensures { work.new ≡ sets work.old at bases.now }
 {
     let n = bases.len();
     let mut i: usize = 0;

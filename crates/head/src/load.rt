@@ -1,7 +1,6 @@
 // The state by value, of what is carried and of the head of the work memory.
 ghost use Rattle.std.specs.Prelude.{◌≡◌, ◌≤◌, length};
 ghost use Rattle.model.specs.declared.Carried.{Carried};
-ghost use Rattle.model.specs.Moments.{old};
 ghost use Rattle.model.specs.View.{head_words, core_in, core_of};
 ghost use Rattle.head.specs.Narrow.{narrowed};
 
@@ -15,7 +14,7 @@ use model::{Bases, Carried, Checkpoint, Core, Logs, Replay, Sizes, Table};
 
 fn table_in(work: &[u64]) -> Table
     requires { head_words ≤ length work.now }
-    ensures { (h : Carried) → result ≡ (core_in h (old work)).table }
+    ensures { (h : Carried) → result ≡ (core_in h work.now).table }
 {
     Table {
         numbers: sixteen_at(work, NUMBERS_AT),
@@ -28,7 +27,7 @@ fn table_in(work: &[u64]) -> Table
 
 fn core_in(carried: Carried, work: &[u64]) -> Core
     requires { head_words ≤ length work.now }
-    ensures { result ≡ narrowed (core_in carried (old work)) }
+    ensures { result ≡ narrowed (core_in carried work.now) }
 {
     let slots = bytes_at(work, SLOTS_AT);
     let widths = bytes_at(work, WIDTHS_AT);
@@ -76,7 +75,7 @@ fn core_in(carried: Carried, work: &[u64]) -> Core
 
 // As a new state has it, where the work memory is not the state's own: a head of zeros.
 pub fn load(carried: Carried, work: &[u64]) -> Core
-    ensures { result ≡ narrowed (core_of carried (old work)) }
+    ensures { result ≡ narrowed (core_of carried work.now) }
 {
     let stage = carried.stage;
     if is_own(stage, carried.disks, carried.total, work.len()) {

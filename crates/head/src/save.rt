@@ -1,7 +1,6 @@
 // The state handed back by a call: its lists into the head of the work memory, the rest by value.
 ghost use Rattle.std.specs.Prelude.{◌≡◌, [], ◌∷◌, ◌++◌, ◌≤◌, length, drop};
 ghost use Rattle.std.proofs.lemmas.List.Edits.{sets};
-ghost use Rattle.model.specs.Moments.{old, new};
 ghost use Rattle.model.specs.View.{head_slots, head_fills, head_numbers, head_words, carried_of, head_of};
 
 use crate::lists::{put_bases, put_bytes};
@@ -14,7 +13,7 @@ use words::copy_words;
 
 fn save_pages(work: &mut [u64], sizes: Sizes, bases: Bases)
     requires { head_words ≤ length work.old }
-    ensures { new work ≡ sets (old work) head_slots (sizes.slots ++ (sizes.widths ++ bases.pages)) }
+    ensures { work.new ≡ sets work.old head_slots (sizes.slots ++ (sizes.widths ++ bases.pages)) }
 {
     let slots = sizes.slots;
     let widths = sizes.widths;
@@ -26,7 +25,7 @@ fn save_pages(work: &mut [u64], sizes: Sizes, bases: Bases)
 
 fn save_disks(work: &mut [u64], fills: [u64; 8], sums: [u64; 8], replay: Replay)
     requires { head_words ≤ length work.old }
-    ensures { new work ≡ sets (old work) head_fills (fills ++ (sums ++ (replay.positions ++ (replay.page ∷ [])))) }
+    ensures { work.new ≡ sets work.old head_fills (fills ++ (sums ++ (replay.positions ++ (replay.page ∷ [])))) }
 {
     let positions = replay.positions;
     copy_words(work, FILLS_AT, &fills, 0, 8);
@@ -37,7 +36,7 @@ fn save_disks(work: &mut [u64], fills: [u64; 8], sums: [u64; 8], replay: Replay)
 
 fn save_table(work: &mut [u64], table: Table)
     requires { head_words ≤ length work.old }
-    ensures { new work ≡ sets (old work) head_numbers (table.numbers ++ (table.disks ++ (table.firsts ++ table.reserved))) }
+    ensures { work.new ≡ sets work.old head_numbers (table.numbers ++ (table.disks ++ (table.firsts ++ table.reserved))) }
 {
     let numbers = table.numbers;
     let disks = table.disks;
@@ -51,7 +50,7 @@ fn save_table(work: &mut [u64], table: Table)
 
 pub fn save(core: Core, work: &mut [u64])
     requires { head_words ≤ length work.old }
-    ensures { new work ≡ head_of core ++ drop head_words (old work) }
+    ensures { work.new ≡ head_of core ++ drop head_words work.old }
 {
     let sizes = core.sizes;
     let bases = core.bases;

@@ -1,7 +1,6 @@
 // The table of open transactions and the logs' fills in the head.
 ghost use Rattle.std.specs.Prelude.{◌≡◌, true, ◌≤◌, ◌<◌, length};
 ghost use Rattle.model.specs.declared.Carried.{Carried};
-ghost use Rattle.model.specs.Moments.{old, new};
 ghost use Rattle.model.specs.State.{places, place_of, is_open};
 ghost use Rattle.model.specs.View.{head_words, own_work, core_of};
 ghost use Rattle.model.specs.Fields.{put_words, entering, leaving, filling};
@@ -11,7 +10,7 @@ use crate::places::{DISKS_AT, FILLS_AT, FIRSTS_AT, NUMBERS_AT, RESERVED_AT, SUMS
 // The place of a transaction; for 0, the lowest free place; 16 where there is none.
 pub fn place_of(work: &[u64], number: u64) -> usize
     requires { head_words ≤ length work.now }
-    ensures { (h : Carried) → own_work h (old work) ≡ true → result ≡ place_of (core_of h (old work)).table number }
+    ensures { (h : Carried) → own_work h work.now ≡ true → result ≡ place_of (core_of h work.now).table number }
 {
     let mut i: usize = 0;
     while i < 16 {
@@ -25,7 +24,7 @@ pub fn place_of(work: &[u64], number: u64) -> usize
 
 pub fn is_open(work: &[u64], number: u64) -> bool
     requires { head_words ≤ length work.now }
-    ensures { (h : Carried) → own_work h (old work) ≡ true → result ≡ is_open (core_of h (old work)).table number }
+    ensures { (h : Carried) → own_work h work.now ≡ true → result ≡ is_open (core_of h work.now).table number }
 {
     if number == 0 {
         return false;
@@ -44,7 +43,7 @@ pub fn enter(
     sum: u64,
 )
     requires { (place < places) × (disk < 8) × (head_words ≤ length work.old) }
-    ensures { new work ≡ put_words (entering place number disk first reserved sum) (old work) }
+    ensures { work.new ≡ put_words (entering place number disk first reserved sum) work.old }
 {
     work[NUMBERS_AT + place] = number;
     work[DISKS_AT + place] = disk as u64;
@@ -56,7 +55,7 @@ pub fn enter(
 // Frees a place of the table; `sum` words stay reserved on its disk.
 pub fn leave(work: &mut [u64], place: usize, disk: usize, sum: u64)
     requires { (place < places) × (disk < 8) × (head_words ≤ length work.old) }
-    ensures { new work ≡ put_words (leaving place disk sum) (old work) }
+    ensures { work.new ≡ put_words (leaving place disk sum) work.old }
 {
     work[NUMBERS_AT + place] = 0;
     work[DISKS_AT + place] = 0;
@@ -68,7 +67,7 @@ pub fn leave(work: &mut [u64], place: usize, disk: usize, sum: u64)
 // Sets how many words are buffered on a disk.
 pub fn set_fill(work: &mut [u64], disk: usize, fill: u64)
     requires { (disk < 8) × (head_words ≤ length work.old) }
-    ensures { new work ≡ put_words (filling disk fill) (old work) }
+    ensures { work.new ≡ put_words (filling disk fill) work.old }
 {
     work[FILLS_AT + disk] = fill;
 }

@@ -1,5 +1,6 @@
 // The lines of the program: reading a command piece by piece, writing a line, and the tally.
 #![tactic(auto)]
+
 pub mod command;
 pub mod output;
 pub mod partial;

@@ -23,7 +23,6 @@ pub mod Decode
 pub mod Scan
 -- What a call works on, and the frame of every call.
 pub mod World
-pub mod Moments
 pub mod Memory
 pub mod Classes
 pub mod State

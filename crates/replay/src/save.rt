@@ -3,7 +3,6 @@ ghost use Rattle.std.specs.Prelude.{◌≡◌, List, true, ℕ, ◌*◌, length}
 ghost use Rattle.model.specs.Sizes.{total, sizes_in_bounds};
 ghost use Rattle.model.specs.Anchor.{anchor_words};
 ghost use Rattle.model.specs.World.{world_of};
-ghost use Rattle.model.specs.Moments.{old, new};
 ghost use Rattle.device.specs.Ran.{Ran};
 ghost use Rattle.replay.specs.Parts.{checkpoint_stores};
 
@@ -23,8 +22,8 @@ pub fn store_checkpoint(
     budget: &mut u64,
 ) -> bool
     requires { (sizes_in_bounds sizes ≡ true) × (length anchor.old ≡ anchor_words) × (length pages.now ≡ total sizes) × (length backups.old ≡ 2 * total sizes) }
-    ensures { (logs work : List ℕ) → Ran (old budget) (new budget) (checkpoint_stores sizes epoch starts (old pages))
-        (world_of (old anchor) (old pages) (old backups) logs work) (world_of (new anchor) (old pages) (new backups) logs work) result }
+    ensures { (logs work : List ℕ) → Ran budget.old budget.new (checkpoint_stores sizes epoch starts pages.now)
+        (world_of anchor.old pages.now backups.old logs work) (world_of anchor.new pages.now backups.new logs work) result }
 {
     let at = backup_at(sizes, epoch) as usize;
     if !store_copy(backups, at, pages, 0, pages.len(), budget) {

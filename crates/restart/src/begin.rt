@@ -4,7 +4,6 @@ ghost use Rattle.model.specs.Sizes.{total, log_words, sizes_in_bounds};
 ghost use Rattle.model.specs.Anchor.{anchor_words, sizes_on};
 ghost use Rattle.model.specs.State.{bases_of};
 ghost use Rattle.model.specs.World.{world_of};
-ghost use Rattle.model.specs.Moments.{old, new, old_world};
 ghost use Rattle.model.specs.Call.{Gives, restart_begin};
 ghost use Rattle.restart.specs.Begin.{BeginsOn};
 
@@ -55,8 +54,8 @@ pub fn begin(
     logs: &[u64],
     work: &[u64],
 ) -> Reply
-    ensures { Gives restart_begin core (old_world anchor pages backups logs work)
-        result 0 (world_of (old anchor) (new pages) (old backups) (old logs) (old work)) }
+    ensures { Gives restart_begin core (world_of anchor.now pages.old backups.now logs.now work.now)
+        result 0 (world_of anchor.now pages.new backups.now logs.now work.now) }
 {
     let stage = core.stage;
     if !is_shut(stage) {

@@ -3,7 +3,6 @@ ghost use Rattle.std.specs.Prelude.{◌≡◌, List, ℕ, ◌*◌, length};
 ghost use Rattle.model.specs.Sizes.{total};
 ghost use Rattle.model.specs.Anchor.{anchor_words};
 ghost use Rattle.model.specs.World.{world_of};
-ghost use Rattle.model.specs.Moments.{old, new, old_world};
 ghost use Rattle.model.specs.Memory.{work_words};
 ghost use Rattle.model.specs.Restart.{restart_end_task};
 ghost use Rattle.model.specs.Call.{Gives, restart_end};
@@ -29,9 +28,9 @@ fn open_replayed(
     budget: &mut u64,
 ) -> Reply
     requires { Replays core × (length anchor.old ≡ anchor_words) × (length pages.now ≡ total core.sizes) × (length backups.old ≡ 2 * total core.sizes) × (length work.old ≡ work_words core.sizes (total core.sizes)) }
-    ensures { (logs : List ℕ) → Concludes (old budget) (new budget)
-        (restart_end_task core (world_of (old anchor) (old pages) (old backups) logs (old work)))
-        (world_of (old anchor) (old pages) (old backups) logs (old work)) (world_of (new anchor) (old pages) (new backups) logs (new work)) result }
+    ensures { (logs : List ℕ) → Concludes budget.old budget.new
+        (restart_end_task core (world_of anchor.old pages.now backups.old logs work.old))
+        (world_of anchor.old pages.now backups.old logs work.old) (world_of anchor.new pages.now backups.new logs work.new) result }
 {
     let sizes = core.sizes;
     let logs = core.logs;
@@ -55,8 +54,8 @@ pub fn end(
     work: &mut [u64],
     budget: &mut u64,
 ) -> Reply
-    ensures { Gives (restart_end (old budget)) core (old_world anchor pages backups logs work)
-        result (new budget) (world_of (new anchor) (old pages) (new backups) (old logs) (new work)) }
+    ensures { Gives (restart_end budget.old) core (world_of anchor.old pages.now backups.old logs.now work.old)
+        result budget.new (world_of anchor.new pages.now backups.new logs.now work.new) }
 {
     let refusal = common_refusal(When::Replaying, core, anchor, pages, backups, logs, work);
     if refusal != 0 {

@@ -1,7 +1,6 @@
 // What remains of a restart's sources: words of the logs, pages of the backup.
 ghost use Rattle.std.specs.Prelude.{◌≡◌, true, cond, ◌+◌, ◌-◌, ◌≤◌, ◌<◌, eqb, length, get_or};
 ghost use Rattle.model.specs.Below.{all_below};
-ghost use Rattle.model.specs.Moments.{old};
 ghost use Rattle.model.specs.Restart.{remaining};
 ghost use Rattle.model.specs.View.{head_words, core_of};
 
@@ -13,14 +12,14 @@ use words::saturating_sub;
 // A word of the head; 0 where the work memory is not the state's own.
 fn head_word(own: bool, work: &[u64], at: usize) -> u64
     requires { (at < head_words) × (own ≡ true → head_words ≤ length work.now) }
-    ensures { result ≡ cond own (get_or (old work) at 0) 0 }
+    ensures { result ≡ cond own (get_or work.now at 0) 0 }
 {
     if own { work[at] } else { 0 }
 }
 
 // Of any state: a state that no call made may name more than eight disks.
 pub fn remaining(carried: Carried, source: u64, work: &[u64]) -> u64
-    ensures { result ≡ remaining (core_of carried (old work)) source }
+    ensures { result ≡ remaining (core_of carried work.now) source }
 {
     let stage = carried.stage;
     let own = is_own(stage, carried.disks, carried.total, work.len());

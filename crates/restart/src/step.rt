@@ -4,7 +4,6 @@ ghost use Rattle.model.specs.declared.Sizes.{Sizes};
 ghost use Rattle.model.specs.Sizes.{total};
 ghost use Rattle.model.specs.Anchor.{backup_at};
 ghost use Rattle.model.specs.World.{world_of};
-ghost use Rattle.model.specs.Moments.{old, new, old_world};
 ghost use Rattle.model.specs.State.{tail_of};
 ghost use Rattle.model.specs.Restart.{position_of};
 ghost use Rattle.model.specs.Call.{restart_step};
@@ -44,8 +43,8 @@ fn take_record(
 ) -> Taken
     requires { OnDisk carried disk pages.old logs.now work.now × (position_of (core_of carried work.now) disk ≡ position)
         × (position < tail_of (core_of carried work.now).logs disk) }
-    ensures { (anchor backups body : List ℕ) → StepsOn (core_of carried (old work)) (world_of anchor (old pages) backups (old logs) body) disk
-        (taken_by (core_of carried (old work)) disk result.malformed result.position) (world_of anchor (new pages) backups (old logs) body) }
+    ensures { (anchor backups body : List ℕ) → StepsOn (core_of carried work.now) (world_of anchor pages.old backups logs.now body) disk
+        (taken_by (core_of carried work.now) disk result.malformed result.position) (world_of anchor pages.new backups logs.now body) }
 {
     let tails = carried.tails;
     let tail = tails[disk as usize];
@@ -114,8 +113,8 @@ fn log_step(
     work: &mut [u64],
 ) -> Handed
     requires { OnDisk carried disk pages.old logs.now work.old }
-    ensures { (anchor backups : List ℕ) → StepsTo carried (world_of anchor (old pages) backups (old logs) (old work)) disk
-        result (world_of anchor (new pages) backups (old logs) (new work)) }
+    ensures { (anchor backups : List ℕ) → StepsTo carried (world_of anchor pages.old backups logs.now work.old) disk
+        result (world_of anchor pages.new backups logs.now work.new) }
 {
     let d = disk as usize;
     let tails = carried.tails;
@@ -142,8 +141,8 @@ fn backup_start(epoch: u64, words: u64) -> u64
 // XORs the next page of the backup in.
 fn backup_step(carried: Carried, pages: &mut [u64], backups: &[u64], work: &mut [u64]) -> Handed
     requires { OnBackup carried pages.old backups.now work.old }
-    ensures { (anchor logs : List ℕ) → StepsTo carried (world_of anchor (old pages) (old backups) logs (old work)) carried.disks
-        result (world_of anchor (new pages) (old backups) logs (new work)) }
+    ensures { (anchor logs : List ℕ) → StepsTo carried (world_of anchor pages.old backups.now logs work.old) carried.disks
+        result (world_of anchor pages.new backups.now logs work.new) }
 {
     let page = work[PAGE_AT];
     if carried.pages <= page {
@@ -167,8 +166,8 @@ pub fn step(
     logs: &[u64],
     work: &mut [u64],
 ) -> Handed
-    ensures { Serves (restart_step source) carried (old_world anchor pages backups logs work)
-        result 0 (world_of (old anchor) (new pages) (old backups) (old logs) (new work)) }
+    ensures { Serves (restart_step source) carried (world_of anchor.now pages.old backups.now logs.now work.old)
+        result 0 (world_of anchor.now pages.new backups.now logs.now work.new) }
 {
     let stage = carried.stage;
     let allowed = is_replaying(stage);

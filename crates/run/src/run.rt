@@ -2,7 +2,6 @@
 ghost use Rattle.std.specs.Prelude.{◌≡◌, List, ℕ, ◌*◌, ◌<◌, min, length, get_or};
 ghost use Rattle.model.specs.Sizes.{total};
 ghost use Rattle.model.specs.World.{world_of};
-ghost use Rattle.model.specs.Moments.{old, new, old_world};
 ghost use Rattle.model.specs.State.{tail_of};
 ghost use Rattle.model.specs.Restart.{moved_to};
 ghost use Rattle.model.specs.Call.{Gives, restart_run};
@@ -166,8 +165,8 @@ pub fn run(
     logs: &[u64],
     work: &[u64],
 ) -> Reply
-    ensures { Gives (restart_run source most) core (old_world anchor pages backups logs work)
-        result 0 (world_of (old anchor) (new pages) (old backups) (old logs) (old work)) }
+    ensures { Gives (restart_run source most) core (world_of anchor.now pages.old backups.now logs.now work.now)
+        result 0 (world_of anchor.now pages.new backups.now logs.now work.now) }
 {
     let refusal = common_refusal(When::Replaying, core, anchor, pages, backups, logs, work);
     if refusal != 0 {

@@ -1,7 +1,6 @@
 // The three calls of a checkpoint.
 ghost use Rattle.std.specs.Prelude.{◌≡◌, true};
 ghost use Rattle.model.specs.World.{world_of};
-ghost use Rattle.model.specs.Moments.{old, new, old_world};
 ghost use Rattle.model.specs.State.{sound};
 ghost use Rattle.model.specs.Call.{checkpoint_begin, checkpoint_step, checkpoint_end};
 ghost use Rattle.model.specs.View.{core_of, Serves};
@@ -20,9 +19,9 @@ pub fn checkpoint_begin(
     logs: &[u64],
     work: &mut [u64],
 ) -> Called
-    ensures serves { Serves checkpoint_begin state.carried (old_world anchor pages backups logs work)
-        (handed_of result) 0 (world_of (old anchor) (old pages) (old backups) (old logs) (new work)) }
-    ensures work_value { sound (core_of state.carried (old work)) ≡ true → sound (core_of result.state.carried (new work)) ≡ true }
+    ensures serves { Serves checkpoint_begin state.carried (world_of anchor.now pages.now backups.now logs.now work.old)
+        (handed_of result) 0 (world_of anchor.now pages.now backups.now logs.now work.new) }
+    ensures work_value { sound (core_of state.carried work.old) ≡ true → sound (core_of result.state.carried work.new) ≡ true }
 {
     let core = loaded(state, work);
     let from = body_start(work.len());
@@ -40,9 +39,9 @@ pub fn checkpoint_step(
     work: &mut [u64],
     budget: &mut u64,
 ) -> Called
-    ensures serves { Serves (checkpoint_step (old budget)) state.carried (old_world anchor pages backups logs work)
-        (handed_of result) (new budget) (world_of (old anchor) (old pages) (new backups) (old logs) (new work)) }
-    ensures work_value { sound (core_of state.carried (old work)) ≡ true → sound (core_of result.state.carried (new work)) ≡ true }
+    ensures serves { Serves (checkpoint_step budget.old) state.carried (world_of anchor.now pages.now backups.old logs.now work.old)
+        (handed_of result) budget.new (world_of anchor.now pages.now backups.new logs.now work.new) }
+    ensures work_value { sound (core_of state.carried work.old) ≡ true → sound (core_of result.state.carried work.new) ≡ true }
 {
     let core = loaded(state, work);
     let from = body_start(work.len());
@@ -68,9 +67,9 @@ pub fn checkpoint_end(
     work: &mut [u64],
     budget: &mut u64,
 ) -> Called
-    ensures serves { Serves (checkpoint_end (old budget)) state.carried (old_world anchor pages backups logs work)
-        (handed_of result) (new budget) (world_of (new anchor) (old pages) (old backups) (new logs) (new work)) }
-    ensures work_value { sound (core_of state.carried (old work)) ≡ true → sound (core_of result.state.carried (new work)) ≡ true }
+    ensures serves { Serves (checkpoint_end budget.old) state.carried (world_of anchor.old pages.now backups.now logs.old work.old)
+        (handed_of result) budget.new (world_of anchor.new pages.now backups.now logs.new work.new) }
+    ensures work_value { sound (core_of state.carried work.old) ≡ true → sound (core_of result.state.carried work.new) ≡ true }
 {
     let core = loaded(state, work);
     let from = body_start(work.len());

@@ -1,7 +1,6 @@
 // Format.
 ghost use Rattle.std.specs.Prelude.{◌≡◌, true};
 ghost use Rattle.model.specs.World.{world_of};
-ghost use Rattle.model.specs.Moments.{old, new, old_world};
 ghost use Rattle.model.specs.State.{sound};
 ghost use Rattle.model.specs.Call.{format};
 ghost use Rattle.model.specs.View.{core_of, Serves};
@@ -27,9 +26,9 @@ pub fn format(
     work: &mut [u64],
     budget: &mut u64,
 ) -> Called
-    ensures serves { Serves (format (record { pages = pages_count; disks = disks; ring = ring; slots = slots; widths = widths }) (old budget))
-        state.carried (old_world anchor pages backups logs work) (handed_of result) (new budget) (world_of (new anchor) (new pages) (new backups) (new logs) (new work)) }
-    ensures work_value { sound (core_of state.carried (old work)) ≡ true → sound (core_of result.state.carried (new work)) ≡ true }
+    ensures serves { Serves (format (record { pages = pages_count; disks = disks; ring = ring; slots = slots; widths = widths }) budget.old)
+        state.carried (world_of anchor.old pages.old backups.old logs.old work.old) (handed_of result) budget.new (world_of anchor.new pages.new backups.new logs.new work.new) }
+    ensures work_value { sound (core_of state.carried work.old) ≡ true → sound (core_of result.state.carried work.new) ≡ true }
 {
     let core = loaded(state, work);
     let from = body_start(work.len());

@@ -1,7 +1,6 @@
 // The log on paper. Both calls read the anchor, the log disks and the state's stage, and change nothing but the bytes that they are lent.
 ghost use Rattle.std.specs.Prelude.{◌≡◌, List, ℕ, length};
 ghost use Rattle.model.specs.World.{world_of};
-ghost use Rattle.model.specs.Moments.{old, new};
 ghost use Rattle.model.specs.Listing.{line_after, lines_after};
 ghost use Rattle.model.specs.Call.{look, list_line, list_lines};
 ghost use Rattle.model.specs.View.{Serves};
@@ -11,9 +10,9 @@ use model::Answer;
 
 // Writes the line of a number, counted from 0 with the headings, into 73 bytes.
 pub fn list_line(state: State, number: u64, anchor: &[u64], logs: &[u64], out: &mut [u8]) -> Answer
-    ensures by_index { (pages backups work : List ℕ) → Serves (look (list_line number (length (old out)))) state.carried (world_of (old anchor) pages backups (old logs) work)
-        (record { answer = result; carried = state.carried }) 0 (world_of (old anchor) pages backups (old logs) work) }
-    ensures out_value { new out ≡ line_after state.carried.stage (old anchor) (old logs) number (old out) }
+    ensures by_index { (pages backups work : List ℕ) → Serves (look (list_line number (length out.old))) state.carried (world_of anchor.now pages backups logs.now work)
+        (record { answer = result; carried = state.carried }) 0 (world_of anchor.now pages backups logs.now work) }
+    ensures out_value { out.new ≡ line_after state.carried.stage anchor.now logs.now number out.old }
 {
     let carried = carried_of(state);
     let stage = carried.stage;
@@ -23,9 +22,9 @@ pub fn list_line(state: State, number: u64, anchor: &[u64], logs: &[u64], out: &
 // Writes the lines from a number on, as many as there are and as the bytes, a whole number of lines, have room for; answers how many. So a
 // whole listing is written by one call, which reads the log twice, to check it and to write it.
 pub fn list_lines(state: State, first: u64, anchor: &[u64], logs: &[u64], out: &mut [u8]) -> Answer
-    ensures by_index { (pages backups work : List ℕ) → Serves (look (list_lines first (length (old out)))) state.carried (world_of (old anchor) pages backups (old logs) work)
-        (record { answer = result; carried = state.carried }) 0 (world_of (old anchor) pages backups (old logs) work) }
-    ensures out_value { new out ≡ lines_after state.carried.stage (old anchor) (old logs) first (old out) }
+    ensures by_index { (pages backups work : List ℕ) → Serves (look (list_lines first (length out.old))) state.carried (world_of anchor.now pages backups logs.now work)
+        (record { answer = result; carried = state.carried }) 0 (world_of anchor.now pages backups logs.now work) }
+    ensures out_value { out.new ≡ lines_after state.carried.stage anchor.now logs.now first out.old }
 {
     let carried = carried_of(state);
     let stage = carried.stage;

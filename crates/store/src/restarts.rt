@@ -1,7 +1,6 @@
 // The calls of a restart, and what remains of a source.
 ghost use Rattle.std.specs.Prelude.{◌≡◌, true};
 ghost use Rattle.model.specs.World.{world_of};
-ghost use Rattle.model.specs.Moments.{old, new, old_world};
 ghost use Rattle.model.specs.State.{sound};
 ghost use Rattle.model.specs.Restart.{remaining};
 ghost use Rattle.model.specs.Call.{restart_begin, restart_step, restart_run, restart_end};
@@ -21,9 +20,9 @@ pub fn restart_begin(
     logs: &[u64],
     work: &mut [u64],
 ) -> Called
-    ensures serves { Serves restart_begin state.carried (old_world anchor pages backups logs work)
-        (handed_of result) 0 (world_of (old anchor) (new pages) (old backups) (old logs) (new work)) }
-    ensures work_value { sound (core_of state.carried (old work)) ≡ true → sound (core_of result.state.carried (new work)) ≡ true }
+    ensures serves { Serves restart_begin state.carried (world_of anchor.now pages.old backups.now logs.now work.old)
+        (handed_of result) 0 (world_of anchor.now pages.new backups.now logs.now work.new) }
+    ensures work_value { sound (core_of state.carried work.old) ≡ true → sound (core_of result.state.carried work.new) ≡ true }
 {
     let core = loaded(state, work);
     let from = body_start(work.len());
@@ -41,9 +40,9 @@ pub fn restart_step(
     logs: &[u64],
     work: &mut [u64],
 ) -> Called
-    ensures serves { Serves (restart_step source) state.carried (old_world anchor pages backups logs work)
-        (handed_of result) 0 (world_of (old anchor) (new pages) (old backups) (old logs) (new work)) }
-    ensures work_value { sound (core_of state.carried (old work)) ≡ true → sound (core_of result.state.carried (new work)) ≡ true }
+    ensures serves { Serves (restart_step source) state.carried (world_of anchor.now pages.old backups.now logs.now work.old)
+        (handed_of result) 0 (world_of anchor.now pages.new backups.now logs.now work.new) }
+    ensures work_value { sound (core_of state.carried work.old) ≡ true → sound (core_of result.state.carried work.new) ≡ true }
 {
     let carried = carried_of(state);
     let handed = restart::step::step(carried, source, anchor, pages, backups, logs, work);
@@ -61,9 +60,9 @@ pub fn restart_run(
     logs: &[u64],
     work: &mut [u64],
 ) -> Called
-    ensures serves { Serves (restart_run source most) state.carried (old_world anchor pages backups logs work)
-        (handed_of result) 0 (world_of (old anchor) (new pages) (old backups) (old logs) (new work)) }
-    ensures work_value { sound (core_of state.carried (old work)) ≡ true → sound (core_of result.state.carried (new work)) ≡ true }
+    ensures serves { Serves (restart_run source most) state.carried (world_of anchor.now pages.old backups.now logs.now work.old)
+        (handed_of result) 0 (world_of anchor.now pages.new backups.now logs.now work.new) }
+    ensures work_value { sound (core_of state.carried work.old) ≡ true → sound (core_of result.state.carried work.new) ≡ true }
 {
     let core = loaded(state, work);
     let from = body_start(work.len());
@@ -90,9 +89,9 @@ pub fn restart_end(
     work: &mut [u64],
     budget: &mut u64,
 ) -> Called
-    ensures serves { Serves (restart_end (old budget)) state.carried (old_world anchor pages backups logs work)
-        (handed_of result) (new budget) (world_of (new anchor) (old pages) (new backups) (old logs) (new work)) }
-    ensures work_value { sound (core_of state.carried (old work)) ≡ true → sound (core_of result.state.carried (new work)) ≡ true }
+    ensures serves { Serves (restart_end budget.old) state.carried (world_of anchor.old pages.now backups.old logs.now work.old)
+        (handed_of result) budget.new (world_of anchor.new pages.now backups.new logs.now work.new) }
+    ensures work_value { sound (core_of state.carried work.old) ≡ true → sound (core_of result.state.carried work.new) ≡ true }
 {
     let core = loaded(state, work);
     let from = body_start(work.len());
@@ -110,7 +109,7 @@ pub fn restart_end(
 
 // What remains of a source: words of a log, pages of the backup.
 pub fn restart_remaining(state: State, source: u64, work: &[u64]) -> u64
-    ensures { result ≡ remaining (core_of state.carried (old work)) source }
+    ensures { result ≡ remaining (core_of state.carried work.now) source }
 {
     let carried = carried_of(state);
     restart::remain::remaining(carried, source, work)

@@ -1,7 +1,6 @@
 // The calls of a transaction.
 ghost use Rattle.std.specs.Prelude.{◌≡◌, true, List, ℕ};
 ghost use Rattle.model.specs.World.{world_of};
-ghost use Rattle.model.specs.Moments.{old, new, old_world};
 ghost use Rattle.model.specs.State.{sound};
 ghost use Rattle.model.specs.Transaction.{read_words};
 ghost use Rattle.model.specs.Call.{begin, update, read, commit, abort, set_classes, look};
@@ -21,9 +20,9 @@ pub fn begin(
     logs: &[u64],
     work: &mut [u64],
 ) -> Called
-    ensures serves { Serves (begin class) state.carried (old_world anchor pages backups logs work)
-        (handed_of result) 0 (world_of (old anchor) (old pages) (old backups) (old logs) (new work)) }
-    ensures work_value { sound (core_of state.carried (old work)) ≡ true → sound (core_of result.state.carried (new work)) ≡ true }
+    ensures serves { Serves (begin class) state.carried (world_of anchor.now pages.now backups.now logs.now work.old)
+        (handed_of result) 0 (world_of anchor.now pages.now backups.now logs.now work.new) }
+    ensures work_value { sound (core_of state.carried work.old) ≡ true → sound (core_of result.state.carried work.new) ≡ true }
 {
     let carried = carried_of(state);
     let handed = txn::begin::begin(carried, class, anchor, pages, backups, logs, work);
@@ -32,9 +31,9 @@ pub fn begin(
 
 // Sets which disks serve which class, from 1 to 16 lines of three words: lowest class, highest class, set of disks. No device is lent.
 pub fn set_classes(state: State, lines: &[u64], work: &[u64]) -> Called
-    ensures serves { (anchor pages backups logs : List ℕ) → Serves (set_classes (old lines)) state.carried (world_of anchor pages backups logs (old work))
-        (handed_of result) 0 (world_of anchor pages backups logs (old work)) }
-    ensures work_value { sound (core_of state.carried (old work)) ≡ true → sound (core_of result.state.carried (old work)) ≡ true }
+    ensures serves { (anchor pages backups logs : List ℕ) → Serves (set_classes lines.now) state.carried (world_of anchor pages backups logs work.now)
+        (handed_of result) 0 (world_of anchor pages backups logs work.now) }
+    ensures work_value { sound (core_of state.carried work.now) ≡ true → sound (core_of result.state.carried work.now) ≡ true }
 {
     let carried = carried_of(state);
     let handed = txn::setting::set_classes(carried, lines, work);
@@ -55,9 +54,9 @@ pub fn update(
     work: &mut [u64],
     budget: &mut u64,
 ) -> Called
-    ensures serves { Serves (update number page slot (old value) (old budget)) state.carried (old_world anchor pages backups logs work)
-        (handed_of result) (new budget) (world_of (old anchor) (new pages) (old backups) (new logs) (new work)) }
-    ensures work_value { sound (core_of state.carried (old work)) ≡ true → sound (core_of result.state.carried (new work)) ≡ true }
+    ensures serves { Serves (update number page slot value.now budget.old) state.carried (world_of anchor.now pages.old backups.now logs.old work.old)
+        (handed_of result) budget.new (world_of anchor.now pages.new backups.now logs.new work.new) }
+    ensures work_value { sound (core_of state.carried work.old) ≡ true → sound (core_of result.state.carried work.new) ≡ true }
 {
     let carried = carried_of(state);
     let handed = access::update::update(
@@ -78,7 +77,7 @@ pub fn read<'a>(
     logs: &[u64],
     work: &[u64],
 ) -> &'a [u64]
-    ensures { result.now ≡ read_words (core_of state.carried (old work)) (body_of (old_world anchor pages backups logs work)) reader page slot }
+    ensures { result.now ≡ read_words (core_of state.carried work.now) (body_of (world_of anchor.now pages.now backups.now logs.now work.now)) reader page slot }
 {
     access::read::read(
         state.carried,
@@ -105,8 +104,8 @@ pub fn read_answer(
     logs: &[u64],
     work: &[u64],
 ) -> Answer
-    ensures { Serves (look (read reader page slot)) state.carried (old_world anchor pages backups logs work)
-        (record { answer = result; carried = state.carried }) 0 (old_world anchor pages backups logs work) }
+    ensures { Serves (look (read reader page slot)) state.carried (world_of anchor.now pages.now backups.now logs.now work.now)
+        (record { answer = result; carried = state.carried }) 0 (world_of anchor.now pages.now backups.now logs.now work.now) }
 {
     access::read::read_answer(
         state.carried,
@@ -132,9 +131,9 @@ pub fn commit(
     work: &mut [u64],
     budget: &mut u64,
 ) -> Called
-    ensures serves { Serves (commit number (old budget)) state.carried (old_world anchor pages backups logs work)
-        (handed_of result) (new budget) (world_of (old anchor) (old pages) (old backups) (new logs) (new work)) }
-    ensures work_value { sound (core_of state.carried (old work)) ≡ true → sound (core_of result.state.carried (new work)) ≡ true }
+    ensures serves { Serves (commit number budget.old) state.carried (world_of anchor.now pages.now backups.now logs.old work.old)
+        (handed_of result) budget.new (world_of anchor.now pages.now backups.now logs.new work.new) }
+    ensures work_value { sound (core_of state.carried work.old) ≡ true → sound (core_of result.state.carried work.new) ≡ true }
 {
     let carried = carried_of(state);
     let handed = txn::commit::commit(carried, number, anchor, pages, backups, logs, work, budget);
@@ -152,9 +151,9 @@ pub fn abort(
     work: &mut [u64],
     budget: &mut u64,
 ) -> Called
-    ensures serves { Serves (abort number (old budget)) state.carried (old_world anchor pages backups logs work)
-        (handed_of result) (new budget) (world_of (old anchor) (new pages) (old backups) (new logs) (new work)) }
-    ensures work_value { sound (core_of state.carried (old work)) ≡ true → sound (core_of result.state.carried (new work)) ≡ true }
+    ensures serves { Serves (abort number budget.old) state.carried (world_of anchor.now pages.old backups.now logs.old work.old)
+        (handed_of result) budget.new (world_of anchor.now pages.new backups.now logs.new work.new) }
+    ensures work_value { sound (core_of state.carried work.old) ≡ true → sound (core_of result.state.carried work.new) ≡ true }
 {
     let carried = carried_of(state);
     let handed = abort::abort::abort(carried, number, anchor, pages, backups, logs, work, budget);

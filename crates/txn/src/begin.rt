@@ -2,7 +2,6 @@
 ghost use Rattle.std.specs.Prelude.{◌≡◌, true, ℕ, ◌≤◌, length};
 ghost use Rattle.model.specs.declared.Carried.{Carried};
 ghost use Rattle.model.specs.World.{world_of};
-ghost use Rattle.model.specs.Moments.{old, new, old_world};
 ghost use Rattle.model.specs.Classes.{set_for};
 ghost use Rattle.model.specs.Room.{idlest};
 ghost use Rattle.model.specs.Call.{begin};
@@ -28,8 +27,8 @@ fn idlest_disk(
     work: &[u64],
 ) -> usize
     requires { (disks ≤ 8) × (head_words ≤ length work.now) }
-    ensures { ((h : Carried) (class : ℕ) → own_work h (old work) ≡ true → h.disks ≡ disks → h.ring ≡ ring → h.starts ≡ starts → h.tails ≡ tails
-        → set ≡ set_for h.classes class → result ≡ idlest (core_of h (old work)) class 2) × (result ≤ 8) }
+    ensures { ((h : Carried) (class : ℕ) → own_work h work.now ≡ true → h.disks ≡ disks → h.ring ≡ ring → h.starts ≡ starts → h.tails ≡ tails
+        → set ≡ set_for h.classes class → result ≡ idlest (core_of h work.now) class 2) × (result ≤ 8) }
 {
     let fills = &work[FILLS_AT..SUMS_AT];
     let sums = &work[SUMS_AT..POSITIONS_AT];
@@ -45,8 +44,8 @@ pub fn begin(
     logs: &[u64],
     work: &mut [u64],
 ) -> Handed
-    ensures { Serves (begin class) carried (old_world anchor pages backups logs work)
-        result 0 (world_of (old anchor) (old pages) (old backups) (old logs) (new work)) }
+    ensures { Serves (begin class) carried (world_of anchor.now pages.now backups.now logs.now work.old)
+        result 0 (world_of anchor.now pages.now backups.now logs.now work.new) }
 {
     let stage = carried.stage;
     let refusal = lent_refusal(

@@ -3,7 +3,6 @@ ghost use Rattle.std.specs.Prelude.{◌≡◌, ◌+◌, ◌≤◌, ◌<◌, leng
 ghost use Rattle.model.specs.declared.Sizes.{Sizes};
 ghost use Rattle.model.specs.declared.Logs.{Logs};
 ghost use Rattle.model.specs.World.{World, world_of};
-ghost use Rattle.model.specs.Moments.{old, new, old_world};
 ghost use Rattle.model.specs.State.{places, limit};
 ghost use Rattle.model.specs.Call.{commit};
 ghost use Rattle.model.specs.View.{head_words, Serves};
@@ -63,7 +62,7 @@ fn store_close(
 // Nothing is buffered on the disk, and the place is free; `sum` words stay reserved.
 fn close_place(work: &mut [u64], place: usize, disk: usize, sum: u64)
     requires { (place < places) × (disk < 8) × (head_words ≤ length work.old) }
-    ensures { new work ≡ put_words (closed place disk sum) (old work) }
+    ensures { work.new ≡ put_words (closed place disk sum) work.old }
 {
     set_fill(work, disk, 0);
     leave(work, place, disk, sum);
@@ -79,8 +78,8 @@ pub fn commit(
     work: &mut [u64],
     budget: &mut u64,
 ) -> Handed
-    ensures { Serves (commit number (old budget)) carried (old_world anchor pages backups logs work)
-        result (new budget) (world_of (old anchor) (old pages) (old backups) (new logs) (new work)) }
+    ensures { Serves (commit number budget.old) carried (world_of anchor.now pages.now backups.now logs.old work.old)
+        result budget.new (world_of anchor.now pages.now backups.now logs.new work.new) }
 {
     let stage = carried.stage;
     let refusal = lent_refusal(

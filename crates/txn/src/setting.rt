@@ -1,7 +1,6 @@
 // Setting a table of classes: which disks serve which transactions.
 ghost use Rattle.std.specs.Prelude.{◌≡◌, List, ℕ, length};
 ghost use Rattle.model.specs.declared.Carried.{Carried};
-ghost use Rattle.model.specs.Moments.{old};
 ghost use Rattle.model.specs.World.{world_of};
 ghost use Rattle.model.specs.Call.{set_classes};
 ghost use Rattle.model.specs.View.{Serves};
@@ -26,7 +25,7 @@ fn lent_fault(
     lines: &[u64],
 ) -> u64
     ensures { (h : Carried) (memory : List ℕ) → h.stage ≡ stage → h.pages ≡ pages → h.disks ≡ disks → h.ring ≡ ring → h.total ≡ total
-        → length memory ≡ work → result ≡ lent_fault h memory (old lines) }
+        → length memory ≡ work → result ≡ lent_fault h memory lines.now }
 {
     if !is_serving(stage) {
         return 1;
@@ -42,8 +41,8 @@ fn lent_fault(
 
 // Three words a line: lowest class, highest class, set of disks. What is in the work memory does not matter, but it goes with the state.
 pub fn set_classes(carried: Carried, lines: &[u64], work: &[u64]) -> Handed
-    ensures { (anchor pages backups logs : List ℕ) → Serves (set_classes (old lines)) carried (world_of anchor pages backups logs (old work))
-        result 0 (world_of anchor pages backups logs (old work)) }
+    ensures { (anchor pages backups logs : List ℕ) → Serves (set_classes lines.now) carried (world_of anchor pages backups logs work.now)
+        result 0 (world_of anchor pages backups logs work.now) }
 {
     let stage = carried.stage;
     let fault = lent_fault(

@@ -11,13 +11,17 @@ use Rattle.layout.proofs.Laws.{entries_of}
 use Rattle.layout.proofs.Faults.{count_more}
 use Rattle.layout.proofs.bounds.all_faults.Goals as goal
 
+pub loop-i-init : goal.loop-i-init
+unfolding all_below
+loop-i-init c = search rules
+
 pub loop-i-preserved : goal.loop-i-preserved
 unfolding entry_in_bounds used_entry unused_entry page_words slots_in width_in
 loop-i-preserved c =
-    let i = c.way_told-1.i in
-    let given = c.loop-i-test in
+    let i = c.loop-i.i in
+    let given = c.args in
     let entry = entry_in_bounds (entries_of given.from given.slots.now given.widths.now) in
-    (omega arith, omega arith, omega arith, count_more entry i c.way_told-1.faults c.unused_fault-faults.result (rw (le-ltb i given.from (omega arith)) c.unused_fault-faults.ensures.1) c.way_told-1.invariant.3)
+    (omega arith, omega arith, omega arith, count_more entry i c.loop-i.faults c.unused_fault-faults.result (rw (le-ltb i given.from (omega arith)) c.unused_fault-faults.ensures.1) c.loop-i.invariant.3)
 
 pub returns : goal.returns
 returns c =

@@ -12,7 +12,7 @@ overflow_cast-bytes c = omega (arith, c.requires c.loop-i.i (omega arith))
 
 pub loop-i-preserved : goal.loop-i-preserved
 loop-i-preserved c =
-    let words = c.args.t1 in
+    let words = c.args.words in
     let inv = c.loop-i.invariant in
     let long : length words ≡ 64 = search rules in (
       omega arith,
@@ -22,6 +22,6 @@ loop-i-preserved c =
 
 pub returns : goal.returns
 returns c =
-    let words = c.args.t1 in
+    let words = c.args.words in
     let inv = c.loop-i.invariant in
     fill_end c.loop-i.bytes words 64 c.loop-i.i (omega arith) inv.1 (search rules) inv.2

@@ -12,16 +12,16 @@ returns-then-not-counts_in_bounds c = counts_out _ (sym c.counts_in_bounds.ensur
 pub used_faults-used-requires : goal.used_faults-used-requires
 unfolding counts_in_bounds
 used_faults-used-requires c =
-    let counts = sym c.counts_in_bounds.ensures ∙ not-false _ c.if-not-counts_in_bounds.false in
+    let counts = sym c.counts_in_bounds.ensures ∙ c.if-not-counts_in_bounds.false in
     (in_range 1 64 _ (both _ _ (both _ _ counts).0).0).1
 
 pub all_faults-requires : goal.all_faults-requires
 unfolding counts_in_bounds
 all_faults-requires c =
-    let counts = sym c.counts_in_bounds.ensures ∙ not-false _ c.if-not-counts_in_bounds.false in
+    let counts = sym c.counts_in_bounds.ensures ∙ c.if-not-counts_in_bounds.false in
     ((in_range 1 64 _ (both _ _ (both _ _ counts).0).0).1, c.used_faults-used.ensures.0, c.used_faults-used.ensures.1)
 
 pub returns : goal.returns
 returns c =
-    let counts = sym c.counts_in_bounds.ensures ∙ not-false _ c.if-not-counts_in_bounds.false in
+    let counts = sym c.counts_in_bounds.ensures ∙ c.if-not-counts_in_bounds.false in
     c.all_faults.ensures ∙ all_entries _ counts (search rules) (search rules)

@@ -9,6 +9,10 @@ use Rattle.model.specs.Sizes.{slots_in, width_in, page_words, page_base}
 use Rattle.model.proofs.Below.{sum_step}
 use Rattle.layout.proofs.places.page_base.Goals as goal
 
+pub loop-i-init : goal.loop-i-init
+unfolding sum_below
+loop-i-init c = search rules
+
 pub loop-i-preserved : goal.loop-i-preserved
 loop-i-preserved c =
     (omega arith, omega arith, rw (sum_step, c.words_in_slots-words.ensures, c.loop-i.invariant.2))

@@ -1,0 +1,16 @@
+-- `head::load::core_in` meets its contract: each list is read at its place. Assumes nothing.
+use borrow.Author.Rules.{rules}
+use Rattle.head.specs.Narrow.{narrowed}
+use Rattle.head.proofs.load.core_in.Goals as goal
+
+pub returns : goal.returns
+unfolding narrowed
+returns c =
+    rw (
+      c.bytes_at-slots.ensures,
+      c.bytes_at-widths.ensures,
+      c.bases_at-bases.ensures,
+      c.eight_at-fills.ensures,
+      c.eight_at-positions.ensures,
+      c.table_in-table.ensures c.args.carried,
+    )

@@ -1,0 +1,15 @@
+-- `lines::output::put_line` meets its contract.
+use native.Mathlib.Omega.{arith}
+use borrow.Author.Rules.{rules}
+use mathlib.Core.Path.{◌∙◌}
+use lib.Seq.{drop-length}
+use Rattle.lines.proofs.output.put_line.Goals as goal
+
+pub returns : goal.returns
+returns c =
+    let front = c.put_two.ensures in
+    let back = c.put_two-at.ensures in
+    record {
+      upper_bound = omega arith;
+      out_after = (front.1 ∙ rw (back.1, drop-length c.args.out.now));
+    }

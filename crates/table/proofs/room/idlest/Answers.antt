@@ -1,0 +1,25 @@
+-- `table::room::idlest` meets its contract: the best of the disks passed. Assumes nothing.
+use Prim.Native.Nat.{◌-◌, ◌≤◌}
+use mathlib.Core.Path.{◌≡◌, refl}
+use native.Mathlib.Omega.{arith}
+use borrow.Author.Rules.{rules}
+use mathlib.Core.Bool.{◌&&◌}
+use Rattle.model.specs.Classes.{in_set}
+use Rattle.model.specs.Room.{has_room, load_of, idlest_below}
+use Rattle.table.specs.Parts.{logs_of, sums_of, core_of, idlest_in}
+use Rattle.table.proofs.HasRoom.{choice_computed, idlest_step}
+use Rattle.table.proofs.room.idlest.Goals as goal
+
+pub loop-d-init : goal.loop-d-init
+unfolding idlest_below
+loop-d-init c = (search rules, search rules, refl)
+
+pub loop-d-preserved : goal.loop-d-preserved
+loop-d-preserved c =
+    (search rules, search rules, idlest_step _ _ _ _ _ _ c.loop-d.invariant.2 (choice_computed _ _ _ _ _ _ refl) c.better_disk-best.ensures.1)
+
+pub returns : goal.returns
+unfolding idlest_in
+returns c =
+    let last : c.loop-d.d ≡ c.args.disks = omega arith in
+    (search rules, rw last at c.loop-d.invariant.2)

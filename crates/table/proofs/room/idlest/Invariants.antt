@@ -1,0 +1,18 @@
+-- `table::room::idlest` meets its contract: the best of the disks passed. Assumes nothing.
+use Prim.Native.Nat.{◌-◌, ◌≤◌}
+use mathlib.Core.Path.{◌≡◌, refl}
+use native.Mathlib.Omega.{arith}
+use borrow.Author.Rules.{rules}
+use mathlib.Core.Bool.{◌&&◌}
+use Rattle.model.specs.Classes.{in_set}
+use Rattle.model.specs.Room.{has_room, load_of, idlest_below}
+use Rattle.table.specs.Parts.{logs_of, sums_of, core_of, idlest_in}
+use Rattle.table.proofs.HasRoom.{choice_computed, idlest_step}
+use Rattle.table.proofs.room.idlest.Given as goal
+
+abbrev pub invariant-loop-d : goal.invariant-loop-d
+invariant-loop-d l = (l.d ≤ l.disks) × (l.best ≤ 8)
+    × (l.best ≡ idlest_below (λ i. in_set l.set i && has_room (core_of l.disks l.ring (logs_of l.starts l.tails l.fills) (sums_of l.sums)) 2 i) (load_of (logs_of l.starts l.tails l.fills)) l.d)
+
+abbrev pub decreases-loop-d : goal.decreases-loop-d
+decreases-loop-d l = l.disks - l.d

@@ -1,0 +1,18 @@
+-- `table::sound::ends_sound` meets its contract: the ends passed lie in their logs. Assumes nothing.
+use Prim.Native.Nat.{◌-◌, ◌≤◌}
+use mathlib.Core.Bool.{true}
+use mathlib.Core.Path.{◌≡◌, refl, sym, ◌∙◌}
+use native.Mathlib.Omega.{arith}
+use borrow.Author.Tests.{not-true, not-false}
+use borrow.Author.Rules.{rules}
+use Rattle.model.specs.Below.{all_below}
+use Rattle.model.specs.State.{start_of, tail_of, fill_of, end_of}
+use Rattle.table.specs.Parts.{end_within}
+use Rattle.model.proofs.Below.{all_more, all_stop, all_done}
+use Rattle.table.proofs.sound.ends_sound.Given as goal
+
+abbrev pub invariant-loop-d : goal.invariant-loop-d
+invariant-loop-d l = (l.d ≤ l.disks) × (all_below (end_within l.logs l.ends) l.d ≡ true)
+
+abbrev pub decreases-loop-d : goal.decreases-loop-d
+decreases-loop-d l = l.disks - l.d
