@@ -44,6 +44,35 @@ ENSURES = clause_names("ensures")
 REQUIRES = clause_names("requires")
 
 
+def signatures():
+    """The &mut parameters of each function, in order."""
+    out = {}
+    for folder, dirs, names in os.walk("crates"):
+        dirs[:] = [d for d in dirs if d != "out"]
+        for n in names:
+            if n.endswith(".rt"):
+                for m in re.finditer(r"\bfn (\w+)(?:<[^(]*>)?\(([^{]*?)\)(?: ->|\s*\n| \{)", read(os.path.join(folder, n)), re.S):
+                    out[m[1]] = re.findall(r"(\w+): &(?:'\w+ )?mut ", m[2])
+    return out
+
+
+MUTABLE = signatures()
+
+
+def step_of(name):
+    """The function that a step calls."""
+    name = name.split("-")[0]
+    return name if name in MUTABLE else re.sub(r"\d+$", "", name)
+
+
+def by_parameter(step, rest):
+    """.new.0 of a step, by the parameter's name."""
+    names = MUTABLE.get(step_of(step))
+    if rest[:1] == ["new"] and len(rest) > 1 and rest[1].isdigit() and names and int(rest[1]) < len(names):
+        return ["new", names[int(rest[1])]] + rest[2:]
+    return rest
+
+
 def as_record(body, names):
     """A body that ends in a tuple, as a record with a field for each clause."""
     s = body.rstrip()
@@ -132,6 +161,40 @@ def projected(path, n):
     return None, 0
 
 
+def aligned(needs, by_name, goals):
+    """The needs that have a goal today, a need for each goal: the need of a call that only its lifetimes had is none any more."""
+
+    def fits(a, goal):
+        if a not in by_name:
+            return True
+        m = re.match(r"tie\.Need-(\S+)", by_name[a]["type"])
+        own = norm(re.sub(r"^(overflow|nonzero|offset)-", "", m[1])) if m else ""
+        return re.sub(r"\d+$", "", own) == re.sub(r"\d+$", "", norm(goal[0]))
+
+    n, g = len(needs), len(goals)
+    best = {(0, 0): (0, None)}
+    for i in range(n + 1):
+        for k in range(g + 1):
+            if (i, k) not in best:
+                continue
+            cost = best[i, k][0]
+            if i < n and k < g and fits(needs[i], goals[k]):
+                if (i + 1, k + 1) not in best or best[i + 1, k + 1][0] > cost:
+                    best[i + 1, k + 1] = (cost, (i, k, True))
+            if i < n and "κs" in needs[i]:
+                if (i + 1, k) not in best or best[i + 1, k][0] > cost + 1:
+                    best[i + 1, k] = (cost + 1, (i, k, False))
+    if (n, g) not in best:
+        return None, needs
+    kept, at = [], (n, g)
+    while at != (0, 0):
+        i, k, took = best[at][1]
+        if took:
+            kept.append(needs[i])
+        at = (i, k)
+    return kept[::-1], needs
+
+
 class Fn:
     def __init__(self, path, j, text):
         self.path, self.j, self.text = path, j, text
@@ -176,15 +239,7 @@ class Fn:
             self.say(f"no place {n} before {need_place} for {'.'.join(fields)}")
             return ".".join(["c"] + fields)
         if place == "Start":
-            if f == "args" and rest and re.match(r"t\d+$", rest[0]) and self.params:
-                rest = [self.params[int(rest[0][1:]) - 1]] + rest[1:] if int(rest[0][1:]) <= len(self.params) else rest
-            if f == "requires":
-                names = (self.j["pre"] or {}).get("fields") or []
-                if len(names) > 1:
-                    i, used = projected(rest, len(names))
-                    if i is not None:
-                        return ".".join(["c", "requires", names[i]] + rest[used:])
-            return ".".join(["c", f] + rest)
+            return ".".join(["c"] + self.named(fields))
         if rest[:1] == ["given"]:
             rows = [self.j["typed"][self.order.index(q)] for q in self.chain(need_place)]
             for row in rows:
@@ -198,14 +253,26 @@ class Fn:
                         return ".".join(["c", "type_inv", name] + rest[1:])
             self.say(f"no type_inv for {'.'.join(fields)}")
             return ".".join(["c", self.step(place)[1]] + rest)
-        new = self.step(place)[1]
+        return ".".join(["c"] + self.named([self.step(place)[1]] + rest))
+
+    def named(self, parts):
+        """A path below `c` whose steps have today's names, with today's names for what it projects."""
+        f, rest = parts[0], parts[1:]
+        if f == "args" and rest and re.match(r"t\d+$", rest[0]) and 0 < int(rest[0][1:]) <= len(self.params):
+            return [f, self.params[int(rest[0][1:]) - 1]] + rest[1:]
+        if f == "requires":
+            names = (self.j["pre"] or {}).get("fields") or []
+            if len(names) > 1:
+                i, used = projected(rest, len(names))
+                if i is not None:
+                    return [f, names[i]] + rest[used:]
         if rest[:1] == ["ensures"]:
-            names = ENSURES.get(re.sub(r"\d+$", "", f.replace("-", "_")))
+            names = ENSURES.get(step_of(f))
             if names:
                 i, used = projected(rest[1:], len(names))
                 if i is not None and names[i]:
-                    return ".".join(["c", new, "ensures", names[i]] + rest[1 + used:])
-        return ".".join(["c", new] + rest)
+                    return [f, "ensures", names[i]] + rest[1 + used:]
+        return [f] + by_parameter(f, rest)
 
     def clauses(self, goal, head, body):
         """The body of an answer, as a record where its goal has a field for each clause."""
@@ -246,7 +313,19 @@ class Fn:
             return self.fixed(place, n + (0 if head == "c" else aliases[head]), rest[n:])
 
         names = "|".join(["c"] + [re.escape(a) for a in aliases])
-        return re.sub(rf"(?<![\w.'-])(?:{names})(?:\.[\w'₀-₉-]+)*(?![\w'-])", one, body)
+        body = re.sub(rf"(?<![\w.'-])(?:{names})(?:\.[\w'₀-₉-]+)*(?![\w'-])", one, body)
+        body = body.replace(".well-formed", ".well_formed")
+        # a `let` that names the arguments, a step or what it ensures
+        for m in list(re.finditer(r"let ([\w'₀-₉-]+) = c\.([\w'₀-₉.-]+) in", body)):
+            name, of = m[1], m[2].split(".")
+
+            def inner(w):
+                rest = w[0].split(".")[1:]
+                whole = self.named(of + rest)
+                return ".".join([name] + (whole[len(of):] if whole[: len(of)] == of else rest))
+
+            body = re.sub(rf"(?<![\w.'-]){re.escape(name)}(?:\.[\w'₀-₉-]+)+", inner, body)
+        return body
 
 
 def convert(path):
@@ -317,8 +396,8 @@ def convert(path):
     pre = [a for a in args if a in by_name and re.match(r"tie\.(invariant|decreases|measure)", by_name[a]["type"])]
     needs = [a for a in args if a not in pre]
     goals = j["needs"]
-    lam = [a for a in needs]
-    if len(lam) != len(goals):
+    needs, lam = aligned(needs, by_name, goals)
+    if needs is None:
         print(f"{CRATE} {label}: {len(lam)} needs and {len(goals)} goals: old {[by_name[a]['type'] if a in by_name else a for a in lam]} new {goals}")
         return
     inv_out, ans_out = [], []

@@ -24,7 +24,7 @@ returns c =
     let first = c.copy_words in
     let second = c.copy_words-2 in
     let third = c.copy_words-3 in
-    two_runs s.work.now 192 8 s.t2 _ (search rules) (copied s.work.now 192 8 s.t2 (search rules) first.ensures)
-    (two_runs first.new.0 200 8 s.t3 _ (search rules) (copied first.new.0 200 8 s.t3 (search rules) second.ensures)
-    (two_runs second.new.0 208 8 s.replay.positions (s.replay.page ∷ []) (search rules)
-    (copied second.new.0 208 8 s.replay.positions (search rules) third.ensures) refl))
+    two_runs s.work.now 192 8 s.fills _ (search rules) (copied s.work.now 192 8 s.fills (search rules) first.ensures)
+    (two_runs first.new.target 200 8 s.sums _ (search rules) (copied first.new.target 200 8 s.sums (search rules) second.ensures)
+    (two_runs second.new.target 208 8 s.replay.positions (s.replay.page ∷ []) (search rules)
+    (copied second.new.target 208 8 s.replay.positions (search rules) third.ensures) refl))

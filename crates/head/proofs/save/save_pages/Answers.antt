@@ -25,4 +25,4 @@ pub returns : goal.returns
 returns c =
     let s = c.args in
     two_runs s.work.now 0 64 s.sizes.slots _ (search rules) c.put_bytes.ensures
-    (two_runs c.put_bytes.new.0 64 64 s.sizes.widths s.bases.pages (search rules) c.put_bytes-2.ensures c.put_bases.ensures)
+    (two_runs c.put_bytes.new.work 64 64 s.sizes.widths s.bases.pages (search rules) c.put_bytes-2.ensures c.put_bases.ensures)

@@ -45,8 +45,8 @@ returns c =
     let second = c.copy_words-2 in
     let third = c.copy_words-3 in
     let fourth = c.copy_words-4 in
-    two_runs s.work.now 217 16 s.table.numbers _ (search (rules, c.well-formed.1.0)) (copied s.work.now 217 16 s.table.numbers (search (rules, c.well-formed.1.0)) first.ensures)
-    (two_runs first.new.0 233 16 s.table.disks _ (search (rules, c.well-formed.1.0)) (copied first.new.0 233 16 s.table.disks (search (rules, c.well-formed.1.0)) second.ensures)
-    (two_runs second.new.0 249 16 s.table.firsts s.table.reserved (search (rules, c.well-formed.1.0))
-    (copied second.new.0 249 16 s.table.firsts (search (rules, c.well-formed.1.0)) third.ensures)
-    (copied third.new.0 265 16 s.table.reserved (search (rules, c.well-formed.1.0)) fourth.ensures)))
+    two_runs s.work.now 217 16 s.table.numbers _ (search (rules, c.well_formed.1.0)) (copied s.work.now 217 16 s.table.numbers (search (rules, c.well_formed.1.0)) first.ensures)
+    (two_runs first.new.target 233 16 s.table.disks _ (search (rules, c.well_formed.1.0)) (copied first.new.target 233 16 s.table.disks (search (rules, c.well_formed.1.0)) second.ensures)
+    (two_runs second.new.target 249 16 s.table.firsts s.table.reserved (search (rules, c.well_formed.1.0))
+    (copied second.new.target 249 16 s.table.firsts (search (rules, c.well_formed.1.0)) third.ensures)
+    (copied third.new.target 265 16 s.table.reserved (search (rules, c.well_formed.1.0)) fourth.ensures)))

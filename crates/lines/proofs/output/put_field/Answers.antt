@@ -19,5 +19,5 @@ returns c =
     let few = digits_most 20 c.args.n in
     record {
       end_bound = (omega arith, omega arith);
-      out_after = number.1 ∙ rw (byte_before c.args.out.now c.args.end c.args.after (omega arith) (omega arith));
+      out_after = number.out_after ∙ rw (byte_before c.args.out.now c.args.end c.args.after (omega arith) (omega arith));
     }

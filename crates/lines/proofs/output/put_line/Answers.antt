@@ -11,5 +11,5 @@ returns c =
     let back = c.put_two-at.ensures in
     record {
       upper_bound = omega arith;
-      out_after = (front.1 ∙ rw (back.1, drop-length c.args.out.now));
+      out_after = (front.out_after ∙ rw (back.out_after, drop-length c.args.out.now));
     }

@@ -10,5 +10,5 @@ returns c =
     let second = c.put_field-at.ensures in
     record {
       end_bound = (omega arith, omega arith);
-      out_after = (first.1 ∙ rw second.1);
+      out_after = (first.out_after ∙ rw second.out_after);
     }

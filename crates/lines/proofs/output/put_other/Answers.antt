@@ -1,0 +1,15 @@
+-- `lines::output::put_other` meets its contract.
+use native.Mathlib.Omega.{arith}
+use borrow.Author.Rules.{rules}
+use mathlib.Core.Path.{◌∙◌}
+use lib.Seq.{drop-length}
+use Rattle.lines.proofs.output.put_other.Goals as goal
+
+pub returns : goal.returns
+returns c =
+    let front = c.put_field.ensures in
+    let back = c.put_text-at.ensures in
+    record {
+      upper_bound = omega arith;
+      out_after = (front.out_after ∙ rw (back.out_after, drop-length c.args.out.now));
+    }
