@@ -240,6 +240,9 @@ class Fn:
             return ".".join(["c"] + fields)
         if place == "Start":
             return ".".join(["c"] + self.named(fields))
+        arm = self.in_arm(need_place, place, f, rest)
+        if arm:
+            return ".".join(["c"] + arm)
         if rest[:1] == ["given"]:
             rows = [self.j["typed"][self.order.index(q)] for q in self.chain(need_place)]
             for row in rows:
@@ -254,6 +257,20 @@ class Fn:
             self.say(f"no type_inv for {'.'.join(fields)}")
             return ".".join(["c", self.step(place)[1]] + rest)
         return ".".join(["c"] + self.named([self.step(place)[1]] + rest))
+
+    def in_arm(self, need_place, place, f, rest):
+        """A field of a match or of what it bound, as the arm's record has it."""
+        best = None
+        for strict in (True, False):
+            for q in self.chain(need_place):
+                a = self.j["arms"][self.order.index(q)] if self.j["arms"] else None
+                for new, old, path in a[2] if a else []:
+                    same = norm(old) == norm(f) if strict else norm(re.sub(r"\d+$", "", old)) == norm(re.sub(r"\d+$", "", f))
+                    if same and rest[: len(path)] == path and (best is None or len(path) > best[0]):
+                        best = (len(path), [a[0], new] + rest[len(path):])
+                if best:
+                    return best[1]
+        return None
 
     def named(self, parts):
         """A path below `c` whose steps have today's names, with today's names for what it projects."""
@@ -314,7 +331,7 @@ class Fn:
 
         names = "|".join(["c"] + [re.escape(a) for a in aliases])
         body = re.sub(rf"(?<![\w.'-])(?:{names})(?:\.[\w'₀-₉-]+)*(?![\w'-])", one, body)
-        body = body.replace(".well-formed", ".well_formed")
+        body = body.replace(".well-formed", ".well_formed").replace(".End-low", ".end_low")
         # a `let` that names the arguments, a step or what it ensures
         for m in list(re.finditer(r"let ([\w'₀-₉-]+) = c\.([\w'₀-₉.-]+) in", body)):
             name, of = m[1], m[2].split(".")

@@ -1,0 +1,19 @@
+-- `disk_log::read::is_misplaced` meets its contract: its tests are the definition's, in their order.
+use mathlib.Core.Path.{refl}
+use borrow.Author.Rules.{rules}
+use borrow.Author.Tests.{le-leb, lt-leb}
+use Rattle.model.specs.Sizes.{slots_in, width_in}
+use Rattle.model.specs.Decode.{misplaced}
+use Rattle.disk_log.proofs.read.is_misplaced.Goals as goal
+
+pub returns-then-pages-page : goal.returns-then-pages-page
+unfolding misplaced
+returns-then-pages-page c = λ s of. rw (of.same_pages, le-leb _ _ c.if-pages-page.true) refl
+
+pub returns-then-slots-at : goal.returns-then-slots-at
+unfolding misplaced slots_in
+returns-then-slots-at c = λ s of. rw (of.same_pages, of.same_slots, lt-leb _ _ c.if-pages-page.false, le-leb _ _ c.if-slots-at.true) refl
+
+pub returns : goal.returns
+unfolding misplaced slots_in width_in
+returns c = λ s of. rw (of.same_pages, of.same_slots, of.same_widths, lt-leb _ _ c.if-pages-page.false, lt-leb _ _ c.if-slots-at.false) refl
