@@ -5,9 +5,9 @@ ghost use Rattle.model.specs.declared.Logs.{Logs};
 ghost use Rattle.model.specs.State.{tail_of, fill_of};
 ghost use Rattle.frame.specs.Home.{home_of};
 
+use disk_log::write::Home;
 use layout::disks::disk_at;
 use layout::memory::buffer_place;
-use disk_log::write::Home;
 use model::{Logs, Sizes};
 
 // A disk, by its numbers.

@@ -1,0 +1,44 @@
+-- `frame::checks::replay_sound` meets its contract: the sizes, what is kept of them, then the rest of the test. Assumes nothing.
+use mathlib.Core.Path.{refl, sym, ◌∙◌}
+use borrow.Author.Tests.{not-true, not-false}
+use Rattle.model.specs.State.{base_of}
+use Rattle.model.proofs.Bounds.{bounded}
+use Rattle.model.proofs.KeptBases.{bases_by_page}
+use Rattle.table.proofs.Tests.{replay_split}
+use borrow.Author.Rules.{rules}
+use Rattle.frame.proofs.checks.replay_sound.Goals as goal
+
+pub returns-then-not-sizes_in_bounds : goal.returns-then-not-sizes_in_bounds
+returns-then-not-sizes_in_bounds c = rw (replay_split c.args.core, ← c.sizes_in_bounds.ensures, c.if-not-sizes_in_bounds.true) refl
+
+pub bases_right-requires : goal.bases_right-requires
+bases_right-requires c = sym c.sizes_in_bounds.ensures ∙ c.if-not-sizes_in_bounds.false
+
+pub returns-then-not-bases_right : goal.returns-then-not-bases_right
+unfolding base_of
+returns-then-not-bases_right c =
+    rw (
+      replay_split c.args.core,
+      ← c.sizes_in_bounds.ensures,
+      c.if-not-sizes_in_bounds.false,
+      bases_by_page c.args.core,
+      ← c.bases_right.ensures,
+      c.if-not-bases_right.true,
+    )
+    refl
+
+pub replay_bounds-requires : goal.replay_bounds-requires
+replay_bounds-requires c = (bounded _ (sym c.sizes_in_bounds.ensures ∙ c.if-not-sizes_in_bounds.false)).disks_max
+
+pub returns : goal.returns
+unfolding base_of
+returns c =
+    rw (
+      replay_split c.args.core,
+      ← c.sizes_in_bounds.ensures,
+      c.if-not-sizes_in_bounds.false,
+      bases_by_page c.args.core,
+      ← c.bases_right.ensures,
+      c.if-not-bases_right.false,
+    )
+    c.replay_bounds.ensures

@@ -1,0 +1,25 @@
+-- `frame::entry::find_entry` meets its contract: by cases on the words of the head. Assumes nothing.
+use borrow.Author.Tests.{not-true, not-false}
+use Rattle.frame.proofs.Entries.{entry_zero, entry_none, entry_outside, entry_unfit, entry_found}
+use borrow.Author.Rules.{rules}
+use Rattle.frame.proofs.entry.find_entry.Goals as goal
+
+pub returns-then-number-eq0 : goal.returns-then-number-eq0
+returns-then-number-eq0 c h own disks tails = entry_zero _ _ c.if-number-eq0.true _ c.no_entry.ensures
+
+pub returns-then-place-ge16 : goal.returns-then-place-ge16
+returns-then-place-ge16 c h own disks tails = entry_none h _ own _ c.if-number-eq0.false (c.place_of-place.ensures h own) c.if-place-ge16.true _ c.no_entry-then-place-ge16.ensures
+
+pub returns-then-disk-disks : goal.returns-then-disk-disks
+returns-then-disk-disks c h own disks tails =
+    entry_outside h _ own _ c.if-number-eq0.false (c.place_of-place.ensures h own) c.if-place-ge16.false disks tails c.if-disk-disks.true _ c.no_entry-then-disk-disks.ensures
+
+pub returns-then-not-place_fits : goal.returns-then-not-place_fits
+returns-then-not-place_fits c h own disks tails =
+    entry_unfit h _ own _ c.if-number-eq0.false (c.place_of-place.ensures h own) c.if-place-ge16.false disks tails c.if-disk-disks.false c.requires.0
+    c.place_fits.ensures (c.if-not-place_fits.true) _ c.no_entry-then-not-place_fits.ensures
+
+pub returns : goal.returns
+returns c h own disks tails =
+    entry_found h _ own _ c.if-number-eq0.false (c.place_of-place.ensures h own) c.if-place-ge16.false disks tails c.if-disk-disks.false c.requires.0
+    c.place_fits.ensures (c.if-not-place_fits.false)

@@ -1,0 +1,17 @@
+-- `frame::replaying::positions_right` meets its contract: the disks passed are right. Assumes nothing.
+use Prim.Native.Nat.{◌-◌, ◌≤◌}
+use mathlib.Core.Bool.{true, and-false}
+use mathlib.Core.Path.{◌≡◌, refl}
+use native.Mathlib.Omega.{arith}
+use borrow.Author.Rules.{rules}
+use borrow.Author.Tests.{le-leb, lt-leb}
+use Rattle.model.specs.Below.{all_below}
+use Rattle.model.proofs.Below.{all_none, all_more, all_stop, all_done}
+use Rattle.frame.specs.Pages.{position_right}
+use Rattle.frame.proofs.replaying.positions_right.Given as goal
+
+abbrev pub invariant-loop-d : goal.invariant-loop-d
+invariant-loop-d l = (l.d ≤ l.disks) × (all_below (position_right l.work l.tails) l.d ≡ true)
+
+abbrev pub decreases-loop-d : goal.decreases-loop-d
+decreases-loop-d l = l.disks - l.d
