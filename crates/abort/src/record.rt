@@ -7,10 +7,10 @@ ghost use Rattle.model.specs.Append.{append};
 ghost use Rattle.abort.specs.Undo.{only_log, Serving, InSlot, Did};
 
 use crate::window::Tip;
-use frame::home::home_at;
-use layout::memory::page_copy;
 use disk_log::kinds::{ABORT, COMPENSATION};
 use disk_log::write::{Head, Logged, append_change, append_close};
+use frame::home::home_at;
+use layout::memory::page_copy;
 use model::Sizes;
 
 // How far an abort came: whether all its stores were made, and where its disk's log ends.

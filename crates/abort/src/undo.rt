@@ -12,8 +12,8 @@ use crate::notes::Notes;
 use crate::reading::group_from;
 use crate::record::{Progress, log_compensation};
 use crate::window::Tip;
-use layout::places::slot_base;
 use disk_log::updates::Group;
+use layout::places::slot_base;
 use model::Sizes;
 use words::xor_in;
 

@@ -1,5 +1,6 @@
 // The calls on a slot: update and read.
 #![tactic(auto)]
+
 mod change;
 mod plan;
 pub mod read;

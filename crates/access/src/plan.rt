@@ -12,12 +12,12 @@ ghost use Rattle.access.specs.Reading.{Told};
 ghost use Rattle.access.specs.Plans.{early_of, plan_of, Planned};
 
 use crate::slots::{Slot, find_slot, is_locked};
+use disk_log::kinds::{UPDATE, words_of};
 use frame::entry::{Entry, find_entry};
 use frame::lent::lent_refusal;
 use head::places::{FIRSTS_AT, HEAD_WORDS};
 use layout::anchor::ANCHOR_WORDS;
 use layout::memory::{copy_place, owner_place};
-use disk_log::kinds::{UPDATE, words_of};
 use model::Stage;
 use table::place::CLOSE_WORDS;
 use table::room::fits_ring;

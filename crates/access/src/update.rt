@@ -7,12 +7,12 @@ ghost use Rattle.model.specs.Fields.{put_words, entering, filling};
 
 use crate::change::log_and_set;
 use crate::plan::{Plan, plan_update};
+use disk_log::kinds::UPDATE;
+use disk_log::write::Head;
 use frame::handed::{cut, finished, refused};
 use frame::home::home_at;
 use head::places::HEAD_WORDS;
 use head::table::{enter, set_fill};
-use disk_log::kinds::UPDATE;
-use disk_log::write::Head;
 use model::{Carried, Handed};
 use words::saturating_sub;
 

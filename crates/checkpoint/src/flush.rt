@@ -6,8 +6,8 @@ ghost use Rattle.model.specs.Append.{flush};
 ghost use Rattle.device.specs.Ran.{Ran};
 ghost use Rattle.frame.specs.Home.{Serves};
 
-use frame::home::home_of;
 use disk_log::write::flush_disk;
+use frame::home::home_of;
 use model::Core;
 
 // Flushes the disks in order; true if all are flushed.

@@ -1,5 +1,6 @@
 // A checkpoint: its begin, its steps and its end.
 #![tactic(auto)]
+
 pub mod begin;
 mod copy;
 pub mod end;

@@ -1,9 +1,11 @@
 // What a call answered, and what a slot holds, as text.
 use crate::sizes::{Anchor, Backups, Logs, Pages, Work};
-use libc::STDOUT_FILENO;
 use model::Answer;
 use store::State;
 use store::transactions::{read, read_answer};
+
+// The descriptor of standard output.
+const STDOUT_FILENO: i32 = 1;
 
 // A text, a number, a text.
 fn tell(before: &[u8], number: u64, after: &[u8]) {

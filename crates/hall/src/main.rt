@@ -85,7 +85,7 @@ fn opened(
     }
 }
 
-fn main() {
+fn main(rt: HostRuntime) {
     let mut anchor = [0u64; 148];
     let mut pages = [0u64; 8];
     let mut backups = [0u64; 16];
@@ -106,6 +106,7 @@ fn main() {
         return;
     }
     let served = answer_input(
+        &rt,
         flushed.console,
         &mut anchor,
         &mut pages,

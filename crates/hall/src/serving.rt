@@ -6,8 +6,11 @@ ghost use Rattle.hall.specs.Held.{Stands};
 
 use crate::console::{Console, feed, last_line};
 use crate::output::add;
-use libc::{STDIN_FILENO, STDOUT_FILENO};
 use lines::output::put_tally;
+use std::io::Read;
+
+// The descriptor of standard output.
+const STDOUT_FILENO: i32 = 1;
 
 // A console, and whether what was handed to write was written.
 #[derive(Clone, Copy)]
@@ -38,7 +41,8 @@ pub struct Served {
 
 // Reads once, takes in what came, and writes what it comes to. A read gives at most 780 bytes, so the text of its lines, 84 bytes each
 // at most, fits the buffer.
-fn serve_some(
+fn serve_some<R: Input>(
+    rt: &R,
     console: Console,
     anchor: &mut [u64],
     pages: &mut [u64],
@@ -54,13 +58,18 @@ fn serve_some(
         × Stands result.console (world_of anchor.new pages.new backups.new logs.new work.new) out.new (fed p input).text (fed p input) }
 {
     let mut input = [0u8; 780];
-    let answer = libc::read(STDIN_FILENO, &mut input);
-    let got = io::count(answer, &input);
+    let Ok(got) = rt.reader().read(&mut input) else {
+        return Served {
+            console,
+            got: 0,
+            failed: true,
+        };
+    };
     if got == 0 {
         return Served {
             console,
             got,
-            failed: answer < 0,
+            failed: false,
         };
     }
     let bytes = &input[..got];
@@ -76,7 +85,8 @@ fn serve_some(
 
 // Runs every line of the input: it ends when a read gives nothing, or a read or a write has failed. A proved loop has to end, so it
 // counts its turns down from a number that no run uses up.
-fn serve(
+fn serve<R: Input>(
+    rt: &R,
     console: Console,
     anchor: &mut [u64],
     pages: &mut [u64],
@@ -95,7 +105,7 @@ fn serve(
     let mut turns = u64::MAX;
     while 0 < turns {
         turns -= 1;
-        let served = serve_some(c, anchor, pages, backups, logs, work, out);
+        let served = serve_some(rt, c, anchor, pages, backups, logs, work, out);
         let failed = served.failed;
         if failed {
             return served;
@@ -127,7 +137,8 @@ fn close(console: Console, out: &mut [u8]) -> Console
 }
 
 // Answers the whole input: every line, a last one without an end, and the tally. Where a read or a write has failed it stops.
-pub fn answer_input(
+pub fn answer_input<R: Input>(
+    rt: &R,
     console: Console,
     anchor: &mut [u64],
     pages: &mut [u64],
@@ -142,7 +153,7 @@ pub fn answer_input(
         → (input : List ℕ) × Stands result.console (world_of anchor.new pages.new backups.new logs.new work.new) out.new
         (fed p input).text (with_tally (ended (fed p input))) }
 {
-    let served = serve(console, anchor, pages, backups, logs, work, out);
+    let served = serve(rt, console, anchor, pages, backups, logs, work, out);
     let failed = served.failed;
     if failed {
         return served;

@@ -6,12 +6,14 @@ mod restarting;
 mod sizes;
 
 use entering::{Act, acted, formatted};
-use libc::STDOUT_FILENO;
 use model::Answer;
 use restarting::restarted;
 use sizes::{Anchor, Backups, Logs, Pages, Work};
 use store::listings::list_line;
 use store::{Called, State};
+
+// The descriptor of standard output.
+const STDOUT_FILENO: i32 = 1;
 
 // Four transactions begin. A begin takes the disk whose buffer has the fewest started blocks: so 1 and 3 log to disk 0, 2 and 4 to disk 1.
 fn begin_all(

@@ -8,10 +8,10 @@ ghost use Rattle.model.specs.Causes.{tail_in, log_rows};
 ghost use Rattle.model.specs.Checkpoint.{eight_below, per_disk};
 ghost use Rattle.replay.specs.Parts.{anchor_refusal, tail_out, finding_of};
 
+use disk_log::scan::check_disks;
 use layout::anchor::{ANCHOR_WORDS, EPOCH_WORD, read_rows, read_sizes};
 use layout::bounds::{in_bounds, narrow};
 use layout::disks::{disk_at, ring_of};
-use disk_log::scan::check_disks;
 use model::{Fault, Sizes};
 use table::room::LIMIT;
 

@@ -1,5 +1,6 @@
 // The parts of a restart: what its begin reads from the devices, what a step XORs in, what its end stores.
 #![tactic(auto)]
+
 pub mod image;
 pub mod record;
 pub mod ring;

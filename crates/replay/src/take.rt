@@ -7,9 +7,9 @@ ghost use Rattle.model.specs.Decode.{read_log, span};
 ghost use Rattle.model.specs.Image.{xor_at};
 ghost use Rattle.disk_log.specs.Reading.{LiesAt, Readable};
 
+use disk_log::read::{Extent, read_word};
 use layout::backup::backup_at;
 use layout::places::{page_base, page_words};
-use disk_log::read::{Extent, read_word};
 use model::Sizes;
 use words::xor_in;
 

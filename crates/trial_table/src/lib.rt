@@ -1,6 +1,7 @@
 // What the trial programs share: words of a slice, pseudo-random numbers, text, and the plain table that a store is compared with.
 // Nothing here reads a device, a state or the pages of a store. Each function is total: an index out of range reads 0 and puts nothing.
 #![tactic(auto)]
+
 pub mod answers;
 mod budget;
 pub mod calls;

@@ -11,6 +11,8 @@ ghost use Rattle.device.specs.Ran.{Ran, with_slices};
 ghost use Rattle.disk_log.specs.Write.{Within, Lent};
 ghost use Rattle.txn.specs.Tasks.{closing, closed, commit_refusal};
 
+use disk_log::kinds::{COMMIT, words_of};
+use disk_log::write::{Home, append_close, flush_disk};
 use frame::entry::find_entry;
 use frame::handed::{cut, finished, refused};
 use frame::home::home_at;
@@ -18,8 +20,6 @@ use frame::lent::lent_refusal;
 use head::places::HEAD_WORDS;
 use head::table::{leave, set_fill};
 use layout::anchor::ANCHOR_WORDS;
-use disk_log::kinds::{COMMIT, words_of};
-use disk_log::write::{Home, append_close, flush_disk};
 use model::{Carried, Handed};
 use words::saturating_sub;
 

@@ -1,0 +1,69 @@
+-- `abort::undo::undo_one` meets its contract: the record's append, then the XOR into the slot. Assumes nothing.
+use mathlib.Core.Path.{refl, sym}
+use native.Mathlib.Omega.{arith}
+use borrow.Author.Tests.{not-true, not-false}
+use Rattle.model.specs.Word.{part}
+use Rattle.model.proofs.Geometry.{slot_end_total}
+use Rattle.abort.specs.Undo.{update_at}
+use Rattle.abort.proofs.Disks.{slim, low_slot}
+use Rattle.abort.proofs.Spans.{lent_difference, lent_fits}
+use Rattle.abort.proofs.Compensated.{compensated_cut, compensated_whole, counts_one}
+use borrow.Author.Rules.{rules}
+use Rattle.abort.proofs.undo.undo_one.Goals as goal
+
+pub difference_at-ones-requires : goal.difference_at-ones-requires
+difference_at-ones-requires c =
+    let pre = c.requires in
+    (pre.serving, (pre.inside, slim pre.serving pre.slotted))
+
+pub slice_bounds-words-end : goal.slice_bounds-words-end
+slice_bounds-words-end c = lent_fits _ _ _ _ c.difference_at-ones.ensures.0
+
+pub slice_bounds-log_compensation-end : goal.slice_bounds-log_compensation-end
+slice_bounds-log_compensation-end c = sym (lent_difference _ _ _ _ c.difference_at-ones.ensures.0)
+
+pub log_compensation-progress-requires : goal.log_compensation-progress-requires
+log_compensation-progress-requires c =
+    let pre = c.requires in
+    let difference-at = c.difference_at-ones in
+    (pre.serving, rw (lent_difference _ _ _ _ difference-at.ensures.0) pre.slotted)
+
+pub returns-then-not-done : goal.returns-then-not-done
+unfolding update_at
+returns-then-not-done c =
+    let difference-at = c.difference_at-ones in
+    let log-compensation = c.log_compensation-progress in
+    record {
+      by_index = λ anchor backups. compensated_cut _ _ _ _ _ _ difference-at.ensures.0 (log-compensation.ensures anchor _ backups) (c.if-not-done.true);
+      counts = (λ f. counts_one _ difference-at.ensures.1, difference-at.ensures.2);
+    }
+
+pub slot_base-at-requires : goal.slot_base-at-requires
+slot_base-at-requires c =
+    let pre = c.requires in
+    low_slot pre.serving pre.slotted
+
+pub slice_bounds-xor_in-end : goal.slice_bounds-xor_in-end
+slice_bounds-xor_in-end c = search (rules, c.difference_at-ones)
+
+pub xor_in-requires : goal.xor_in-requires
+xor_in-requires c =
+    let pre = c.requires in
+    let s = pre.slotted in
+    let fits = slot_end_total _ _ _ s.page_in s.slot_in in
+    record {
+      n_in_bounds = omega (arith, fits, s.width_is, c.slot_base-at.ensures.0, pre.page_words_lem);
+      n_in_bounds_2 = omega (arith, lent_fits _ _ _ _ c.difference_at-ones.ensures.0);
+    }
+
+pub returns : goal.returns
+unfolding update_at part
+returns c =
+    let difference-at = c.difference_at-ones in
+    let log-compensation = c.log_compensation-progress in
+    let test1 = c.if-not-done in
+    let slot-base = c.slot_base-at in
+    record {
+      by_index = λ anchor backups. compensated_whole _ _ _ _ _ _ difference-at.ensures.0 (log-compensation.ensures anchor _ backups) (test1.false) refl slot-base.ensures.0 _ c.xor_in.ensures;
+      counts = (λ f. counts_one _ difference-at.ensures.1, difference-at.ensures.2);
+    }

@@ -1,0 +1,26 @@
+-- `checkpoint::flush::flush_all` meets its contract: the disks passed are flushed whole. Assumes nothing.
+use native.Mathlib.Omega.{arith}
+use Prim.Native.Nat.{ℕ, ◌-◌, ◌≤◌}
+use mathlib.Core.Path.{◌≡◌, refl, ◌∙◌}
+use mathlib.Core.List.{List}
+use mathlib.Core.Bool.{true}
+use lib.ListN.{length}
+use borrow.Author.Tests.{not-true, not-false}
+use Rattle.model.specs.Below.{join_below}
+use Rattle.model.specs.World.{world_of}
+use Rattle.model.specs.Append.{flush}
+use Rattle.model.proofs.Bounds.{bounded}
+use Rattle.model.proofs.Store.Rows.{sizes_sound}
+use Rattle.device.specs.Ran.{Ran}
+use Rattle.device.proofs.Below.{ran_zero, ran_next, ran_stop}
+use Rattle.frame.proofs.Homes.{lent_there, within_there, disk_there}
+use borrow.Author.Rules.{rules}
+use Rattle.checkpoint.proofs.flush.flush_all.Given as goal
+
+abbrev pub invariant-loop-d : goal.invariant-loop-d
+invariant-loop-d l = (l.d ≤ l.disks) × (length l.logs ≡ length l.initial.logs)
+    × ((anchor pages backups : List ℕ)
+    → Ran l.initial.budget l.budget (join_below (flush l.sizes l.state l.work) l.d) (world_of anchor pages backups l.initial.logs l.work) (world_of anchor pages backups l.logs l.work) true)
+
+abbrev pub decreases-loop-d : goal.decreases-loop-d
+decreases-loop-d l = l.disks - l.d

@@ -1,0 +1,20 @@
+-- `checkpoint::starts::new_starts` meets its contract: the disks passed have their new starts, the others 0. Assumes nothing.
+use native.Mathlib.Omega.{arith}
+use Prim.Native.Nat.{◌-◌, ◌≤◌}
+use mathlib.Core.Path.{◌≡◌, ◌∙◌}
+use lib.ListN.{get_or}
+use Rattle.model.specs.State.{places}
+use Rattle.model.specs.Checkpoint.{eight_below, least_first, new_start}
+use Rattle.model.proofs.PerDisk.{eight_none, eight_more, eight_per_disk}
+use borrow.Author.Rules.{rules}
+use Rattle.checkpoint.proofs.starts.new_starts.Goals as goal
+
+pub loop-d-init : goal.loop-d-init
+loop-d-init c = (omega arith, c.requires, eight_none _)
+
+pub loop-d-preserved : goal.loop-d-preserved
+loop-d-preserved c = (omega arith, omega arith, rw c.loop-d.invariant.2 (eight_more _ c.loop-d.d _ (omega arith) c.least_first.ensures))
+
+pub returns : goal.returns
+unfolding new_start
+returns c = c.loop-d.invariant.2 ∙ eight_per_disk _ _ _ (omega arith)
