@@ -73,6 +73,21 @@ def by_parameter(step, rest):
     return rest
 
 
+def split_commas(text):
+    parts, depth, word = [], 0, ""
+    for ch in text:
+        if ch in OPEN:
+            depth += 1
+        if ch in CLOSE:
+            depth -= 1
+        if ch == "," and depth == 0:
+            parts.append(word.strip())
+            word = ""
+        else:
+            word += ch
+    return parts + ([word.strip()] if word.strip() else [])
+
+
 def as_record(body, names):
     """A body that ends in a tuple, as a record with a field for each clause."""
     s = body.rstrip()
@@ -101,6 +116,8 @@ def as_record(body, names):
                     word += ch
             if word.strip():
                 parts.append(word.strip())
+            while 1 < len(parts) < len(names) and re.match(r"\(.*\)$", parts[-1], re.S) and len(split_commas(parts[-1][1:-1])) > 1:
+                parts[-1:] = split_commas(parts[-1][1:-1])
             if len(parts) == len(names):
                 rows = "".join(f"      {n} = {x};\n" for n, x in zip(names, parts))
                 return f"{s[:i].rstrip()}\n    record {{\n{rows}    }}"
@@ -172,6 +189,8 @@ def aligned(needs, by_name, goals):
         return re.sub(r"\d+$", "", own) == re.sub(r"\d+$", "", norm(goal[0]))
 
     n, g = len(needs), len(goals)
+    if n == g:
+        return needs, needs
     best = {(0, 0): (0, None)}
     for i in range(n + 1):
         for k in range(g + 1):
@@ -204,6 +223,8 @@ class Fn:
         name = path.split(".")[-1]
         src = "".join(read(os.path.join(HERE, "src", n)) for n in sorted(os.listdir(os.path.join(HERE, "src"))) if n.endswith(".rt"))
         m = re.search(rf"\bfn {name}(?:<[^(]*>)?\((.*?)\)(?: ->|\s*\n| \{{)", src, re.S)
+        at = m.start() if m else 0
+        self.source = src[at : src.find("\n}\n", at)]
         self.params = re.findall(r"(\w+): ", m[1]) if m else []
 
     def say(self, it):
@@ -293,8 +314,8 @@ class Fn:
 
     def clauses(self, goal, head, body):
         """The body of an answer, as a record where its goal has a field for each clause."""
-        m = re.match(r"(\w+)-requires", goal)
-        names = REQUIRES.get(m[1]) if m else ENSURES.get(self.path.split(".")[-1]) if goal.startswith("returns") else None
+        m = re.match(r"(\w+?)(?:-.*)?-requires", goal)
+        names = REQUIRES.get(step_of(m[1])) if m else ENSURES.get(self.path.split(".")[-1]) if goal.startswith("returns") else None
         if not names:
             return head + body
         done = as_record(body, names)
@@ -306,9 +327,6 @@ class Fn:
     def turn(self, body, place):
         """The body of an answer at a place, with its paths in today's names."""
         aliases = {}
-        # a test of `!x` says what x is
-        body = re.sub(r"not-(?:true|false) \S+ (?=(?:\(rw [^()]*(?:\([^()]*\)[^()]*)* at )?[\w'.-]+\.(?:true|false)(?![\w-]))", "", body)
-
         def let(m):
             n = m[3].count(".before")
             aliases[m[1]] = n + (0 if m[2] == "c" else aliases[m[2]])
@@ -331,6 +349,13 @@ class Fn:
 
         names = "|".join(["c"] + [re.escape(a) for a in aliases])
         body = re.sub(rf"(?<![\w.'-])(?:{names})(?:\.[\w'₀-₉-]+)*(?![\w'-])", one, body)
+        # a test of `!x` says what x is, unless x is a field
+
+        def tested(m):
+            of = re.search(r"if-not-([a-z_]\w*)", m[3])
+            return m[0] if of and re.search(rf"!\s*{of[1]}\.\w", self.source) else m[2]
+
+        body = re.sub(r"not-(true|false) \S+ ((?:\(rw [^()]*(?:\([^()]*\)[^()]*)* at )?([\w'.-]+)\.(?:true|false)(?![\w-]))", tested, body)
         body = body.replace(".well-formed", ".well_formed").replace(".End-low", ".end_low")
         # a `let` that names the arguments, a step or what it ensures
         for m in list(re.finditer(r"let ([\w'₀-₉-]+) = c\.([\w'₀-₉.-]+) in", body)):

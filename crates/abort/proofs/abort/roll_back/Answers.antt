@@ -11,7 +11,7 @@ use Rattle.abort.proofs.abort.roll_back.Goals as goal
 pub returns-then-not-undone : goal.returns-then-not-undone
 returns-then-not-undone c =
     let undone = c.undo_all-undone.ensures in
-    let cut = c.if-not-undone.true in
+    let cut = not-true _ c.if-not-undone.true in
     record {
       by_index = λ anchor backups. rolled_cut _ _ _ _ _ _ (undone.by_index anchor backups) cut;
       counts = λ f. true_false f cut;
@@ -20,12 +20,12 @@ returns-then-not-undone c =
 pub log_close-progress-requires : goal.log_close-progress-requires
 log_close-progress-requires c =
     let w = world_of [] c.args.pages.now [] c.args.logs.now c.args.work.now in
-    undone_serves _ _ w _ _ _ c.requires.undoable (tip_sized _ _) (c.undo_all-undone.ensures.by_index [] []) (c.if-not-undone.false)
+    undone_serves _ _ w _ _ _ c.requires.undoable (tip_sized _ _) (c.undo_all-undone.ensures.by_index [] []) (not-false _ c.if-not-undone.false)
 
 pub returns : goal.returns
 returns c =
     let undone = c.undo_all-undone.ensures in
-    let whole = c.if-not-undone.false in
+    let whole = not-false _ c.if-not-undone.false in
     record {
       by_index = λ anchor backups. rolled_whole _ _ _ _ _ _ (undone.by_index anchor backups) whole (c.log_close-progress.ensures anchor _ backups);
       counts = λ f. undone.counts whole;

@@ -31,15 +31,16 @@ survey_log-found-requires c =
     let pre = c.requires in
     let e = c.window_of-log.ensures in
     let x = c.extent_of-extent.ensures in
-    let to = lent_to pre.0 e _ x in (
-      (lent_readable pre.0 e _ x (omega arith), lent_lies pre.0 e _ x, pre.0.sizes),
-      (
+    let to = lent_to pre.0 e _ x in
+    record {
+      readable = (lent_readable pre.0 e _ x (omega arith), lent_lies pre.0 e _ x, pre.0.sizes);
+      ring_bound = (
         omega (arith, (lent_lies pre.0 e _ x).same_ring, (bounds pre.0).ring_max),
         omega (arith, lent_tail pre.0 e _ x, to, lent_ordered pre.0 e),
         omega (arith, to, lent_end pre.0 e, pre.1),
         refl,
-      ),
-    )
+      );
+    }
 
 pub returns : goal.returns
 returns c =

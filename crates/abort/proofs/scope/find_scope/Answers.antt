@@ -48,7 +48,7 @@ known_sizes-known-requires c = omega (arith, c.requires.1)
 pub returns-then-not-known : goal.returns-then-not-known
 returns-then-not-known c h own pages disks ring total tails =
     read_unsized h _ own _ (c.find_entry-entry.ensures h own disks tails) c.if-entry-ne0.false pages disks ring total c.log_fits.ensures (c.if-not-log_fits.false)
-    c.known_sizes-known.ensures (c.if-not-known.true) c.not_found-then-not-known.ensures
+    c.known_sizes-known.ensures (not-true _ c.if-not-known.true) c.not_found-then-not-known.ensures
 
 pub scope_at-scope-requires : goal.scope_at-scope-requires
 scope_at-scope-requires c =
@@ -59,4 +59,4 @@ scope_at-scope-requires c =
 pub returns : goal.returns
 returns c h own pages disks ring total tails =
     read_found h _ own _ (c.find_entry-entry.ensures h own disks tails) c.if-entry-ne0.false pages disks ring total c.log_fits.ensures (c.if-not-log_fits.false)
-    c.known_sizes-known.ensures (c.if-not-known.false) c.scope_at-scope.ensures
+    c.known_sizes-known.ensures (not-false _ c.if-not-known.false) c.scope_at-scope.ensures

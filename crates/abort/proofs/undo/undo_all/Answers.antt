@@ -81,10 +81,11 @@ group_from-group-requires c =
     let some = c.loop-k-test.true in
     let size = c.smaller-n.ensures in
     let ends = tip_end _ c.args.tip (small ok.serving).below in
-    let p = turn.invariant.1 in (
-      (p.serving, omega (arith, ends, p.longer), omega (arith, size)),
-      rw (← ends) (omega (arith, size, here_many _ _ _ _ _ _ _ _ ok turn.k (omega (arith, some)) p noted turn.invariant.0)),
-    )
+    let p = turn.invariant.1 in
+    record {
+      serving = (p.serving, omega (arith, ends, p.longer), omega (arith, size));
+      n_in_bounds = rw (← ends) (omega (arith, size, here_many _ _ _ _ _ _ _ _ ok turn.k (omega (arith, some)) p noted turn.invariant.0));
+    }
 
 pub undo_group-part-requires : goal.undo_group-part-requires
 undo_group-part-requires c =
@@ -119,7 +120,7 @@ returns-then-not-part c =
     let got = rw (← ends) at c.group_from-group.ensures in
     let size = c.smaller-n.ensures in
     let part = c.undo_group-part.ensures in
-    let cut = c.if-not-part.true in
+    let cut = not-true _ c.if-not-part.true in
     record {
       by_index = λ anchor backups.
           group_cut _ _ _ _ _ _ _ _ ok turn.k (omega (arith, some)) turn.invariant.1 noted turn.invariant.0 size got anchor backups (part.by_index anchor backups) cut;
@@ -142,7 +143,7 @@ loop-k-preserved c =
     let got = rw (← ends) at c.group_from-group.ensures in
     let size = c.smaller-n.ensures in
     let part = c.undo_group-part.ensures in
-    let whole = c.if-not-part.false in (
+    let whole = not-false _ c.if-not-part.false in (
       omega (arith, turn.invariant.0),
       group_step _ _ _ _ _ _ _ _ ok turn.k (omega (arith, some)) turn.invariant.1 noted turn.invariant.0 size got whole part.by_index,
       group_counted _ _ _ _ _ _ _ _ ok turn.k (omega (arith, some)) turn.invariant.1 noted turn.invariant.0 size got turn.ones turn.invariant.2 (part.counts.0 whole),

@@ -56,7 +56,7 @@ returns-then-not-one c =
     let turn = c.loop-n in
     let some = c.loop-n-test.true in
     let one = c.undo_one-one.ensures in
-    let cut = c.if-not-one.true in
+    let cut = not-true _ c.if-not-one.true in
     record {
       by_index = λ anchor backups.
           one_cut _ _ _ _ _ _ _ _ _ c.requires.1 turn.n c.args.group.at (omega (arith, some)) (omega (arith, turn.invariant.0, turn.invariant.1)) turn.invariant.2
@@ -75,7 +75,7 @@ loop-n-preserved c =
     let turn = c.loop-n in
     let some = c.loop-n-test.true in
     let one = c.undo_one-one.ensures in
-    let whole = c.if-not-one.false in (
+    let whole = not-false _ c.if-not-one.false in (
       omega (arith, turn.invariant.0),
       turn.invariant.1,
       one_step _ _ _ _ _ _ _ _ _ c.requires.1 turn.n c.args.group.at (omega (arith, some)) (omega (arith, turn.invariant.0, turn.invariant.1)) turn.invariant.2

@@ -14,7 +14,10 @@ use Rattle.abort.proofs.undo.undo_one.Goals as goal
 pub difference_at-ones-requires : goal.difference_at-ones-requires
 difference_at-ones-requires c =
     let pre = c.requires in
-    (pre.serving, (pre.inside, slim pre.serving pre.slotted))
+    record {
+      serving = pre.serving;
+      width_bound = (pre.inside, slim pre.serving pre.slotted);
+    }
 
 pub slice_bounds-words-end : goal.slice_bounds-words-end
 slice_bounds-words-end c = lent_fits _ _ _ _ c.difference_at-ones.ensures.0
@@ -26,7 +29,10 @@ pub log_compensation-progress-requires : goal.log_compensation-progress-requires
 log_compensation-progress-requires c =
     let pre = c.requires in
     let difference-at = c.difference_at-ones in
-    (pre.serving, rw (lent_difference _ _ _ _ difference-at.ensures.0) pre.slotted)
+    record {
+      serving = pre.serving;
+      in_slot = rw (lent_difference _ _ _ _ difference-at.ensures.0) pre.slotted;
+    }
 
 pub returns-then-not-done : goal.returns-then-not-done
 unfolding update_at
@@ -34,7 +40,7 @@ returns-then-not-done c =
     let difference-at = c.difference_at-ones in
     let log-compensation = c.log_compensation-progress in
     record {
-      by_index = λ anchor backups. compensated_cut _ _ _ _ _ _ difference-at.ensures.0 (log-compensation.ensures anchor _ backups) (c.if-not-done.true);
+      by_index = λ anchor backups. compensated_cut _ _ _ _ _ _ difference-at.ensures.0 (log-compensation.ensures anchor _ backups) (not-true _ c.if-not-done.true);
       counts = (λ f. counts_one _ difference-at.ensures.1, difference-at.ensures.2);
     }
 

@@ -11,7 +11,7 @@ returns-then-not-added c = λ s l w lent same owned.
     let logged = c.log_change-added.ensures in
     rw (← same)
     (replaced_cut s l w (with_slices w _ _) x.home.disk x.head x.at x.value.now
-    (rw (← same) at (logged.0 s l w lent)) (rw (← same) at logged.1) (c.if-not-added.true))
+    (rw (← same) at (logged.0 s l w lent)) (rw (← same) at logged.1) (not-true _ c.if-not-added.true))
 
 pub returns : goal.returns
 returns c = λ s l w lent same owned.
@@ -19,4 +19,4 @@ returns c = λ s l w lent same owned.
     let logged = c.log_change-added.ensures in
     rw (c.set_slot.ensures.0, c.set_slot.ensures.1, owned, ← same)
     (replaced_whole s l w (with_slices w _ _) x.home.disk x.head x.at x.value.now
-    (rw (← same) at (logged.0 s l w lent)) (rw (← same) at logged.1) (c.if-not-added.false))
+    (rw (← same) at (logged.0 s l w lent)) (rw (← same) at logged.1) (not-false _ c.if-not-added.false))

@@ -16,7 +16,11 @@ bounds-work-to-3 c = simp length-set (omega arith)
 pub difference-requires : goal.difference-requires
 difference-requires c =
     let pre = c.requires in
-    (simp length-set (omega arith), (pre.2, pre.0.width_small))
+    record {
+      value_in_bounds = simp length-set (omega arith);
+      value_in_bounds_2 = pre.2;
+      value_len_bound = pre.0.width_small;
+    }
 
 pub shape_of-work : goal.shape_of-work
 shape_of-work c = rw (c.difference.ensures.0, length-sets) (simp length-set refl)

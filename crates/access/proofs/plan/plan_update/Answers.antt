@@ -54,7 +54,10 @@ late_refusal-late-requires c =
     let w = world_of x.anchor.now x.pages.now x.backups.now x.logs.now x.work.now in
     let small = some_slot_small w x.stage x.count x.disks x.ring x.total x.tails c.lent_refusal-first.ensures c.if-first-ne0.false c.find_slot-found.ensures c.find_entry-entry.ensures (early_none _ _ _ _ (sym c.early_refusal-early.ensures ∙ c.if-early-ne0.false)).0 (early_none _ _ _ _ (sym c.early_refusal-early.ensures ∙ c.if-early-ne0.false)).1 in
     let entry = some_entry_small w x.stage x.count x.disks x.ring x.total x.tails c.lent_refusal-first.ensures c.if-first-ne0.false c.find_slot-found.ensures c.find_entry-entry.ensures (early_none _ _ _ _ (sym c.early_refusal-early.ensures ∙ c.if-early-ne0.false)).0 (early_none _ _ _ _ (sym c.early_refusal-early.ensures ∙ c.if-early-ne0.false)).1 in
-    ((small.0, small.2, small.3, small.4), entry.2)
+    record {
+      disks_bound = (small.0, small.2, small.3, small.4);
+      sum_bound = entry.2;
+    }
 
 pub returns-then-late-ne0 : goal.returns-then-late-ne0
 returns-then-late-ne0 c h told starts tails =
