@@ -24,39 +24,50 @@ def read(p):
         return f.read()
 
 
+def below():
+    """This crate, and the crates that it uses."""
+    deps = {}
+    for l in read("crates.txt").split("\n"):
+        if ":" in l and not l.startswith("#"):
+            name, rest = l.split(":", 1)
+            deps[name.split()[0]] = rest.split()
+    return [CRATE] + [d for d in deps.get(CRATE, []) if d in deps]
+
+
+def sources():
+    for crate in reversed(below()):
+        for folder, dirs, names in os.walk(os.path.join("crates", crate, "src")):
+            for n in sorted(names):
+                if n.endswith(".rt"):
+                    yield re.sub(r"(?m)^\s*//.*$", "", read(os.path.join(folder, n)))
+
+
+def clauses_in(head, kind):
+    return re.findall(rf"(?m)^\s*{kind}\*?(?: (\w+))? \{{", head)
+
+
 def clause_names(kind):
-    """The names of each function's clauses of a kind, where it has two or more."""
+    """The names of each function's clauses of a kind, where it has two or more; this crate's before those that it uses."""
     out = {}
-    for folder, dirs, names in os.walk("crates"):
-        dirs[:] = [d for d in dirs if d != "out"]
-        for n in names:
-            if n.endswith(".rt"):
-                t = re.sub(r"(?m)^\s*//.*$", "", read(os.path.join(folder, n)))
-                for m in re.finditer(r"\bfn (\w+)(.*?)(?=\n\}|\bfn )", t, re.S):
-                    head = m[2]
-                    ens = re.findall(rf"(?m)^\s*{kind}\*?(?: (\w+))? \{{", head)
-                    if len(ens) > 1:
-                        out.setdefault(m[1], ens)
+    for t in sources():
+        for m in re.finditer(r"\bfn (\w+)(.*?)(?=\n\}|\bfn )", t, re.S):
+            found = clauses_in(m[2], kind)
+            out[m[1]] = found if len(found) > 1 else None
     return out
-
-
-ENSURES = clause_names("ensures")
-REQUIRES = clause_names("requires")
 
 
 def signatures():
     """The &mut parameters of each function, in order."""
     out = {}
-    for folder, dirs, names in os.walk("crates"):
-        dirs[:] = [d for d in dirs if d != "out"]
-        for n in names:
-            if n.endswith(".rt"):
-                for m in re.finditer(r"\bfn (\w+)(?:<[^(]*>)?\(([^{]*?)\)(?: ->|\s*\n| \{)", read(os.path.join(folder, n)), re.S):
-                    out[m[1]] = re.findall(r"(\w+): &(?:'\w+ )?mut ", m[2])
+    for t in sources():
+        for m in re.finditer(r"\bfn (\w+)(?:<[^(]*>)?\(([^{]*?)\)(?: ->|\s*\n| \{)", t, re.S):
+            out[m[1]] = re.findall(r"(\w+): &(?:'\w+ )?mut ", m[2])
     return out
 
 
 MUTABLE = signatures()
+ENSURES = clause_names("ensures")
+REQUIRES = clause_names("requires")
 
 
 def step_of(name):
@@ -71,6 +82,10 @@ def by_parameter(step, rest):
     if rest[:1] == ["new"] and len(rest) > 1 and rest[1].isdigit() and names and int(rest[1]) < len(names):
         return ["new", names[int(rest[1])]] + rest[2:]
     return rest
+
+
+def depth_of(text):
+    return sum(ch in OPEN for ch in text) - sum(ch in CLOSE for ch in text)
 
 
 def split_commas(text):
@@ -225,6 +240,8 @@ class Fn:
         m = re.search(rf"\bfn {name}(?:<[^(]*>)?\((.*?)\)(?: ->|\s*\n| \{{)", src, re.S)
         at = m.start() if m else 0
         self.source = src[at : src.find("\n}\n", at)]
+        self.own = clauses_in(self.source, "ensures")
+        self.own = self.own if len(self.own) > 1 else None
         self.params = re.findall(r"(\w+): ", m[1]) if m else []
 
     def say(self, it):
@@ -315,13 +332,14 @@ class Fn:
     def clauses(self, goal, head, body):
         """The body of an answer, as a record where its goal has a field for each clause."""
         m = re.match(r"(\w+?)(?:-.*)?-requires", goal)
-        names = REQUIRES.get(step_of(m[1])) if m else ENSURES.get(self.path.split(".")[-1]) if goal.startswith("returns") else None
+        names = REQUIRES.get(step_of(m[1])) if m else self.own if goal.startswith("returns") else None
         if not names:
             return head + body
         done = as_record(body, names)
         if done is None:
-            self.say(f"{goal} wants a record of {names}")
-            return head + body
+            cut = max((m.end() for m in re.finditer(r"(?: in|=)(?=\s)", "=" + body) if depth_of(("=" + body)[: m.end()]) == 0), default=1) - 1
+            rows = "".join(f"      {n} = whole.{i};\n" for i, n in enumerate(names))
+            return f"{head}{body[:cut]}\n    let whole = {body[cut:].strip()} in\n    record {{\n{rows}    }}"
         return head + done
 
     def turn(self, body, place):

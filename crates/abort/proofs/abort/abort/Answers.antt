@@ -15,13 +15,6 @@ use Rattle.abort.proofs.ReadLog.{lent_serves, lent_near, fault_here, lent_undoab
 use Rattle.abort.proofs.Closing.{abort_bad, abort_cut, abort_whole}
 use Rattle.abort.proofs.abort.abort.Goals as goal
 
--- a start and a tail for each disk, by the type
-starts : (c : tie.Start) → length c.args.t1.starts ≡ 8
-starts c = search rules
-
-tails : (c : tie.Start) → length c.args.t1.tails ≡ 8
-tails c = search rules
-
 pub returns-then-refusal-ne0 : goal.returns-then-refusal-ne0
 returns-then-refusal-ne0 c = shown_refused (abort _ _) _ _ (abort_refused _ _ _ c.lent_refusal-refusal.ensures c.if-refusal-ne0.true) c.refused.ensures
 
@@ -108,7 +101,7 @@ returns-then-not-done c =
     let fault = fault_here x.carried w x.number s ∙ sym (rw (lent_behind x.work.now) at c.examine-seen.ensures.fault) in
     let none = fault ∙ c.in_default.is in
     let noted = c.examine-seen.ensures.noted c.in_default.is in
-    abort_cut x.carried w x.number x.budget.now s (starts c) (tails c) none (lent_behind x.work.now) noted.starts c.roll_back-done.ensures.by_index c.roll_back-done.ensures.counts
+    abort_cut x.carried w x.number x.budget.now s (search rules) (search rules) none (lent_behind x.work.now) noted.starts c.roll_back-done.ensures.by_index c.roll_back-done.ensures.counts
     (not-true _ c.if-not-done.true) (behind_back x.work.now _) (rw (← c.saturating_sub.ensures) c.cut.ensures)
 
 pub overflow_sub-entry : goal.overflow_sub-entry
@@ -147,5 +140,5 @@ returns c =
     let fault = fault_here x.carried w x.number s ∙ sym (rw (lent_behind x.work.now) at c.examine-seen.ensures.fault) in
     let none = fault ∙ c.in_default.is in
     let noted = c.examine-seen.ensures.noted c.in_default.is in
-    abort_whole x.carried w x.number x.budget.now s (starts c) (tails c) none (lent_behind x.work.now) noted.starts c.roll_back-done.ensures.by_index c.roll_back-done.ensures.counts
+    abort_whole x.carried w x.number x.budget.now s (search rules) (search rules) none (lent_behind x.work.now) noted.starts c.roll_back-done.ensures.by_index c.roll_back-done.ensures.counts
     (not-false _ c.if-not-done.false) (behind_back x.work.now _) c.close_place.ensures (rw (← c.saturating_sub-2.ensures) c.finished.ensures)

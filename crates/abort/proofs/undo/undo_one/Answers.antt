@@ -70,6 +70,6 @@ returns c =
     let test1 = c.if-not-done in
     let slot-base = c.slot_base-at in
     record {
-      by_index = λ anchor backups. compensated_whole _ _ _ _ _ _ difference-at.ensures.0 (log-compensation.ensures anchor _ backups) (test1.false) refl slot-base.ensures.0 _ c.xor_in.ensures;
+      by_index = λ anchor backups. compensated_whole _ _ _ _ _ _ difference-at.ensures.0 (log-compensation.ensures anchor _ backups) (not-false _ test1.false) refl slot-base.ensures.0 _ c.xor_in.ensures;
       counts = (λ f. counts_one _ difference-at.ensures.1, difference-at.ensures.2);
     }

@@ -15,10 +15,6 @@ use Rattle.txn.proofs.Committing.{commit_refused, commit_row, commit_standing, h
 use borrow.Author.Rules.{rules}
 use Rattle.txn.proofs.commit.commit.Goals as goal
 
--- a tail for each disk, by the type
-eight : (c : tie.Start) → length c.args.t1.tails ≡ 8
-eight c = search rules
-
 pub returns-then-refusal-ne0 : goal.returns-then-refusal-ne0
 returns-then-refusal-ne0 c = shown_refused (commit _ _) _ _ (commit_refused _ _ _ c.lent_refusal-refusal.ensures c.if-refusal-ne0.true) c.refused.ensures
 
@@ -64,7 +60,11 @@ store_close-requires c =
     let x = c.args in
     let w = world_of x.anchor.now x.pages.now x.backups.now x.logs.now x.work.now in
     let s = commit_standing x.carried w x.number c.lent_refusal-refusal.ensures c.if-refusal-ne0.false (λ own. c.find_entry-entry.ensures x.carried own refl refl) c.commit_refusal-row.ensures c.if-row-ne0.false in
-    close_fits x.carried w x.number x.budget.now s (home_standing x.carried w x.number x.budget.now s c.home_at-home.ensures) (lent_behind x.work.now)
+    let whole = close_fits x.carried w x.number x.budget.now s (home_standing x.carried w x.number x.budget.now s c.home_at-home.ensures) (lent_behind x.work.now) in
+    record {
+      within = whole.0;
+      fill_bound = whole.1;
+    }
 
 pub returns-then-not-store_close : goal.returns-then-not-store_close
 returns-then-not-store_close c =
@@ -72,7 +72,7 @@ returns-then-not-store_close c =
     let w = world_of x.anchor.now x.pages.now x.backups.now x.logs.now x.work.now in
     let s = commit_standing x.carried w x.number c.lent_refusal-refusal.ensures c.if-refusal-ne0.false (λ own. c.find_entry-entry.ensures x.carried own refl refl) c.commit_refusal-row.ensures c.if-row-ne0.false in
     let home = home_standing x.carried w x.number x.budget.now s c.home_at-home.ensures in
-    commit_cut x.carried w x.number x.budget.now s (eight c) home (lent_behind x.work.now) c.store_close.ensures (c.if-not-store_close.true) (behind_back x.work.now _)
+    commit_cut x.carried w x.number x.budget.now s (search rules) home (lent_behind x.work.now) c.store_close.ensures (c.if-not-store_close.true) (behind_back x.work.now _)
     (rw (← c.saturating_sub.ensures) c.cut.ensures)
 
 pub overflow_sub-entry : goal.overflow_sub-entry
@@ -125,5 +125,5 @@ returns c =
     let s = commit_standing x.carried w x.number c.lent_refusal-refusal.ensures c.if-refusal-ne0.false (λ own. c.find_entry-entry.ensures x.carried own refl refl) c.commit_refusal-row.ensures c.if-row-ne0.false in
     let home = home_standing x.carried w x.number x.budget.now s c.home_at-home.ensures in
     let two = c.words_of.ensures ∙ words_close commit_kind 0 (omega arith) (omega arith) in
-    commit_whole x.carried w x.number x.budget.now s (eight c) home (lent_behind x.work.now) c.store_close.ensures (c.if-not-store_close.false) (behind_back x.work.now _)
+    commit_whole x.carried w x.number x.budget.now s (search rules) home (lent_behind x.work.now) c.store_close.ensures (c.if-not-store_close.false) (behind_back x.work.now _)
     c.close_place.ensures (rw (← c.saturating_sub-stores.ensures) (rw two at c.finished.ensures))
