@@ -256,6 +256,10 @@ class Fn:
         return self.places[place][2]
 
     def found(self, need_place, n, field):
+        field = field[:-4] if field.endswith("_lem") else field
+        return self.found_as(need_place, n, field)
+
+    def found_as(self, need_place, n, field):
         """The place that has a field: the one of that name that is nearest to the n-th before the need's, else that one."""
         row = [q for q in self.chain(need_place) if not self.step(q)[0].startswith("way_told") and q != "Untold"]
         if field in ("args", "requires", "ranges"):
@@ -399,6 +403,7 @@ def convert(path):
         return
     j = names[key]
     fn = Fn(label, j, text)
+    text = text.replace("(λ x. x.now)", "now")
     groups = chunks(text)
     head, uses, decls, spec = [], [], [], None
     for g in groups:
@@ -542,7 +547,17 @@ def convert(path):
         with open(p, "w", encoding="utf-8") as f:
             f.write(t)
 
-    out("Invariants.antt", "Given", inv_out, [])
+    # a definition that an invariant names stands beside it
+    inv_text = "\n".join(b for _, _, _, b in inv_out)
+    beside = [(n, d) for n, d in helpers if re.search(rf"(?<![\w.'-]){re.escape(n)}(?![\w'-])", inv_text)]
+    helpers = [h for h in helpers if h not in beside]
+    for n, d in beside:
+        d["all"] = [re.sub(rf"^((?:abbrev |unfoldable )*)({re.escape(n)} :)", r"\1pub \2", l) for l in d["all"]]
+    out("Invariants.antt", "Given", inv_out, beside)
+    ans_text = "\n".join(b for _, _, _, b in ans_out) + "\n".join("\n".join(d["all"]) for _, d in helpers)
+    cited = [n for n, _ in beside if re.search(rf"(?<![\w.'-]){re.escape(n)}(?![\w'-])", ans_text)]
+    if cited:
+        uses.append(f"use {base}.Invariants.{{{', '.join(cited)}}}")
     if ans_out:
         out("Answers.antt", "Goals", ans_out, helpers)
     elif helpers and any("tie." not in d["type"] for _, d in helpers):

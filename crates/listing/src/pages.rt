@@ -12,8 +12,8 @@ ghost use Rattle.listing.specs.Laid.{wanted, laid_line};
 ghost use Rattle.listing.specs.Sheets.{shown_of, Fits, listed_as, finished, LaidAll};
 
 use crate::columns::{put_change, put_close, put_heading};
-use layout::disks::{disk_at, ring_of};
 use disk_log::ring::{decode_ring, ring_words};
+use layout::disks::{disk_at, ring_of};
 use model::{Decoded, Sizes};
 
 const LINE_BYTES: u64 = 73;

@@ -2,7 +2,7 @@
 use mathlib.Core.Path.{◌≡◌, refl}
 use Prim.Native.Nat.{ℕ, ◌+◌}
 use mathlib.Core.List.{List, [], ◌∷◌, ◌++◌, map}
-use mathlib.Core.Bool.{Bool, true, false, cond, not, ◌&&◌}
+use mathlib.Core.Bool.{Bool, true, false, cond, ◌&&◌}
 use lib.ListN.{get_or, replicate}
 use lib.Dec.{ltb, eqb}
 use Rattle.model.specs.declared.Sizes.{Sizes}
@@ -28,7 +28,7 @@ use Rattle.model.specs.Call.{Call, format, begin, update, commit, abort, checkpo
 use Rattle.model.specs.Reference.{words_in}
 use Rattle.model.specs.Machine.{Machine, call, follow, formatted}
 use Rattle.model.proofs.Everything.{everything}
-use Rattle.model.proofs.Play.{Step, does, play, unformatted, drained, restart_by, gives}
+use Rattle.model.proofs.Play.{Step, does, play, unformatted, drained, restart_by}
 use Rattle.model.proofs.Positions.{plenty, small, fresh, set_up, twelve, mark, copy, finish}
 
 -- other ends remembered for the checkpoint under way

@@ -16,7 +16,7 @@ use Rattle.model.specs.Word.{part}
 use Rattle.model.specs.Sizes.{page_words, page_base, total, tail_word, sizes_in_bounds}
 use Rattle.model.specs.Anchor.{start_word}
 use Rattle.model.specs.Record.{close, encode, commit_kind}
-use Rattle.model.specs.World.{World, Action, store, anchor, logs, pages, work, cost, perform, stores, each}
+use Rattle.model.specs.World.{World, Action, store, anchor, logs, work, cost, perform, stores, each}
 use Rattle.model.specs.Memory.{buffer_at, buffer_of}
 use Rattle.model.specs.State.{tail_of, fill_of, after_flush}
 use Rattle.model.specs.Append.{store_log, store_all, flush, buffered, append, Appended}

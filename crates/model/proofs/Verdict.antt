@@ -12,7 +12,7 @@ use Rattle.model.specs.declared.Fault.{Fault}
 use Rattle.model.specs.declared.Fault.TheVariants.{NoFault, BadRecord}
 use Rattle.model.specs.declared.Answer.TheVariants.{Refused}
 use Rattle.model.specs.World.{World, finishes}
-use Rattle.model.specs.Refusal.{Row, row, Verdict, accepted, rejected, verdict, spend, conclude, stores_of}
+use Rattle.model.specs.Refusal.{Row, Verdict, accepted, rejected, verdict, spend, conclude, stores_of}
 use Rattle.model.specs.Causes.{fault_row, fault_from}
 use Rattle.model.specs.Format.{format_rows}
 use Rattle.model.specs.Transaction.{begin_rows, update_rows, read_rows, commit_rows}

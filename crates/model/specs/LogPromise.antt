@@ -11,7 +11,7 @@ use Rattle.model.specs.Anchor.{epoch_on, sizes_on, start_on}
 use Rattle.model.specs.Record.{Record, change, close, encode, encode_all}
 use Rattle.model.specs.Decode.{read_log, decoded}
 use Rattle.model.specs.Scan.{Scan, scan, placed, fate_in, updates_in, update_words, oldest}
-use Rattle.model.specs.World.{World, anchor, logs}
+use Rattle.model.specs.World.{World}
 use Rattle.model.specs.Memory.{buffer_of, copy_of}
 use Rattle.model.specs.State.{limit, start_of, kept_of, tail_of, fill_of, end_of, is_open, place_of, first_at, reserved_at, has_update, with_replay}
 use Rattle.model.specs.Refusal.{number_of}

@@ -11,6 +11,8 @@ ghost use Rattle.model.specs.View.{core_of, Serves};
 ghost use Rattle.replay.specs.Step.{StepsOn};
 ghost use Rattle.restart.specs.Step.{OnDisk, OnBackup, taken_by, StepsTo};
 
+use disk_log::read::{Extent, decode_at};
+use disk_log::scan::fate_from;
 use frame::handed::{finished, refused, unreadable};
 use frame::lent::refusal_when;
 use frame::replaying::replay_right;
@@ -18,8 +20,6 @@ use frame::stages::is_replaying;
 use head::places::{BASES_AT, PAGE_AT, POSITIONS_AT, SLOTS_AT, WIDTHS_AT};
 use layout::anchor::ANCHOR_WORDS;
 use layout::disks::disk_at;
-use disk_log::read::{Extent, decode_at};
-use disk_log::scan::fate_from;
 use model::{Carried, Decoded, Fate, Handed};
 use replay::record::is_replayed;
 use replay::take::replay_span;

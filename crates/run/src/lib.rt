@@ -1,5 +1,6 @@
 // Many restart steps of one source in one call.
 #![tactic(auto)]
+
 mod ahead;
 mod fates;
 mod fault;

@@ -11,11 +11,11 @@ ghost use Rattle.run.specs.Run.{RunsOn, Passes, RanOn, DiskRing};
 
 use crate::fault::record_fault;
 use crate::record::take_record;
+use disk_log::ring::{advance, ring_words};
 use frame::checks::common_refusal;
 use frame::settle::{finish, refuse, refuse_at};
 use frame::stages::When;
 use layout::disks::disk_at;
-use disk_log::ring::{advance, ring_words};
 use model::{Core, Fault, Replay, Reply};
 use replay::record::move_on;
 use replay::ring::page_bases;

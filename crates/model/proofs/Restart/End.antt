@@ -4,14 +4,13 @@ use mathlib.Core.List.{List, [], ◌∷◌, ◌++◌}
 use Prim.Native.Nat.{ℕ, zero, suc, ◌+◌, ◌≤◌, ◌<◌}
 use native.Mathlib.Omega.{arith}
 use lib.Dec.{eqb}
-use lib.ListN.{length, get_or, replicate}
+use lib.ListN.{length, get_or}
 use lib.Seq.{ext_get_or}
 use borrow.Author.Tests.{lt-leb, eqb-true, not-false}
 use Rattle.model.specs.declared.Core.{Core}
 use Rattle.model.specs.Below.{join_below, list_below}
 use Rattle.model.specs.Sizes.{page_base, page_words, total}
 use Rattle.model.specs.Anchor.{epoch_word, start_word, backup_at}
-use Rattle.model.specs.Memory.{copy_at}
 use Rattle.model.specs.World.{World, Action, store, write, anchor, backups, work, act, perform, each}
 use Rattle.model.specs.State.{tail_of}
 use Rattle.model.specs.Format.{fresh_memory}

@@ -15,7 +15,7 @@ use Rattle.model.specs.Sizes.{total, entry_in_bounds, counts_in_bounds, sizes_in
 use Rattle.model.specs.Anchor.{epoch_on, sizes_on, start_on, backup_at}
 use Rattle.model.specs.Decode.{read_log, span}
 use Rattle.model.specs.Scan.{scan}
-use Rattle.model.specs.World.{World, anchor, backups, logs, pages, work, Action, store, write, cost, act, perform, stores}
+use Rattle.model.specs.World.{World, pages, work, Action, store, write, cost, act, perform, stores}
 use Rattle.model.specs.Memory.{lengths_right}
 use Rattle.model.specs.Causes.{tail_in, retained_from}
 use Rattle.model.specs.Image.{retained_words, image_of, log_of, words_from, image_from}

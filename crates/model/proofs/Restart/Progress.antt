@@ -16,7 +16,7 @@ use Rattle.model.specs.Sizes.{page_base, total, sizes_in_bounds}
 use Rattle.model.specs.Anchor.{epoch_on, sizes_on, start_on}
 use Rattle.model.specs.Decode.{read_log}
 use Rattle.model.specs.Scan.{Scan, end, scan}
-use Rattle.model.specs.World.{World, perform, pages}
+use Rattle.model.specs.World.{World, perform}
 use Rattle.model.specs.State.{start_of, tail_of}
 use Rattle.model.specs.Causes.{lengths_wrong, tail_on, retained_from, retained}
 use Rattle.model.specs.Restart.{position_of, read_disk, image_rows, restart_begin_rows, restart_begin_task}

@@ -8,7 +8,7 @@ use native.Mathlib.Nat.{not-suc-le-zero}
 use lib.ListN.{length, get_or}
 use lib.Seq.{sets, length-sets}
 use Rattle.model.specs.Word.{◌⊕◌, xors, part}
-use Rattle.model.specs.World.{World, pages, perform}
+use Rattle.model.specs.World.{World, perform}
 use Rattle.model.specs.Abort.{xor_in}
 use Rattle.model.specs.Image.{xor_at}
 use Rattle.model.proofs.Ledger.Entry.{mask, spanning, share}

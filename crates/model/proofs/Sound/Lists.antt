@@ -10,7 +10,7 @@ use Rattle.model.specs.declared.Logs.{Logs}
 use Rattle.model.specs.declared.Core.{Core}
 use Rattle.model.specs.Scan.{update_words}
 use Rattle.model.specs.World.{World}
-use Rattle.model.specs.State.{limit, end_of, place_of, is_open, reserved_at, sound}
+use Rattle.model.specs.State.{end_of, place_of, is_open, reserved_at, sound}
 use Rattle.model.specs.Refusal.{accepted, verdict}
 use Rattle.model.specs.Causes.{when_serving}
 use Rattle.model.specs.Transaction.{disk_of, commit_rows, commit_task}

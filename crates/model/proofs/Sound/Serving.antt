@@ -10,7 +10,7 @@ use Rattle.model.specs.declared.Stage.TheVariants.{Shut, Replaying, Open, Copyin
 use Rattle.model.specs.declared.Logs.{Logs}
 use Rattle.model.specs.declared.Table.{Table}
 use Rattle.model.specs.declared.Core.{Core}
-use Rattle.model.specs.State.{serving_with, places, limit, start_of, end_of, number_at, disk_at_place, has_update, reserved_for, reserved_on, serving_sound, sound_in, sound}
+use Rattle.model.specs.State.{serving_with, places, start_of, end_of, number_at, disk_at_place, has_update, reserved_for, reserved_on, serving_sound, sound_in, sound}
 use Rattle.model.specs.Causes.{when_serving}
 use Rattle.model.proofs.KeptBases.{bases_carried}
 use Rattle.model.proofs.Store.Rows.{serving_sound_lem, sizes_sound, bases_sound, DiskSound, disk_sound_lem, PlaceSound, place_sound_lem, CheckpointSound, checkpoint_sound_lem}

@@ -9,12 +9,11 @@ use Rattle.model.specs.declared.Core.{Core}
 use Rattle.model.specs.Sizes.{slots_in, width_in, slot_base, ring_of}
 use Rattle.model.specs.Record.{encode, compensation_kind}
 use Rattle.model.specs.Scan.{Update}
-use Rattle.model.specs.World.{World, pages}
+use Rattle.model.specs.World.{World}
 use Rattle.model.specs.Memory.{copy_of}
 use Rattle.model.specs.State.{limit, kept_of, end_of, is_open, place_of, has_update}
 use Rattle.model.specs.Transaction.{disk_of}
 use Rattle.model.specs.History.{compensation}
-use Rattle.model.proofs.Geometry.{slot_in}
 use Rattle.model.proofs.Ledger.Entry.{Entry, record_of, is_close}
 use Rattle.model.proofs.Ledger.Order.{size_of}
 use Rattle.model.proofs.Link.Words.{Fit}

@@ -16,7 +16,7 @@ use Rattle.model.specs.Anchor.{sizes_on, epoch_on, start_on}
 use Rattle.model.specs.Append.{flush}
 use Rattle.model.specs.Transaction.{disk_of}
 use Rattle.model.specs.Reference.{Reference}
-use Rattle.model.specs.History.{Told, also}
+use Rattle.model.specs.History.{Told}
 use Rattle.model.proofs.KeptBases.{bases_carried}
 use Rattle.model.proofs.Lengths.{Lengths, lengths_right_lem}
 use Rattle.model.proofs.Run.{SameLengths, perform_lengths, run_lengths}

@@ -16,7 +16,7 @@ use Rattle.model.proofs.Ledger.Picks.{all_pick, pick_all}
 use Rattle.model.proofs.RoundTrip.{encode_append, updates_append}
 use Rattle.model.proofs.Ledger.Positions.{size_ge, laid_append, laid_from, boundary_from}
 use Rattle.model.proofs.Ledger.Ordered.{from_start}
-use Rattle.model.proofs.Store.View.{Since, before}
+use Rattle.model.proofs.Store.View.{Since}
 use Rattle.model.proofs.Booleans.{true_false}
 use Rattle.model.proofs.Store.Told.{updates_none}
 

@@ -21,11 +21,11 @@ use Rattle.model.specs.History.{Told}
 use Rattle.model.proofs.Meaning.{Holds, new_start_lem}
 use Rattle.model.proofs.Geometry.{page_of, page_in}
 use Rattle.model.proofs.Places.{open_place, place_open, place_holds, served_is, served_here}
-use Rattle.model.proofs.Ledger.Entry.{Entry, some, All, pick, on_disk}
+use Rattle.model.proofs.Ledger.Entry.{Entry, some, All, pick}
 use Rattle.model.proofs.Ledger.Order.{Ordered, size_of, on, Laid, boundary}
 use Rattle.model.proofs.Ledger.Sums.{all_map, all_zip}
 use Rattle.model.proofs.Ledger.Lists.{all_left, pick_whole, some_pick}
-use Rattle.model.proofs.Ledger.Positions.{size_ge, laid_append, laid_from, boundary_more, boundary_from}
+use Rattle.model.proofs.Ledger.Positions.{size_ge, laid_from, boundary_more, boundary_from}
 use Rattle.model.proofs.Ledger.Ordered.{from_start, on_switch}
 use Rattle.model.proofs.Ledger.Checkpoint.{MaySwitch}
 use Rattle.model.proofs.Ledger.Switch.{Placed, switch_old, switch_closed, switch_last}

@@ -1,7 +1,6 @@
 -- Another table of classes: nothing that holds of a state speaks of it, so all of it goes on to hold.
 use mathlib.Core.Path.{◌≡◌, refl}
 use mathlib.Core.List.{List}
-use mathlib.Core.Bool.{Bool, true}
 use Prim.Native.Nat.{ℕ}
 use Rattle.model.specs.declared.Stage.{Stage}
 use Rattle.model.specs.declared.Stage.TheVariants.{Shut, Replaying, Open, Copying}

@@ -23,7 +23,7 @@ use Rattle.model.specs.History.{Told}
 use Rattle.model.proofs.KeptBases.{slot_words_lem}
 use Rattle.model.proofs.Xor.{⊕-self-left, ⊕-zero-r, length_xors_same, get_d_xors_same}
 use Rattle.model.proofs.Lengths.{Lengths, lengths_right_lem}
-use Rattle.model.proofs.Geometry.{page_of, slot_start, slot_start_lem, slot_in, slot_apart, slot_end_total, page_in}
+use Rattle.model.proofs.Geometry.{page_of, slot_start, slot_start_lem, slot_apart, slot_end_total, page_in}
 use Rattle.model.proofs.Slots.{patch_of}
 use Rattle.model.proofs.WriteSets.{added_writes}
 use Rattle.model.proofs.Places.{open_place}

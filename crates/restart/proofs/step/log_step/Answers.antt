@@ -1,0 +1,77 @@
+-- `restart::step::log_step` meets its contract: nothing is left, or by what its record comes to. Assumes nothing.
+use mathlib.Core.Path.{sym}
+use native.Mathlib.Omega.{arith}
+use lib.ListN.{drop, take-append-drop}
+use borrow.Author.Rules.{rules}
+use Rattle.model.specs.World.{world_of}
+use Rattle.model.specs.State.{tail_of}
+use Rattle.model.specs.Restart.{moved_to}
+use Rattle.model.specs.View.{head_words, core_of, body_of}
+use Rattle.model.proofs.View.Head.{own_long}
+use Rattle.replay.proofs.Facts.{eight}
+use Rattle.replay.proofs.Stepping.{step_none}
+use Rattle.restart.proofs.Records.{position_here}
+use Rattle.restart.proofs.Steps.{moved_words, to_refused, to_finished, replaying_open}
+use Rattle.restart.proofs.step.log_step.Goals as goal
+
+pub offset_bounds-tails-d : goal.offset_bounds-tails-d
+offset_bounds-tails-d c = let few = eight c.requires.on in omega arith
+
+pub bounds-tails-d : goal.bounds-tails-d
+bounds-tails-d c = eight c.requires.on
+
+pub overflow_add-position : goal.overflow_add-position
+overflow_add-position c = let few = eight c.requires.on in omega arith
+
+pub offset_bounds-work-d : goal.offset_bounds-work-d
+offset_bounds-work-d c = let few = eight c.requires.on in omega arith
+
+pub bounds-work-d : goal.bounds-work-d
+bounds-work-d c = omega (arith, eight c.requires.on, own_long _ _ c.requires.own)
+
+pub returns-then-tail-position : goal.returns-then-tail-position
+unfolding tail_of core_of body_of
+returns-then-tail-position c =
+    let x = c.args in
+    let here = position_here x.carried x.work.now c.requires.own x.disk (eight c.requires.on) in
+    λ anchor backups.
+    let w = world_of anchor x.pages.now backups x.logs.now x.work.now in
+    to_refused x.carried w x.disk (body_of w)
+    (step_none (core_of x.carried x.work.now) (body_of w) x.disk c.requires.on.disk_in (omega (arith, here, c.if-tail-position.true)))
+    (sym (take-append-drop head_words x.work.now)) c.refused.ensures
+
+pub take_record-taken-requires : goal.take_record-taken-requires
+unfolding tail_of core_of
+take_record-taken-requires c =
+    let x = c.args in
+    (c.requires, position_here x.carried x.work.now c.requires.own x.disk (eight c.requires.on), c.if-tail-position.false)
+
+pub returns-then-taken : goal.returns-then-taken
+unfolding body_of
+returns-then-taken c =
+    let x = c.args in
+    λ anchor backups.
+    to_refused x.carried (world_of anchor x.pages.now backups x.logs.now x.work.now) x.disk _
+    (rw c.if-taken.true at (c.take_record-taken.ensures anchor backups (drop head_words x.work.now)))
+    (sym (take-append-drop head_words x.work.now)) c.unreadable.ensures
+
+pub overflow_add-work : goal.overflow_add-work
+overflow_add-work c = let few = eight c.requires.on in omega arith
+
+pub offset_bounds-work-d-2 : goal.offset_bounds-work-d-2
+offset_bounds-work-d-2 c = let few = eight c.requires.on in omega arith
+
+pub bounds-work-d-2 : goal.bounds-work-d-2
+bounds-work-d-2 c = omega (arith, eight c.requires.on, own_long _ _ c.requires.own)
+
+pub returns : goal.returns
+unfolding body_of
+returns c =
+    let x = c.args in
+    let next = c.take_record-taken.result.position in
+    let h = x.carried in
+    λ anchor backups.
+    to_finished h (world_of anchor x.pages.now backups x.logs.now x.work.now) x.disk (moved_to (core_of h x.work.now) x.disk next) _
+    (rw c.if-taken.false at (c.take_record-taken.ensures anchor backups (drop head_words x.work.now)))
+    (replaying_open h x.work.now c.requires.on.replays x.disk next).0 (replaying_open h x.work.now c.requires.on.replays x.disk next).1
+    (moved_words h x.work.now c.requires.own x.disk next (eight c.requires.on)) c.finished.ensures

@@ -1,0 +1,29 @@
+-- `run::ahead::search_ahead` meets its contract. The loop keeps: of all numbers met, what is known up to p with what is found from p on is
+-- the fate from the start on, and `at` is the index of p. The measure is what is left of the log. Assumes nothing.
+use Prim.Native.Nat.{ℕ, ◌+◌, ◌-◌, ◌%◌, ◌≤◌, ◌<◌}
+use mathlib.Core.Path.{◌≡◌, refl, sym, ◌∙◌}
+use mathlib.Core.List.{List}
+use native.Mathlib.Omega.{arith}
+use lib.ListN.{length}
+use borrow.Author.Rules.{rules}
+use Rattle.model.specs.declared.Sizes.{Sizes}
+use Rattle.model.specs.declared.Fate.{Fate}
+use Rattle.model.specs.Scan.{scan, fate_in}
+use Rattle.disk_log.specs.Ring.{read_ring, EntriesOf}
+use Rattle.disk_log.proofs.Rings.{entries_long, within, stepped, change_short, close_short}
+use Rattle.disk_log.proofs.Scanning.{got_change, got_close, fate_end, fate_change, fate_other, fate_close, fate_bad}
+use Rattle.run.specs.Run.{Searched}
+use Rattle.run.proofs.Searching.{search_begun, search_on, search_all, search_end}
+use Rattle.run.proofs.ahead.search_ahead.Given as goal
+
+-- every fate from a position on
+abbrev pub ahead : Sizes → List ℕ → (tail p : ℕ) → ℕ → Fate
+ahead s ring tail p n = fate_in n (scan s (read_ring ring) tail p)
+
+abbrev pub invariant-loop-p : goal.invariant-loop-p
+invariant-loop-p l = (l.at ≡ l.p % length l.ring) × (l.used < l.count) × (l.count ≤ 16) × (length l.numbers ≡ 16) × (length l.closed ≡ 16)
+    × ((s : Sizes) → EntriesOf s l.slots l.widths → Searched (ahead s l.ring l.tail l.from) (ahead s l.ring l.tail l.from) l.sought l.initial.numbers l.initial.closed l.used (l.used + 1)
+    → Searched (ahead s l.ring l.tail l.from) (ahead s l.ring l.tail l.p) l.sought l.numbers l.closed l.used l.count)
+
+abbrev pub decreases-loop-p : goal.decreases-loop-p
+decreases-loop-p l = l.tail - l.p

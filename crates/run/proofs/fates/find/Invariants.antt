@@ -1,0 +1,18 @@
+-- `run::fates::find` meets its contract: no place passed has the number. Assumes nothing.
+use Prim.Native.Nat.{ℕ, ◌-◌, ◌≤◌, ◌<◌}
+use mathlib.Core.Path.{◌≡◌}
+use mathlib.Core.Bool.{false}
+use lib.Dec.{eqb}
+use lib.ListN.{get_or}
+use native.Mathlib.Omega.{arith}
+use borrow.Author.Rules.{rules}
+use borrow.Author.Tests.{eq-eqb, ne_eqb}
+use Rattle.model.proofs.Below.{below_suc}
+use Rattle.replay.proofs.Tails.{search_found, search_none}
+use Rattle.run.proofs.fates.find.Given as goal
+
+abbrev pub invariant-loop-i : goal.invariant-loop-i
+invariant-loop-i l = (l.i ≤ l.used) × ((j : ℕ) → j < l.i → eqb (get_or l.numbers j 0) l.number ≡ false)
+
+abbrev pub decreases-loop-i : goal.decreases-loop-i
+decreases-loop-i l = l.used - l.i
