@@ -262,7 +262,7 @@ class Fn:
     def found_as(self, need_place, n, field):
         """The place that has a field: the one of that name that is nearest to the n-th before the need's, else that one."""
         row = [q for q in self.chain(need_place) if not self.step(q)[0].startswith("way_told") and q != "Untold"]
-        if field in ("args", "requires", "ranges"):
+        if field in ("args", "requires", "ranges", "well-formed", "well_formed"):
             return "Start"
         alike = [i for i, q in enumerate(row) if norm(self.step(q)[0]) == norm(field)]
         if not alike:

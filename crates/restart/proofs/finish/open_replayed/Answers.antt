@@ -15,7 +15,7 @@ overflow_add-epoch c = omega (arith, (replaying _ c.requires.0).epoch)
 
 pub open_core-opened-requires : goal.open_core-opened-requires
 open_core-opened-requires c =
-    bases_whole _ c.requires.0 (length_unmapped ℕ c.args.core.bases.pages 64 c.slice_known-1.0.1.1.1.1.0.1.1.0.1.0.1)
+    bases_whole _ c.requires.0 (search rules)
 
 pub store_checkpoint-requires : goal.store_checkpoint-requires
 store_checkpoint-requires c =

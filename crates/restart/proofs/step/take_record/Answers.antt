@@ -132,5 +132,5 @@ returns-in_default c =
     let is = extent_is x.carried x.work.now x.disk (c.disk_at.ensures.0 (core_of x.carried x.work.now).sizes refl) in
     λ anchor backups body.
     taken_change c.requires.0 is c.requires.1 c.requires.2 anchor backups body c.decode_at-here.ensures c.in-Change.is c.fate_from-fate.ensures
-    (λ p told. not_told (rw told at c.in_default.in_default-own.keys2) refl) c.is_replayed-replays.ensures _
+    (λ p told. c.in_default.not-Unreadable p told) c.is_replayed-replays.ensures _
     (slot_at c.requires.0 is c.requires.1 c.requires.2 [] [] [] c.decode_at-here.ensures c.in-Change.is) c.replay_span.ensures
