@@ -34,8 +34,8 @@ def below():
     return [CRATE] + [d for d in deps.get(CRATE, []) if d in deps]
 
 
-def sources():
-    for crate in reversed(below()):
+def sources(only=None):
+    for crate in [only] if only else reversed(below()):
         for folder, dirs, names in os.walk(os.path.join("crates", crate, "src")):
             for n in sorted(names):
                 if n.endswith(".rt"):
@@ -46,10 +46,10 @@ def clauses_in(head, kind):
     return re.findall(rf"(?m)^\s*{kind}\*?(?: (\w+))? \{{", head)
 
 
-def clause_names(kind):
+def clause_names(kind, only=None):
     """The names of each function's clauses of a kind, where it has two or more; this crate's before those that it uses."""
     out = {}
-    for t in sources():
+    for t in sources(only):
         for m in re.finditer(r"\bfn (\w+)(.*?)(?=\n\}|\bfn )", t, re.S):
             found = clauses_in(m[2], kind)
             out[m[1]] = found if len(found) > 1 else None
@@ -68,6 +68,7 @@ def signatures():
 MUTABLE = signatures()
 ENSURES = clause_names("ensures")
 REQUIRES = clause_names("requires")
+BY_CRATE = {(kind, c): clause_names(kind, c) for kind in ("ensures", "requires") for c in below()}
 
 
 def step_of(name):
@@ -236,6 +237,7 @@ class Fn:
         self.order = [p[0] for p in j["places"]]
         self.said = []
         name = path.split(".")[-1]
+        self.file = "".join(read(os.path.join(HERE, "src", n)) for n in sorted(os.listdir(os.path.join(HERE, "src"))) if n == path.split(".")[0] + ".rt" or "." not in path and n in ("lib.rt", "main.rt"))
         src = "".join(read(os.path.join(HERE, "src", n)) for n in sorted(os.listdir(os.path.join(HERE, "src"))) if n.endswith(".rt"))
         m = re.search(rf"\bfn {name}(?:<[^(]*>)?\((.*?)\)(?: ->|\s*\n| \{{)", src, re.S)
         at = m.start() if m else 0
@@ -314,6 +316,19 @@ class Fn:
                     return best[1]
         return None
 
+    def clauses_of(self, kind, step):
+        """The names of the clauses of the function that a step calls."""
+        name = step_of(step)
+        m = re.search(rf"(\w+)::(?:\w+::)*{name}\(", self.source)
+        crate = m[1] if m and (kind, m[1]) in BY_CRATE else None
+        if crate is None:
+            for m in re.finditer(r"(?m)^use (\w+)::([^;]*);", self.file):
+                if re.search(rf"\b{name}\b", m[2]):
+                    crate = m[1]
+        if (kind, crate) in BY_CRATE and name in BY_CRATE[kind, crate]:
+            return BY_CRATE[kind, crate][name]
+        return (ENSURES if kind == "ensures" else REQUIRES).get(name)
+
     def named(self, parts):
         """A path below `c` whose steps have today's names, with today's names for what it projects."""
         f, rest = parts[0], parts[1:]
@@ -326,7 +341,7 @@ class Fn:
                 if i is not None:
                     return [f, names[i]] + rest[used:]
         if rest[:1] == ["ensures"]:
-            names = ENSURES.get(step_of(f))
+            names = self.clauses_of("ensures", f)
             if names:
                 i, used = projected(rest[1:], len(names))
                 if i is not None and names[i]:
@@ -336,7 +351,7 @@ class Fn:
     def clauses(self, goal, head, body):
         """The body of an answer, as a record where its goal has a field for each clause."""
         m = re.match(r"(\w+?)(?:-.*)?-requires", goal)
-        names = REQUIRES.get(step_of(m[1])) if m else self.own if goal.startswith("returns") else None
+        names = self.clauses_of("requires", m[1]) if m else self.own if goal.startswith("returns") else None
         if not names:
             return head + body
         done = as_record(body, names)
@@ -379,6 +394,13 @@ class Fn:
 
         body = re.sub(r"not-(true|false) \S+ ((?:\(rw [^()]*(?:\([^()]*\)[^()]*)* at )?([\w'.-]+)\.(?:true|false)(?![\w-]))", tested, body)
         body = body.replace(".well-formed", ".well_formed").replace(".End-low", ".end_low")
+        # what a call with several clauses ensures, taken whole
+
+        def whole(m):
+            names = self.clauses_of("ensures", m[1])
+            return "(" + ", ".join(f"c.{m[1]}.ensures.{n}" for n in names) + ")" if names and all(names) else m[0]
+
+        body = re.sub(r"(?<![\w.'-])c\.([\w'₀-₉-]+)\.ensures(?![\w.'₀-₉-])(?! in\b)", whole, body)
         # a `let` that names the arguments, a step or what it ensures
         for m in list(re.finditer(r"let ([\w'₀-₉-]+) = c\.([\w'₀-₉.-]+) in", body)):
             name, of = m[1], m[2].split(".")

@@ -1,5 +1,6 @@
 // The store's calls. A state is made by these and by nothing else: its field is private.
 #![tactic(auto)]
+
 pub mod checkpoints;
 pub mod formats;
 pub mod listings;

@@ -1,0 +1,25 @@
+-- `store::checkpoints::checkpoint_step` meets its contract: what the call gives on the whole state, kept. Assumes nothing.
+use mathlib.Core.Path.{refl}
+use Rattle.model.specs.World.{world_of}
+use Rattle.model.specs.Call.{checkpoint_step}
+use Rattle.store.proofs.Served.{lent_room, lent_served}
+use borrow.Author.Rules.{rules}
+use Rattle.store.proofs.checkpoints.checkpoint_step.Goals as goal
+
+pub kept-requires : goal.kept-requires
+kept-requires c =
+    let x = c.args in
+    lent_room (checkpoint_step x.budget.now) refl x.state.carried (world_of x.anchor.now x.pages.now x.backups.now x.logs.now x.work.now)
+    (c.loaded-core.ensures.value, c.loaded-core.ensures.arrays) c.body_start-from.ensures _ _ _
+    c.step-reply.ensures
+
+pub returns : goal.returns
+returns c =
+    let x = c.args in
+    let whole = lent_served (checkpoint_step x.budget.now) refl x.state.carried (world_of x.anchor.now x.pages.now x.backups.now x.logs.now x.work.now)
+    (c.loaded-core.ensures.value, c.loaded-core.ensures.arrays) c.body_start-from.ensures _ _ _
+    c.step-reply.ensures (c.kept.ensures.result_value, c.kept.ensures.work_value) in
+    record {
+      serves = whole.0;
+      work_value = whole.1;
+    }

@@ -1,0 +1,23 @@
+-- `store::listings::list_line` meets its contract: whatever the other slices hold, the answer is the verdict's.
+use mathlib.Core.Path.{refl}
+use borrow.Author.Rules.{rules}
+use lib.ListN.{length}
+use Rattle.model.specs.World.{world_of}
+use Rattle.model.specs.Listing.{not_aline}
+use Rattle.model.specs.Call.{list_line}
+use Rattle.model.specs.View.{core_of, body_of}
+use Rattle.model.proofs.View.Listed.{list_serves}
+use Rattle.store.proofs.listings.list_line.Goals as goal
+
+pub returns : goal.returns
+unfolding core_of body_of
+returns c =
+    let a = c.args in
+    let carried = c.carried_of-carried.ensures.value in
+    let gave = rw carried at c.list_line.ensures in
+    record {
+      by_index = λ pages backups work.
+          list_serves (list_line a.number (length a.out.now)) a.state.carried (world_of a.anchor.now pages backups a.logs.now work)
+          (not_aline (length a.out.now)) a.number _ refl gave.value;
+      out_value = gave.out_after;
+    }
