@@ -1,6 +1,7 @@
 // The benchmark's program: a stream of transactions on a formatted store, a power failure, restarts. It reads its sizes from standard
 // input and prints counts and digests; it has no clock, bench/run times it.
 #![tactic(auto)]
+
 mod answers;
 mod copying;
 mod input;
@@ -9,6 +10,8 @@ mod restarts;
 mod serve;
 mod setup;
 mod stream;
+
+ghost use Rattle.std.specs.Prelude.{◌≡◌, length};
 
 use crate::input::{Plan, plan_of};
 use crate::measure::{digest, line, log_words};
@@ -101,13 +104,20 @@ fn read_plan() -> Plan {
     plan_of(&text[..n])
 }
 
+// The zeros of eight rings of 65,536 words, each with its tail word. What lends them needs their number, and reads it here.
+fn zero_logs() -> [u64; 524296]
+    ensures { length result ≡ 524296 }
+{
+    [0; 524296]
+}
+
 fn main() {
     let plan = read_plan();
     let mut value = [0u64; 32];
     let mut anchor = [0u64; 148];
     let mut pages = [0u64; 8192];
     let mut backups = [0u64; 16384];
-    let mut logs = [0u64; 524296];
+    let mut logs = zero_logs();
     let mut work = [0u64; 9049];
     lent(
         plan,

@@ -1,5 +1,6 @@
 // First steps with the store: format it, commit a result, lose power inside the next commit, restart, and see what stands.
 #![tactic(auto)]
+
 mod entering;
 mod restarting;
 mod sizes;

@@ -1,6 +1,7 @@
 // A benchmark's program: fills a log by transactions of one shape, loses power, restarts. It reads the shape from standard input and prints
 // counts and digests; bench/run counts its instructions.
 #![tactic(auto)]
+
 mod filling;
 mod restarting;
 mod sizes;

@@ -1,6 +1,7 @@
 // The log on paper: results are entered, one transaction is withdrawn and one is still open when the power goes; then the retained log is
 // printed line by line. After the restart it is empty, and nothing is printed.
 #![tactic(auto)]
+
 mod entering;
 mod restarting;
 mod sizes;

@@ -1,0 +1,38 @@
+-- `bench::serve::all_updated` is safe and ends. Assumes nothing.
+use Rattle.std.proofs.Common.{◌≡◌, ◌-◌, ◌≤◌, length, arith, rules}
+use Rattle.bench.proofs.serve.all_updated.Goals as goal
+
+pub loop-tries-smaller-then-is_refused : goal.loop-tries-smaller-then-is_refused
+loop-tries-smaller-then-is_refused c = omega (arith, c.loop-tries-test.true)
+
+pub loop-tries-preserved-then-is_refused : goal.loop-tries-preserved-then-is_refused
+loop-tries-preserved-then-is_refused c =
+    let inv = c.loop-tries.invariant in (
+      omega (arith, c.loop-tries-test.true),
+      omega (arith, inv.1),
+      search (rules, inv.2, c.value-1),
+      search (rules, inv.3, c.anchor-1),
+      search (rules, inv.4, c.pages-1),
+      search (rules, inv.5, c.backups-1),
+      search (rules, inv.6, c.logs-then-is_refused-1, c.logs-1),
+      search (rules, inv.7, c.work-then-is_refused-1, c.work-1),
+    )
+
+pub overflow_add-made : goal.overflow_add-made
+overflow_add-made c = omega (arith, c.loop-tries-test.true, c.loop-tries.invariant.1)
+
+pub loop-tries-smaller : goal.loop-tries-smaller
+loop-tries-smaller c = omega (arith, c.loop-tries-test.true)
+
+pub loop-tries-preserved : goal.loop-tries-preserved
+loop-tries-preserved c =
+    let inv = c.loop-tries.invariant in (
+      omega (arith, c.loop-tries-test.true),
+      omega (arith, inv.1),
+      search (rules, inv.2, c.value-1),
+      search (rules, inv.3),
+      search (rules, inv.4, c.pages-1),
+      search (rules, inv.5),
+      search (rules, inv.6, c.logs-1),
+      search (rules, inv.7, c.work-1),
+    )
