@@ -11,14 +11,12 @@ mod serve;
 mod setup;
 mod stream;
 
-ghost use Rattle.std.specs.Prelude.{◌≡◌, length};
-
 use crate::input::{Plan, plan_of};
 use crate::measure::{digest, line, log_words};
 use crate::restarts::restarted;
 use crate::serve::{Tally, served};
 use crate::setup::formatted;
-use trial_table::words::front_mut;
+use trial_table::words::{front_mut, zeros};
 
 // A formatted store, and the transactions on it.
 fn loaded(
@@ -104,20 +102,13 @@ fn read_plan() -> Plan {
     plan_of(&text[..n])
 }
 
-// The zeros of eight rings of 65,536 words, each with its tail word. What lends them needs their number, and reads it here.
-fn zero_logs() -> [u64; 524296]
-    ensures { length result ≡ 524296 }
-{
-    [0; 524296]
-}
-
 fn main() {
     let plan = read_plan();
     let mut value = [0u64; 32];
     let mut anchor = [0u64; 148];
     let mut pages = [0u64; 8192];
     let mut backups = [0u64; 16384];
-    let mut logs = zero_logs();
+    let mut logs = zeros::<524296>();
     let mut work = [0u64; 9049];
     lent(
         plan,

@@ -8,6 +8,7 @@
 // Standard input may begin with a number: how many random images are tried (500 where there is none). To run it longer:
 //     echo 60000 | target/bin/damage_trial
 #![tactic(auto)]
+
 mod acts;
 mod machine;
 mod probe;

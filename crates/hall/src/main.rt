@@ -1,5 +1,6 @@
 // hall: a store of two pages of four one-word slots on two disks, driven by lines of standard input.
 #![tactic(auto)]
+
 mod console;
 mod output;
 mod serving;

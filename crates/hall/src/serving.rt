@@ -41,8 +41,8 @@ pub struct Served {
 
 // Reads once, takes in what came, and writes what it comes to. A read gives at most 780 bytes, so the text of its lines, 84 bytes each
 // at most, fits the buffer.
-fn serve_some<R: Input>(
-    rt: &R,
+fn serve_some(
+    rt: &HostRuntime,
     console: Console,
     anchor: &mut [u64],
     pages: &mut [u64],
@@ -58,7 +58,7 @@ fn serve_some<R: Input>(
         × Stands result.console (world_of anchor.new pages.new backups.new logs.new work.new) out.new (fed p input).text (fed p input) }
 {
     let mut input = [0u8; 780];
-    let Ok(got) = rt.reader().read(&mut input) else {
+    let Ok(got) = rt.stdin().read(&mut input) else {
         return Served {
             console,
             got: 0,
@@ -85,8 +85,8 @@ fn serve_some<R: Input>(
 
 // Runs every line of the input: it ends when a read gives nothing, or a read or a write has failed. A proved loop has to end, so it
 // counts its turns down from a number that no run uses up.
-fn serve<R: Input>(
-    rt: &R,
+fn serve(
+    rt: &HostRuntime,
     console: Console,
     anchor: &mut [u64],
     pages: &mut [u64],
@@ -137,8 +137,8 @@ fn close(console: Console, out: &mut [u8]) -> Console
 }
 
 // Answers the whole input: every line, a last one without an end, and the tally. Where a read or a write has failed it stops.
-pub fn answer_input<R: Input>(
-    rt: &R,
+pub fn answer_input(
+    rt: &HostRuntime,
     console: Console,
     anchor: &mut [u64],
     pages: &mut [u64],

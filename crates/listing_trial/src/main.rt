@@ -6,6 +6,7 @@
 // - with a word of the devices changed, a listing must answer as a restart's begin does, and show what then stands.
 // Standard input may begin with a number: how many changed images of each size are tried (300 where there is none).
 #![tactic(auto)]
+
 mod comparing;
 mod damaging;
 mod machine;

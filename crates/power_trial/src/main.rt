@@ -4,6 +4,7 @@
 // Standard input may begin with a number: how many lists are tried on each size (1 where there is none). To run it longer:
 //     echo 100 | target/bin/power_trial
 #![tactic(auto)]
+
 mod turns;
 mod watching;
 
@@ -13,6 +14,7 @@ use crate::turns::{Trial, turn};
 use script::progress::new_progress;
 use script::sizes::{how_many, shape_at};
 use trial_table::text::read_number;
+use trial_table::words::zeros;
 
 // How many turns are left: none once the last size is done.
 fn turns_left(left: u64, size: u64) -> u64
@@ -44,7 +46,7 @@ fn main() {
     let mut anchor = [0u64; 148];
     let mut pages = [0u64; 2048];
     let mut backups = [0u64; 4096];
-    let mut logs = [0u64; 524296];
+    let mut logs = zeros::<524296>();
     let mut work = [0u64; 2905];
     let mut book = [0u64; 17816];
     let lists = read_number(1);

@@ -1,4 +1,5 @@
 // Words of a slice.
+ghost use Rattle.std.specs.Prelude.{◌≡◌, length};
 
 // The word at i, 0 past the end.
 pub fn get(s: &[u64], i: u64) -> u64 {
@@ -128,4 +129,11 @@ pub fn times(a: u64, b: u64) -> u64 {
         return 0;
     }
     a * b
+}
+
+// An array of zeros. Who lends a long one reads its length here: the prover does not count so far.
+pub fn zeros<const N: usize>() -> [u64; N]
+    ensures { length result ≡ N }
+{
+    [0; N]
 }
