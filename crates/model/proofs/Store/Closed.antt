@@ -121,7 +121,7 @@ module _ {x : ℕ} {home : ℕ → ℕ} {c : Core} {F B : List Entry} (a : Accou
     (moved : (P : Entry → Type 0) → All P (F ++ B) → P e → All P (L ++ M))
     (closed : (t : ℕ) → closed_in (L ++ M) t ≡ (closed_in (F ++ B) t || eqb e.number t))
     (bounds : (q p d : ℕ) → boundary q p (on d F ++ on d B) ≡ true → boundary q p (on d L ++ on d M) ≡ true)
-    (l : Logs) (Kept-same : (d : ℕ) → kept_of l d ≡ kept_of c.logs d) (known : e.number < c.next)
+    (l : Logs) (kept_same : (d : ℕ) → kept_of l d ≡ kept_of c.logs d) (known : e.number < c.next)
     (found : (p : Entry → Bool) → some p (F ++ B) ≡ true → some p (L ++ M) ≡ true)
     (words : (t : ℕ) → (t ≡ e.number → ⊥) → words_for t (L ++ M) ≡ words_for t (F ++ B)) where
   abbrev table : Table
@@ -167,7 +167,7 @@ module _ {x : ℕ} {home : ℕ → ℕ} {c : Core} {F B : List Entry} (a : Accou
             (a.own u (open_before u o).0))
             (λ n. absurd ((open_before u o).1 (sym n)));
         firsts =
-            λ u o h. rw (first_same u o, disk_same u o, Kept-same)
+            λ u o h. rw (first_same u o, disk_same u o, kept_same)
             (bounds _ _ (disk_of c u) (a.firsts u (open_before u o).0 (sym (has_same u o) ∙ h)));
         disks = λ u o. rw (disk_same u o) (a.disks u (open_before u o).0);
         started = λ u o h. rw (first_same u o) (found _ (a.started u (open_before u o).0 (sym (has_same u o) ∙ h)));
