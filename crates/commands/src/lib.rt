@@ -4,5 +4,5 @@
 mod checkpoints;
 pub mod outcome;
 mod restarts;
-pub mod run;
+pub mod running;
 mod transactions;

@@ -5,7 +5,7 @@ ghost use Rattle.hall.specs.Running.{Program, line_taken, fed, ended};
 ghost use Rattle.hall.specs.Held.{Holds, Stands};
 
 use crate::output::add_line;
-use commands::run::run;
+use commands::running::run;
 use lines::partial::{Partial, command_of, line_length, read_piece, start};
 use lines::tally::{Tally, after_line, one_more};
 use store::State;

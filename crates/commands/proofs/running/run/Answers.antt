@@ -1,6 +1,6 @@
--- `commands::run::run` meets its contract: each arm's function runs the command that the arm is for.
+-- `commands::running::run` meets its contract: each arm's function runs the command that the arm is for.
 use mathlib.Core.Path.{refl}
-use Rattle.commands.proofs.run.run.Goals as goal
+use Rattle.commands.proofs.running.run.Goals as goal
 
 pub enum_told-1 : goal.enum_told-1
 enum_told-1 c = c.in-Begin.in-Begin-own.keys1

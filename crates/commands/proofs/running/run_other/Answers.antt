@@ -1,7 +1,7 @@
--- `commands::run::run_other` meets its contract.
+-- `commands::running::run_other` meets its contract.
 use mathlib.Core.Path.{refl}
 use Rattle.commands.specs.Meaning.{line_of}
-use Rattle.commands.proofs.run.run_other.Goals as goal
+use Rattle.commands.proofs.running.run_other.Goals as goal
 
 pub returns : goal.returns
 unfolding line_of
