@@ -12,7 +12,7 @@ import tempfile
 SIZES = dict(pages=64, slots=32, width=4, disks=8, ring=65_536)
 ROOM = tempfile.mkdtemp(prefix="bench", dir="/dev/shm")
 COMMANDS = {
-    "proved": ["target/bin/bench"],
+    "proved": ["crates/bench/out/bench"],
     "C": ["target/bench/floor"],
     "SQLite": ["target/bench/sqlite", ROOM + "/sqlite"],
     "LMDB": ["target/bench/lmdb", ROOM + "/lmdb"],

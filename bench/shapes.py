@@ -19,7 +19,7 @@ SHAPES = {
 @functools.cache
 def run(plan, closing, restarts):
     """Instructions of a run, and the records of a restart; void where a call is refused, a restart does not end or contents are lost."""
-    count, printed = counted(["target/bin/log_bench"], "".join(f"{n:019d}\n" for n in [*plan, closing, restarts]))
+    count, printed = counted(["crates/log_bench/out/log_bench"], "".join(f"{n:019d}\n" for n in [*plan, closing, restarts]))
     numbers = {name: int(number) for number, name in re.findall(r"^(\d+) (\w+)$", printed, re.M)}
     if numbers["refused"] or numbers.get("checkpoint", 2) != 2:
         sys.exit(f"void: {numbers['refused']} calls refused in {plan}, or the end of a restart")

@@ -47,6 +47,9 @@ def is_proof(p):
 
 
 def snake(x):
+    # the library's getD is get_or; notALine is three words
+    x = re.sub(r"^getD(?=-)|^get_or(?=-)", "get_or", x)
+    x = re.sub(r"(?<=[a-z])A(?=[A-Z])", "_a", x)
     x = re.sub(r"(?<=[a-z0-9₀-₉])[A-Z]", lambda m: "_" + m[0].lower(), x.replace("-", "_"))
     return re.sub(r"[A-Z]", lambda m: m[0].lower(), x)
 

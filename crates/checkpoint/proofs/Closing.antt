@@ -12,7 +12,7 @@ use Rattle.model.specs.World.{World, store, anchor}
 use Rattle.model.specs.Append.{flush}
 use Rattle.model.specs.Checkpoint.{per_disk, new_start, checkpoint_end_task}
 use Rattle.model.proofs.Below.{list_cong}
-use Rattle.model.proofs.PerDisk.{get_d_per_disk, length_per_disk}
+use Rattle.model.proofs.PerDisk.{get_or_per_disk, length_per_disk}
 use Rattle.device.specs.Ran.{Ran}
 use Rattle.device.proofs.Ran.{ran_then, ran_cut}
 use Rattle.frame.specs.Switch.{starts_stored}
@@ -29,7 +29,7 @@ end_parts c w few =
       switch_listed (c.epoch + 1) c.sizes.disks (per_disk c.sizes (new_start c)) (omega (arith, length_per_disk c.sizes (new_start c))),
       list_cong (λ d. store anchor (start_word (c.epoch + 1) d) (get_or (per_disk c.sizes (new_start c)) d 0))
           (λ d. store anchor (start_word (c.epoch + 1) d) (new_start c d)) c.sizes.disks
-          (λ d h. ap (store anchor (start_word (c.epoch + 1) d)) (get_d_per_disk c.sizes (new_start c) d few h)),
+          (λ d h. ap (store anchor (start_word (c.epoch + 1) d)) (get_or_per_disk c.sizes (new_start c) d few h)),
     )
     (sym (append_assoc (join_below (flush c.sizes c.logs w.work) c.sizes.disks) _ _))
 

@@ -9,7 +9,7 @@ use lib.Dec.{leb, ltb, eqb}
 use lib.ListN.{length, get_or, get_or-eq_default}
 use borrow.Author.Tests.{ltb-true, ltb-false, leb-false, eqb-true, eqb-false, not-false}
 use Rattle.model.specs.Below.{within, sum_below, list_below}
-use Rattle.model.specs.Classes.{max_lines, low_at, high_at, set_at, line_count, not_atable, line_wrong, wrong_line, classes_of}
+use Rattle.model.specs.Classes.{max_lines, low_at, high_at, set_at, line_count, not_a_table, line_wrong, wrong_line, classes_of}
 use Rattle.model.proofs.Below.{first_before, sum_step, list_cong}
 use Rattle.model.proofs.Booleans.{or_none}
 
@@ -37,8 +37,8 @@ pub record IsTable (lines : List ℕ) : Type 0 where
   pub some : 0 < length lines
   pub few : length lines ≤ 48
 
-pub is_table : (lines : List ℕ) → not_atable lines ≡ false → IsTable lines
-unfolding not_atable
+pub is_table : (lines : List ℕ) → not_a_table lines ≡ false → IsTable lines
+unfolding not_a_table
 is_table lines e =
     let a = or_none (not (eqb (length lines % 3) 0) || eqb (length lines) 0) (ltb 48 (length lines)) e in
     let b = or_none (not (eqb (length lines % 3) 0)) (eqb (length lines) 0) a.0 in
@@ -77,7 +77,7 @@ module _ (disks : ℕ) (lines : List ℕ) (right : line_count lines ≤ wrong_li
       (first_before (λ (j : ℕ). line_wrong disks (low_at lines j) (high_at lines j) (set_at lines j)) (line_count lines) i (omega arith))
 
   -- every word of such a table is a byte
-  pub table_bytes : disks ≤ 8 → not_atable lines ≡ false → (i : ℕ) → get_or lines i 0 < 256
+  pub table_bytes : disks ≤ 8 → not_a_table lines ≡ false → (i : ℕ) → get_or lines i 0 < 256
   unfolding line_count low_at high_at set_at
   table_bytes few e i = go (ltb i (length lines)) refl
     where

@@ -1,10 +1,10 @@
 // The checks of a table as it is lent: lowest class, highest class and set of disks, three words a line.
 ghost use Rattle.std.specs.Prelude.{◌≡◌, ◌≤◌};
 ghost use Rattle.model.specs.Below.{within};
-ghost use Rattle.model.specs.Classes.{line_count, not_atable, line_wrong, wrong_line, times_covered, uncovered_class, twice_covered};
+ghost use Rattle.model.specs.Classes.{line_count, not_a_table, line_wrong, wrong_line, times_covered, uncovered_class, twice_covered};
 
 pub fn not_a_table(lines: &[u64]) -> bool
-    ensures { result ≡ not_atable lines.now }
+    ensures { result ≡ not_a_table lines.now }
 {
     let len = lines.len();
     if len % 3 != 0 {

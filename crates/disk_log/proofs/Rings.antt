@@ -21,7 +21,7 @@ use Rattle.model.proofs.Decode.{ChangeAt, CloseAt, decode_cong}
 use Rattle.model.proofs.Ring.{disk_within}
 use Rattle.model.proofs.Scan.{scan_cong}
 use Rattle.model.proofs.Faults.{fault_own}
-use Rattle.model.proofs.Parts.{length_part, get_d_part}
+use Rattle.model.proofs.Parts.{length_part, get_or_part}
 use Rattle.model.proofs.Reader.{Holds, holds_from, append_holds, span_holds, span_cong, read_ring_lem}
 use Rattle.disk_log.proofs.Scanning.{faults_step}
 use Rattle.disk_log.specs.Reading.{Checkable}
@@ -82,7 +82,7 @@ module _ (s : Sizes) (logs : List ℕ) (disk tail : ℕ) (fits : disk_at s disk 
   ring_read : (p : ℕ) → p < tail → read_ring (ring_at s logs disk) p ≡ read_log s logs disk tail [] p
   unfolding read_ring ring_at ring_word
   ring_read p h =
-      rw ring_size (get_d_part (disk_at s disk + 1) (ring_of s disk) logs (p % ring_of s disk) (mod-lt p some)) ∙ sym (read_ring_lem s logs disk tail [] p h)
+      rw ring_size (get_or_part (disk_at s disk + 1) (ring_of s disk) logs (p % ring_of s disk) (mod-lt p some)) ∙ sym (read_ring_lem s logs disk tail [] p h)
 
   pub ring_decode : (p : ℕ) → p < tail
       → decode_at s (read_ring (ring_at s logs disk)) tail p ≡ decode_at s (read_log s logs disk tail []) tail p
@@ -108,7 +108,7 @@ module _ (ring : List ℕ) where
       word q l m =
           let on : at + (q - p) ≡ q % length ring =
           stepped p q (length ring) (at + (q - p)) l (step_on (length ring) at (q - p) (omega arith) (omega arith) (omega arith) p is) in
-          ap (λ (i : ℕ). get_or ring i 0) (sym on) ∙ sym (get_d_part at n ring (q - p) (omega arith))
+          ap (λ (i : ℕ). get_or ring i 0) (sym on) ∙ sym (get_or_part at n ring (q - p) (omega arith))
 
   pub span_run : (p at n : ℕ) → at ≡ p % length ring → at + n ≤ length ring → span (read_ring ring) p n ≡ part at n ring
   span_run p at n is h =

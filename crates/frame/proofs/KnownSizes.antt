@@ -15,7 +15,7 @@ use Rattle.model.specs.Sizes.{total, sizes_in_bounds}
 use Rattle.model.specs.Reads.{sizes_fit}
 use Rattle.model.specs.View.{head_slots, head_widths, own_work, core_of}
 use Rattle.model.proofs.Booleans.{true_false}
-use Rattle.model.proofs.Parts.{get_d_part}
+use Rattle.model.proofs.Parts.{get_or_part}
 use Rattle.model.proofs.View.Head.{own_view}
 use Rattle.layout.proofs.Laws.{entry_bytes}
 use Rattle.frame.specs.Sizes.{sizes_at, Tested}
@@ -31,12 +31,12 @@ head_bytes pages disks ring work e i h = go (dec_lt i 64)
     bytes j k = entry_bytes (sizes_at pages disks ring work) e j k
 
     go : Dec (i < 64) → get_or work i 0 < 256
-    go (yes low) = rw (get_d_part head_slots 64 work i low, zero-add i) at (bytes i low).0
+    go (yes low) = rw (get_or_part head_slots 64 work i low, zero-add i) at (bytes i low).0
     go (no high) =
         let j : ℕ = i - 64 in
         let below : j < 64 = omega arith in
         let there : head_widths + j ≡ i = omega arith in
-        rw (get_d_part head_widths 64 work j below, there) at (bytes j below).1
+        rw (get_or_part head_widths 64 work j below, there) at (bytes j below).1
 
 -- so sizes that are not are out of bounds
 pub head_out : (pages disks ring : ℕ) (work : List ℕ) {above : ℕ} → (above ≡ 0 → ⊥) → (((i : ℕ) → i < 128 → get_or work i 0 < 256) → above ≡ 0)

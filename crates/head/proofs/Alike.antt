@@ -31,11 +31,11 @@ use Rattle.head.proofs.Capped.{length_capped}
 use Rattle.head.proofs.Laying.{length_here}
 
 -- A list whose words fit is left as it is.
-get_d_capped : (most : ℕ) (l : List ℕ) (i : ℕ) → i < length l → get_or (capped most l) i 0 ≡ min most (get_or l i 0)
+get_or_capped : (most : ℕ) (l : List ℕ) (i : ℕ) → i < length l → get_or (capped most l) i 0 ≡ min most (get_or l i 0)
 unfolding capped
-get_d_capped most [] i h = absurd (omega arith)
-get_d_capped most (x ∷ l) zero h = refl
-get_d_capped most (x ∷ l) (suc i) h = get_d_capped most l i (omega arith)
+get_or_capped most [] i h = absurd (omega arith)
+get_or_capped most (x ∷ l) zero h = refl
+get_or_capped most (x ∷ l) (suc i) h = get_or_capped most l i (omega arith)
 
 capped_same : (most : ℕ) (l : List ℕ) → ((i : ℕ) → i < length l → get_or l i 0 ≤ most) → capped most l ≡ l
 unfolding capped
@@ -117,9 +117,9 @@ module _ (c : Core) (sized : HeadSized c) where
   unfolding narrowed
   small_before s =
       record {
-        slots = λ i h. omega (arith, s.slots i h, get_d_capped byte_most c.sizes.slots i (omega (arith, h, slots_long)));
-        widths = λ i h. omega (arith, s.widths i h, get_d_capped byte_most c.sizes.widths i (omega (arith, h, widths_long)));
-        bases = λ i h. omega (arith, s.bases i h, get_d_capped base_most c.bases.pages i (omega (arith, h, bases_long)));
+        slots = λ i h. omega (arith, s.slots i h, get_or_capped byte_most c.sizes.slots i (omega (arith, h, slots_long)));
+        widths = λ i h. omega (arith, s.widths i h, get_or_capped byte_most c.sizes.widths i (omega (arith, h, widths_long)));
+        bases = λ i h. omega (arith, s.bases i h, get_or_capped base_most c.bases.pages i (omega (arith, h, bases_long)));
       }
 
   pub narrowed_sized : HeadSized (narrowed c)

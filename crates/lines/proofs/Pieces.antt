@@ -1,16 +1,15 @@
 -- A line in pieces: what is read of it piece by piece, and the command of the whole line.
-use Prim.Native.Nat.{ℕ, suc, ◌+◌, ◌<◌, ◌≤◌}
-use mathlib.Core.Path.{◌≡◌, refl, sym, ◌∙◌}
+use Prim.Native.Nat.{ℕ, ◌+◌, ◌<◌, ◌≤◌}
+use mathlib.Core.Path.{◌≡◌, ◌∙◌}
 use mathlib.Core.List.{List, [], ◌∷◌, ◌++◌, append_assoc, append-nil}
 use native.Mathlib.Numerals.{add-one}
 use lib.ListN.{length, get_or, drop, drop_of_length-le}
 use lib.Seq.{drop-cons}
 use native.Mathlib.Omega.{arith}
 use borrow.Author.Tests.{eq-eqb, ne_eqb}
-use Rattle.lines.specs.declared.command.Command.{Command}
 use Rattle.lines.specs.declared.partial.Partial.{Partial}
 use Rattle.lines.specs.Line.{command_of, line_length}
-use Rattle.lines.specs.After.{after_name, after_number, command_after, Pieces, none, piece}
+use Rattle.lines.specs.After.{command_after, Pieces, none, piece}
 
 -- one byte of a piece
 pub byte_of : (bytes more : List ℕ) (i : ℕ) → i < length bytes → drop i bytes ++ more ≡ get_or bytes i 0 ∷ (drop (i + 1) bytes ++ more)

@@ -1,15 +1,15 @@
 -- What a Partial means, by where it stands in the line: in the name, in a number, or past hope.
 use Prim.Native.Nat.{ℕ, suc, ◌+◌, ◌-◌, ◌<◌, ◌≤◌}
-use mathlib.Core.Path.{◌≡◌, refl, sym, ap, ◌∙◌}
+use mathlib.Core.Path.{◌≡◌, refl, ap, ◌∙◌}
 use mathlib.Core.List.{List, [], ◌∷◌, ◌++◌}
 use native.Mathlib.Numerals.{add-one}
 use native.Mathlib.Omega.{arith}
 use lib.ListN.{length, take, set}
 use lib.Seq.{take-suc-set}
-use borrow.Author.Tests.{lt-ltb, le-ltb, eq-eqb, ne_eqb}
+use borrow.Author.Tests.{lt-ltb, le-ltb, ne_eqb}
 use Rattle.lines.specs.declared.command.Command.TheVariants.{Other}
 use Rattle.lines.specs.declared.partial.Partial.{Partial}
-use Rattle.lines.specs.Line.{Fields, fields, with_byte, with_field}
+use Rattle.lines.specs.Line.{fields, with_byte, with_field}
 use Rattle.lines.specs.After.{after_name, after_number, command_after}
 
 pub at_space : (more : List ℕ) → fields (32 ∷ more) ≡ with_field (fields more)

@@ -1,15 +1,15 @@
 -- One byte more: what the rest of a line means after it, and before it.
-use Prim.Native.Nat.{ℕ, suc, ◌+◌, ◌*◌, ◌-◌, ◌^◌, ◌<◌, ◌≤◌}
-use mathlib.Core.Path.{◌≡◌, refl, sym, ap, ◌∙◌}
+use Prim.Native.Nat.{ℕ, ◌+◌, ◌*◌, ◌-◌, ◌^◌, ◌<◌, ◌≤◌}
+use mathlib.Core.Path.{◌≡◌, refl}
 use mathlib.Core.List.{List, [], ◌∷◌, ◌++◌, append_assoc, append-nil, map}
-use mathlib.Core.Bool.{Bool, true, false, cond, not, ◌&&◌, and-false}
+use mathlib.Core.Bool.{Bool, true, false, not, ◌&&◌, and-false}
 use native.Mathlib.Omega.{arith}
 use lib.ListN.{length, length-append}
-use lib.Dec.{leb, ltb}
+use lib.Dec.{leb}
 use borrow.Author.Tests.{lt-ltb, le-ltb, le-leb, lt-leb}
 use Rattle.lines.specs.declared.command.Command.TheVariants.{Other}
-use Rattle.lines.specs.Line.{Fields, with_byte, with_field, all_digits, value_from, value, is_empty, all_numbers, form_of, fields_mean}
-use Rattle.lines.specs.After.{after_name, after_number, goes_on}
+use Rattle.lines.specs.Line.{Fields, with_byte, with_field, all_digits, value_from, value, all_numbers, fields_mean}
+use Rattle.lines.specs.After.{after_name, after_number}
 use Rattle.lines.proofs.Names.{long_name, many_numbers, cond_same}
 
 module _ (name : List ℕ) (b : ℕ) (s : Fields) where

@@ -1,16 +1,16 @@
 -- A Partial after one byte more means of the rest what the one before it means of the byte and the rest.
 use Prim.Native.Nat.{ℕ, ◌+◌, ◌*◌, ◌-◌, ◌^◌, ◌<◌, ◌≤◌}
-use mathlib.Core.Path.{◌≡◌, refl, sym, ◌∙◌}
-use mathlib.Core.List.{List, [], ◌∷◌, ◌++◌}
+use mathlib.Core.Path.{◌≡◌, sym, ◌∙◌}
+use mathlib.Core.List.{List, ◌∷◌}
 use mathlib.Core.Bool.{true, false}
 use native.Mathlib.Omega.{arith}
 use lib.ListN.{length, take, set, length-take}
 use Rattle.lines.specs.declared.command.Command.TheVariants.{Other}
 use Rattle.lines.specs.declared.partial.Partial.{Partial}
-use Rattle.lines.specs.Line.{fields, with_byte}
+use Rattle.lines.specs.Line.{fields}
 use Rattle.lines.specs.After.{command_after}
 use Rattle.lines.proofs.Rest.{name_more, name_too_long, name_ends, number_ends, number_missing, number_too_many, number_more, number_low, number_high, number_too_large}
-use Rattle.lines.proofs.Reading.{at_space, at_byte, past_hope, past_name, in_name, in_number, byte_put, number_put}
+use Rattle.lines.proofs.Reading.{at_byte, past_hope, in_name, in_number, byte_put, number_put}
 
 -- nothing helps a line that is past hope
 pub stays_past_hope : (p r : Partial) (b : ℕ) (more : List ℕ) → 4 < r.count → command_after p (b ∷ more) ≡ Other → command_after r more ≡ command_after p (b ∷ more)

@@ -1,6 +1,6 @@
 -- A line arrives in pieces, and is not kept. What has been read of it is a `Partial`; what that means is said by the rest of the line,
 -- which is still to come.
-use Rattle.std.specs.Prelude.{ℕ, ◌-◌, ◌^◌, ◌≡◌, List, [], ◌∷◌, ◌++◌, map, Bool, cond, not, ◌&&◌, ◌||◌, take, ltb, eqb}
+use Rattle.std.specs.Prelude.{ℕ, ◌-◌, ◌^◌, ◌≡◌, List, [], ◌∷◌, ◌++◌, map, Bool, cond, not, ◌&&◌, take, ltb, eqb}
 use Rattle.lines.specs.declared.command.Command.{Command}
 use Rattle.lines.specs.declared.command.Command.TheVariants.{Other}
 use Rattle.lines.specs.declared.partial.Partial.{Partial}

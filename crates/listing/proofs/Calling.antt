@@ -21,7 +21,7 @@ use Rattle.model.specs.Listing.{listed_in, listed_on, listing, lent_wrong, list_
 use Rattle.model.specs.ListingLaws.{Listable, LinesLong}
 use Rattle.model.proofs.Below.{join_cong}
 use Rattle.model.proofs.Members.{Every, first_of, others_of}
-use Rattle.model.proofs.PerDisk.{get_d_per_disk}
+use Rattle.model.proofs.PerDisk.{get_or_per_disk}
 use Rattle.model.proofs.Verdict.{verdict_append, refused_append}
 use Rattle.model.proofs.Listing.{lines_long, list_accepted}
 use Rattle.replay.specs.declared.image.Finding.{Finding}
@@ -38,7 +38,7 @@ module _ (anchor logs : List ℕ) (first : ℕ) (s : Sizes) (same : s ≡ sizes_
     (from : starts ≡ per_disk s (start_on anchor)) (found : Finding)
     (checked : verdict (log_rows s (λ d. get_or starts d 0) logs) ≡ finding_of found) (out : List ℕ) where
   start_is : (d : ℕ) → d < s.disks → get_or starts d 0 ≡ start_on anchor d
-  start_is d h = rw from (get_d_per_disk s (start_on anchor) d few h)
+  start_is d h = rw from (get_or_per_disk s (start_on anchor) d few h)
 
   logs_verdict : verdict (log_rows s (start_on anchor) logs) ≡ finding_of found
   logs_verdict = ap verdict (sym (rows_read s anchor logs few from)) ∙ checked

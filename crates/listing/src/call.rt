@@ -3,7 +3,7 @@ ghost use Rattle.std.specs.Prelude.{◌≡◌, true, length};
 ghost use Rattle.model.specs.Sizes.{log_words, sizes_in_bounds};
 ghost use Rattle.model.specs.Anchor.{anchor_words, sizes_on};
 ghost use Rattle.model.specs.Refusal.{verdict, answer_by};
-ghost use Rattle.model.specs.Listing.{listing, list_rows, not_aline, not_lines, lines_from, line_after, lines_after};
+ghost use Rattle.model.specs.Listing.{listing, list_rows, not_a_line, not_lines, lines_from, line_after, lines_after};
 ghost use Rattle.listing.specs.Call.{last_rows, Lists};
 
 use crate::pages::lay_disks;
@@ -90,7 +90,7 @@ fn list(
 
 // The line of a number, into 73 bytes.
 pub fn list_line(stage: Stage, number: u64, anchor: &[u64], logs: &[u64], out: &mut [u8]) -> Answer
-    ensures value { result ≡ answer_by (verdict (list_rows stage (not_aline (length out.old)) anchor.now logs.now number)) 0 }
+    ensures value { result ≡ answer_by (verdict (list_rows stage (not_a_line (length out.old)) anchor.now logs.now number)) 0 }
     ensures out_after { out.new ≡ line_after stage anchor.now logs.now number out.old }
 {
     let wrong = out.len() != 73;

@@ -26,7 +26,7 @@ use Rattle.model.specs.Abort.{abort_fault, abort_rows}
 use Rattle.model.specs.Checkpoint.{checkpoint_begin_rows, checkpoint_step_rows, checkpoint_end_rows}
 use Rattle.model.specs.Restart.{restart_begin_rows, restart_step_rows, restart_end_rows}
 use Rattle.model.specs.Listing.{listing, list_rows}
-use Rattle.model.specs.Classes.{class_count, line_count, not_atable, wrong_line, uncovered_class, twice_covered}
+use Rattle.model.specs.Classes.{class_count, line_count, not_a_table, wrong_line, uncovered_class, twice_covered}
 use Rattle.model.specs.SetClasses.{least_row, work_wrong, set_classes_rows}
 use Rattle.model.specs.Call.{Call, format, begin, update, look, read, list_line, list_lines, commit, abort, set_classes, checkpoint_begin, checkpoint_step, checkpoint_end, restart_begin, restart_step, restart_run, restart_end, new_state, rows_of, result_of}
 use Rattle.model.specs.Reference.{Reference, taken, outcome_of}
@@ -139,7 +139,7 @@ module _ (c : Core) (w : World) (right : Right c w) where
       }
 
   -- a table of classes has rows 1 and 5 first
-  late_classes : (lines : List ℕ) → not_atable lines ≡ false → when_serving c.stage ≡ true → Late (set_classes lines) c w
+  late_classes : (lines : List ℕ) → not_a_table lines ≡ false → when_serving c.stage ≡ true → Late (set_classes lines) c w
   unfolding ascending_from verdict set_classes_rows work_wrong
   late_classes lines none stage =
       record {
@@ -150,7 +150,7 @@ module _ (c : Core) (w : World) (right : Right c w) where
       }
 
   -- lines of a wrong length
-  five_classes : (lines : List ℕ) → not_atable lines ≡ true → when_serving c.stage ≡ true → number_of (result_of (set_classes lines) c w).answer ≡ 5
+  five_classes : (lines : List ℕ) → not_a_table lines ≡ true → when_serving c.stage ≡ true → number_of (result_of (set_classes lines) c w).answer ≡ 5
   unfolding verdict set_classes_rows work_wrong
   five_classes lines wrong stage =
       let v : verdict (set_classes_rows c w lines) ≡ rejected 5 0 0 =

@@ -11,13 +11,13 @@ use lib.ListN.{length}
 use borrow.Author.Tests.{ltb-true, ltb-false, leb-false, eqb-true, eqb-false, ne_eqb, not-false}
 use Rattle.model.specs.declared.Core.{Core}
 use Rattle.model.specs.Below.{within, sum_below, all_below, first_below}
-use Rattle.model.specs.Classes.{max_lines, class_count, in_set, low_at, high_at, set_at, line_count, not_atable, line_wrong, wrong_line, times_covered, uncovered_class, twice_covered, classes_of, line_for, set_for}
+use Rattle.model.specs.Classes.{max_lines, class_count, in_set, low_at, high_at, set_at, line_count, not_a_table, line_wrong, wrong_line, times_covered, uncovered_class, twice_covered, classes_of, line_for, set_for}
 use Rattle.model.specs.World.{World}
 use Rattle.model.specs.Refusal.{verdict, accepted}
 use Rattle.model.specs.SetClasses.{work_wrong, set_classes_rows}
 use Rattle.model.specs.ClassPromise.{ClassLine, TableServes, EveryDisk}
 use Rattle.model.proofs.Booleans.{or_none}
-use Rattle.model.proofs.Below.{first_passes, first_before, first_fails, first_unique, first_cong, all_each, sum_term, get_d_list}
+use Rattle.model.proofs.Below.{first_passes, first_before, first_fails, first_unique, first_cong, all_each, sum_term, get_or_list}
 use Rattle.model.proofs.Verdict.{row_passed}
 
 -- How many numbers below n pass: none where all fail, two or more where two pass.
@@ -40,8 +40,8 @@ module _ (f : ℕ → Bool) where
   counts_none (suc n) h = rw (counts_none n (λ i l. h i (omega arith)), h n (omega arith)) refl
 
 -- 5: from 1 to 16 lines
-lines_few : (lines : List ℕ) → not_atable lines ≡ false → (0 < line_count lines) × (line_count lines ≤ max_lines)
-unfolding not_atable line_count
+lines_few : (lines : List ℕ) → not_a_table lines ≡ false → (0 < line_count lines) × (line_count lines ≤ max_lines)
+unfolding not_a_table line_count
 lines_few lines e =
     let a = or_none (not (eqb (length lines % 3) 0) || eqb (length lines) 0) (ltb (3 * max_lines) (length lines)) e in
     let b = or_none (not (eqb (length lines % 3) 0)) (eqb (length lines) 0) a.0 in
@@ -87,7 +87,7 @@ rows_passed c w lines v =
     let seventeen = row_passed _ _ five.1 in
     let eighteen = row_passed _ _ seventeen.1 in
     let nineteen = row_passed _ _ eighteen.1 in
-    let counts = lines_few lines (or_none (work_wrong c w) (not_atable lines) five.0).1 in
+    let counts = lines_few lines (or_none (work_wrong c w) (not_a_table lines) five.0).1 in
     record {
       some = counts.0;
       few = counts.1;
@@ -136,15 +136,15 @@ module _ (disks : ℕ) (lines : List ℕ) (p : Passed disks lines) (class : ℕ)
   kept_line : line_for (classes_of lines) class ≡ line
   unfolding line_for classes_of
   kept_line =
-      first_cong _ covers max_lines (λ i l. rw (get_d_list (low_at lines) max_lines i 0 l, get_d_list (high_at lines) max_lines i 0 l) refl)
+      first_cong _ covers max_lines (λ i l. rw (get_or_list (low_at lines) max_lines i 0 l, get_or_list (high_at lines) max_lines i 0 l) refl)
       ∙ first_unique covers max_lines line (omega (arith, line_below, p.few)) line_covers (first_before covers (line_count lines))
 
   line_serves : set_for (classes_of lines) class ≡ set_at lines line
   unfolding set_for classes_of
   line_serves =
       let first = (line_right disks _ _ (set_at lines 0) (p.right 0 p.some)).0 in
-      rw (get_d_list (set_at lines) max_lines 0 0 (omega arith), ne_eqb (set_at lines 0) 0 first, kept_line)
-      (get_d_list (set_at lines) max_lines line 0 (omega (arith, line_below, p.few)))
+      rw (get_or_list (set_at lines) max_lines 0 0 (omega arith), ne_eqb (set_at lines 0) 0 first, kept_line)
+      (get_or_list (set_at lines) max_lines line 0 (omega (arith, line_below, p.few)))
 
   class_line : ClassLine disks lines class
   class_line =

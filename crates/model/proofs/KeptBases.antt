@@ -16,7 +16,7 @@ use Rattle.model.specs.World.{World}
 use Rattle.model.specs.Memory.{owner_of}
 use Rattle.model.specs.Causes.{locked}
 use Rattle.model.specs.Transaction.{slot_words}
-use Rattle.model.proofs.Below.{all_each, each_all, get_d_list}
+use Rattle.model.proofs.Below.{all_each, each_all, get_or_list}
 use Rattle.model.proofs.Booleans.{both, both_ways}
 use Rattle.model.proofs.Geometry.{page_base_step}
 
@@ -91,7 +91,7 @@ pub bases_made : (c : Core) → c.bases ≡ bases_of c.sizes → bases_right c �
 unfolding bases_of base_of
 bases_made c e =
     bases_test c (ap (λ (b : Bases). b.total) e)
-    (λ page h. ap (λ (b : Bases). get_or b.pages page 0) e ∙ get_d_list (page_base c.sizes) 64 page 0 h)
+    (λ page h. ap (λ (b : Bases). get_or b.pages page 0) e ∙ get_or_list (page_base c.sizes) 64 page 0 h)
 
 -- and as every other call hands it on
 pub bases_carried : (c e : Core) → e.bases ≡ c.bases → e.sizes ≡ c.sizes → bases_right c ≡ true → bases_right e ≡ true

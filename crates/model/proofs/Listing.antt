@@ -16,7 +16,7 @@ use Rattle.model.specs.Anchor.{sizes_on}
 use Rattle.model.specs.Refusal.{Row, row, Verdict, accepted, rejected, verdict}
 use Rattle.model.specs.Transaction.{filled}
 use Rattle.model.specs.Restart.{image_rows}
-use Rattle.model.specs.Listing.{line_bytes, heading, Listed, line_of, listed_on, on_pages, listing, lent_wrong, list_rows, not_aline, line_after, not_lines, lines_from, over, lines_after}
+use Rattle.model.specs.Listing.{line_bytes, heading, Listed, line_of, listed_on, on_pages, listing, lent_wrong, list_rows, not_a_line, line_after, not_lines, lines_from, over, lines_after}
 use Rattle.model.specs.ListingLaws.{Clear, Listable, LineColumns, LineOfRecord, LinesStand, number_shown, ListedNumbers, LinesLong, LineTells, ListingTells, LineCount, LinesAt, Written}
 use Rattle.model.proofs.Members.{Every, every_nil, every_cons, first_of, others_of, every_drop, every_take, every_at}
 use Rattle.model.proofs.Booleans.{or_none}
@@ -189,13 +189,13 @@ list_accepted stage bytes_wrong anchor logs number e =
 pub line_as_long : (stage : Stage) (anchor logs : List ℕ) (number : ℕ) (before : List ℕ)
     → length (line_after stage anchor logs number before) ≡ length before
 unfolding line_after LinesLong
-line_as_long stage anchor logs number before = go (verdict (list_rows stage (not_aline (length before)) anchor logs number)) refl
+line_as_long stage anchor logs number before = go (verdict (list_rows stage (not_a_line (length before)) anchor logs number)) refl
   where
-    go : (v : Verdict) → verdict (list_rows stage (not_aline (length before)) anchor logs number) ≡ v
+    go : (v : Verdict) → verdict (list_rows stage (not_a_line (length before)) anchor logs number) ≡ v
         → length (filled v (get_or (listing anchor logs) number []) before) ≡ length before
     go (rejected n a b) e = refl
     go accepted e =
-        let h = list_accepted stage (not_aline (length before)) anchor logs number e in
+        let h = list_accepted stage (not_a_line (length before)) anchor logs number e in
         every_at number (listing anchor logs) [] (lines_long anchor logs h.0) h.2
         ∙ sym (eqb-true (length before) line_bytes (not-false _ h.1))
 

@@ -22,7 +22,7 @@ use Rattle.model.specs.Refusal.{Row, row, Verdict, accepted, rejected, verdict, 
 use Rattle.model.specs.Causes.{when_shut, retained_from}
 use Rattle.model.specs.Restart.{image_rows}
 use Rattle.model.specs.Transaction.{filled}
-use Rattle.model.specs.Listing.{Listed, line_bytes, listed_in, listed_on, listing, lent_wrong, list_rows, not_aline, not_lines, line_after, lines_after, lines_from}
+use Rattle.model.specs.Listing.{Listed, line_bytes, listed_in, listed_on, listing, lent_wrong, list_rows, not_a_line, not_lines, line_after, lines_after, lines_from}
 use Rattle.model.specs.Call.{Look, look, list_line, list_lines, look_rows, look_value, look_task, result_of}
 use Rattle.model.specs.Reference.{outcome_of, taken}
 use Rattle.model.specs.Machine.{result}
@@ -117,7 +117,7 @@ answers_line : (c : Core) (w : World) → c.stage ≡ Shut → Checked w.anchor 
 unfolding line_after
 answers_line c w shut image long number =
     let lines : ℕ = length (listing w.anchor w.logs) in
-    let answer = list_answers c w shut image long (list_line number line_bytes) (not_aline line_bytes) number refl refl in
+    let answer = list_answers c w shut image long (list_line number line_bytes) (not_a_line line_bytes) number refl refl in
     let rows = list_verdict w.anchor w.logs image long number in
     record {
       shown = λ h. answer ∙ rw (lt-leb lines number h) refl;
@@ -142,7 +142,7 @@ taken_filled (rejected n first second) took line before other = let z : ◌≡�
 pub one_listing : OneListing
 unfolding OneListing line_after
 one_listing c d v w number before other shut closed anchor logs same =
-    let both : Verdict = verdict (list_rows Shut (not_aline (length other)) w.anchor w.logs number) in
+    let both : Verdict = verdict (list_rows Shut (not_a_line (length other)) w.anchor w.logs number) in
     let one : (result_of (look (list_line number (length before))) c v).answer ≡ answer_by both 0 =
     answered_by (list_line number (length before)) c v ∙ rw (shut, anchor, logs, same) refl in
     let another : (result_of (look (list_line number (length other))) d w).answer ≡ answer_by both 0 =
@@ -170,7 +170,7 @@ each_accepted stage wrong anchor logs number other ok there =
 pub taken_listable : TakenListable
 unfolding TakenListable
 taken_listable c w number bytes took =
-    let h = list_accepted c.stage (not_aline bytes) w.anchor w.logs number (lines_taken c w (list_line number bytes) took) in
+    let h = list_accepted c.stage (not_a_line bytes) w.anchor w.logs number (lines_taken c w (list_line number bytes) took) in
     (h.0, h.2)
 
 -- what it answers and leaves

@@ -12,7 +12,7 @@ use lib.Seq.{sets, sets-eq, length-take-le, take-add, take_at, drop_at, take-set
 use borrow.Author.Tests.{leb-true, leb-false, ltb-true, ltb-false, le-leb, lt-leb, lt-ltb, le-ltb}
 use Rattle.model.specs.Below.{list_below}
 use Rattle.model.specs.Word.{part}
-use Rattle.model.proofs.Below.{length_list, get_d_list}
+use Rattle.model.proofs.Below.{length_list, get_or_list}
 use Rattle.model.proofs.Booleans.{true_false, both}
 use Rattle.model.proofs.Ledger.Entry.{spanning}
 
@@ -50,9 +50,9 @@ pub length_part : (at n : ℕ) (l : List ℕ) → at + n ≤ length l → length
 unfolding part
 length_part at n l h = simp (length-take, length-drop) (omega arith)
 
-pub get_d_part : (at n : ℕ) (l : List ℕ) (i : ℕ) → i < n → get_or (part at n l) i 0 ≡ get_or l (at + i) 0
+pub get_or_part : (at n : ℕ) (l : List ℕ) (i : ℕ) → i < n → get_or (part at n l) i 0 ≡ get_or l (at + i) 0
 unfolding part
-get_d_part at n l i h = rw (get_or-take, get_or-drop)
+get_or_part at n l i h = rw (get_or-take, get_or-drop)
 
 -- the first words of a list, one by one
 pub take_list : (n : ℕ) (l : List ℕ) → n ≤ length l → take n l ≡ list_below (λ i. get_or l i 0) n
@@ -60,39 +60,39 @@ take_list n l h =
     ext_get_or 0 (take n l) (list_below (λ i. get_or l i 0) n) (length-take-le n l h ∙ sym (length_list (λ i. get_or l i 0) n))
     (λ i f.
     let g : i < n = omega (arith, length-take-le n l h) in
-    rw (get_or-take, get_d_list (λ i. get_or l i 0) n i 0 g))
+    rw (get_or-take, get_or_list (λ i. get_or l i 0) n i 0 g))
 
 -- A run of words set: a word before it, behind it, outside it, and within it.
-pub get_d_sets_before : (l : List ℕ) (i : ℕ) (vs : List ℕ) (j : ℕ) → j < i → get_or (sets l i vs) j 0 ≡ get_or l j 0
-get_d_sets_before l i [] j h = refl
-get_d_sets_before l i (v ∷ vs) j h =
-    get_d_sets_before (set l i v) (suc i) vs j (omega arith) ∙ get_or-set_other l i j v 0 (omega arith)
+pub get_or_sets_before : (l : List ℕ) (i : ℕ) (vs : List ℕ) (j : ℕ) → j < i → get_or (sets l i vs) j 0 ≡ get_or l j 0
+get_or_sets_before l i [] j h = refl
+get_or_sets_before l i (v ∷ vs) j h =
+    get_or_sets_before (set l i v) (suc i) vs j (omega arith) ∙ get_or-set_other l i j v 0 (omega arith)
 
-pub get_d_sets_behind : (l : List ℕ) (i : ℕ) (vs : List ℕ) (j : ℕ) → i + length vs ≤ j → get_or (sets l i vs) j 0 ≡ get_or l j 0
-get_d_sets_behind l i [] j h = refl
-get_d_sets_behind l i (v ∷ vs) j h =
-    get_d_sets_behind (set l i v) (suc i) vs j (omega arith) ∙ get_or-set_other l i j v 0 (omega arith)
+pub get_or_sets_behind : (l : List ℕ) (i : ℕ) (vs : List ℕ) (j : ℕ) → i + length vs ≤ j → get_or (sets l i vs) j 0 ≡ get_or l j 0
+get_or_sets_behind l i [] j h = refl
+get_or_sets_behind l i (v ∷ vs) j h =
+    get_or_sets_behind (set l i v) (suc i) vs j (omega arith) ∙ get_or-set_other l i j v 0 (omega arith)
 
-pub get_d_sets_outside : (l : List ℕ) (i : ℕ) (vs : List ℕ) (j : ℕ) → spanning i (length vs) j ≡ false → get_or (sets l i vs) j 0 ≡ get_or l j 0
-get_d_sets_outside l i vs j e = go (spanning_false i (length vs) j e)
+pub get_or_sets_outside : (l : List ℕ) (i : ℕ) (vs : List ℕ) (j : ℕ) → spanning i (length vs) j ≡ false → get_or (sets l i vs) j 0 ≡ get_or l j 0
+get_or_sets_outside l i vs j e = go (spanning_false i (length vs) j e)
   where
     go : (j < i) ⊎ (i + length vs ≤ j) → get_or (sets l i vs) j 0 ≡ get_or l j 0
-    go (inl h) = get_d_sets_before l i vs j h
-    go (inr h) = get_d_sets_behind l i vs j h
+    go (inl h) = get_or_sets_before l i vs j h
+    go (inr h) = get_or_sets_behind l i vs j h
 
-pub get_d_sets_inside : (l : List ℕ) (i : ℕ) (vs : List ℕ) (k : ℕ) → i + length vs ≤ length l → k < length vs
+pub get_or_sets_inside : (l : List ℕ) (i : ℕ) (vs : List ℕ) (k : ℕ) → i + length vs ≤ length l → k < length vs
     → get_or (sets l i vs) (i + k) 0 ≡ get_or vs k 0
-get_d_sets_inside l i [] k h j = absurd (omega arith)
-get_d_sets_inside l i (x ∷ vs) zero h j =
-    rw add-zero (get_d_sets_before (set l i x) (suc i) vs i (omega arith) ∙ get_or-set_same l i x 0 (omega arith))
-get_d_sets_inside l i (x ∷ vs) (suc k) h j =
+get_or_sets_inside l i [] k h j = absurd (omega arith)
+get_or_sets_inside l i (x ∷ vs) zero h j =
+    rw add-zero (get_or_sets_before (set l i x) (suc i) vs i (omega arith) ∙ get_or-set_same l i x 0 (omega arith))
+get_or_sets_inside l i (x ∷ vs) (suc k) h j =
     let e : i + suc k ≡ suc i + k = omega arith in
-    rw e (get_d_sets_inside (set l i x) (suc i) vs k (rw length-set (omega arith)) (omega arith))
+    rw e (get_or_sets_inside (set l i x) (suc i) vs k (rw length-set (omega arith)) (omega arith))
 
-pub get_d_sets_in : (l : List ℕ) (i : ℕ) (vs : List ℕ) (j : ℕ) → i + length vs ≤ length l → i ≤ j → j < i + length vs
+pub get_or_sets_in : (l : List ℕ) (i : ℕ) (vs : List ℕ) (j : ℕ) → i + length vs ≤ length l → i ≤ j → j < i + length vs
     → get_or (sets l i vs) j 0 ≡ get_or vs (j - i) 0
-get_d_sets_in l i vs j fits h k =
-    ap (λ (x : ℕ). get_or (sets l i vs) x 0) (omega arith) ∙ get_d_sets_inside l i vs (j - i) fits (omega arith)
+get_or_sets_in l i vs j fits h k =
+    ap (λ (x : ℕ). get_or (sets l i vs) x 0) (omega arith) ∙ get_or_sets_inside l i vs (j - i) fits (omega arith)
 
 -- A part after a run of words is set: the run is behind it, before it, or its end.
 module _ (at n : ℕ) where
@@ -136,4 +136,4 @@ part_cong at n l m h k same =
     ext_get_or 0 (part at n l) (part at n m) (length_part at n l h ∙ sym (length_part at n m k))
     (λ i f.
     let g : i < n = omega (arith, length_part at n l h) in
-    rw (get_d_part at n l i g, get_d_part at n m i g) (same (at + i) (omega arith) (omega arith)))
+    rw (get_or_part at n l i g, get_or_part at n m i g) (same (at + i) (omega arith) (omega arith)))

@@ -10,7 +10,7 @@ use lib.Seq.{ext_get_or, get_or-set_same, get_or-set_other}
 use borrow.Author.Tests.{lt-ltb, le-ltb, ltb-true, ltb-false}
 use Rattle.model.specs.declared.Sizes.{Sizes}
 use Rattle.model.specs.Checkpoint.{eight_below, per_disk}
-use Rattle.model.proofs.Below.{length_list, get_d_list, list_cong}
+use Rattle.model.proofs.Below.{length_list, get_or_list, list_cong}
 use Rattle.model.proofs.Booleans.{cond_cong}
 
 -- whether a number is below n or n + 1 differs at n alone
@@ -27,15 +27,15 @@ module _ (f : ℕ → ℕ) where
   length_eight n = length_list (λ d. cond (ltb d n) (f d) 0) 8
 
   -- a disk below n has f's number, and every other 0
-  pub get_d_eight : (n i : ℕ) → i < 8 → get_or (eight_below n f) i 0 ≡ cond (ltb i n) (f i) 0
+  pub get_or_eight : (n i : ℕ) → i < 8 → get_or (eight_below n f) i 0 ≡ cond (ltb i n) (f i) 0
   unfolding eight_below
-  get_d_eight n i h = get_d_list (λ d. cond (ltb d n) (f d) 0) 8 i 0 h
+  get_or_eight n i h = get_or_list (λ d. cond (ltb d n) (f d) 0) 8 i 0 h
 
   -- Filled disk by disk: none yet, one more.
   pub eight_none : replicate 8 0 ≡ eight_below 0 f
   eight_none =
       ext_get_or 0 (replicate 8 0) (eight_below 0 f) (sym (length_eight 0))
-      (λ i h. get_or-replicate 8 i 0 0 h ∙ sym (get_d_eight 0 i h ∙ rw (le-ltb i 0 (omega arith))))
+      (λ i h. get_or-replicate 8 i 0 0 h ∙ sym (get_or_eight 0 i h ∙ rw (le-ltb i 0 (omega arith))))
 
   pub eight_more : (n v : ℕ) → n < 8 → v ≡ f n → set (eight_below n f) n v ≡ eight_below (n + 1) f
   eight_more n v h e =
@@ -45,9 +45,9 @@ module _ (f : ℕ → ℕ) where
     where
       go : (i : ℕ) → i < 8 → Dec (i ≡ n) → get_or (set (eight_below n f) n v) i 0 ≡ get_or (eight_below (n + 1) f) i 0
       go i l (yes same) =
-          rw (same, get_or-set_same (eight_below n f) n v 0 (omega (arith, length_eight n)), get_d_eight (n + 1) n h, lt-ltb n (n + 1) (omega arith)) e
+          rw (same, get_or-set_same (eight_below n f) n v 0 (omega (arith, length_eight n)), get_or_eight (n + 1) n h, lt-ltb n (n + 1) (omega arith)) e
       go i l (no ne) =
-          rw (get_or-set_other (eight_below n f) n i v 0 ne, get_d_eight n i l, get_d_eight (n + 1) i l, below_one_more n i ne)
+          rw (get_or-set_other (eight_below n f) n i v 0 ne, get_or_eight n i l, get_or_eight (n + 1) i l, below_one_more n i ne)
 
 -- Of sizes: the disks in use are the first.
 module _ (s : Sizes) where
@@ -55,9 +55,9 @@ module _ (s : Sizes) where
   unfolding per_disk
   length_per_disk f = length_eight f s.disks
 
-  pub get_d_per_disk : (f : ℕ → ℕ) (d : ℕ) → s.disks ≤ 8 → d < s.disks → get_or (per_disk s f) d 0 ≡ f d
+  pub get_or_per_disk : (f : ℕ → ℕ) (d : ℕ) → s.disks ≤ 8 → d < s.disks → get_or (per_disk s f) d 0 ≡ f d
   unfolding per_disk
-  get_d_per_disk f d h l = get_d_eight f s.disks d (omega arith) ∙ rw (lt-ltb d s.disks l)
+  get_or_per_disk f d h l = get_or_eight f s.disks d (omega arith) ∙ rw (lt-ltb d s.disks l)
 
   -- numbers that agree on the disks agree
   pub per_disk_cong : (f g : ℕ → ℕ) → ((d : ℕ) → d < s.disks → f d ≡ g d) → per_disk s f ≡ per_disk s g

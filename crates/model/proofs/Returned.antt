@@ -22,7 +22,7 @@ use Rattle.model.specs.Transaction.{begin_rows, update_rows, read_rows, commit_r
 use Rattle.model.specs.Abort.{abort_rows}
 use Rattle.model.specs.Checkpoint.{checkpoint_begin_rows, checkpoint_step_rows, checkpoint_end_rows}
 use Rattle.model.specs.Restart.{image_rows, restart_begin_rows, restart_step_rows, restart_end_rows}
-use Rattle.model.specs.Listing.{list_rows, lent_wrong, not_aline, not_lines}
+use Rattle.model.specs.Listing.{list_rows, lent_wrong, not_a_line, not_lines}
 use Rattle.model.specs.Classes.{class_count, line_count, wrong_line, uncovered_class, twice_covered}
 use Rattle.model.specs.SetClasses.{least_row, set_classes_rows}
 use Rattle.model.specs.Call.{Call, format, begin, update, look, read, list_line, list_lines, commit, abort, set_classes, checkpoint_begin, checkpoint_step, checkpoint_end, restart_begin, restart_step, restart_run, restart_end, new_state, rows_of, task_of, budget_of}
@@ -162,7 +162,7 @@ rows_return (begin class) c w = plain_rows (begin class) c w _ refl
 rows_return (update number page slot value budget) c w = plain_rows (update number page slot value budget) c w _ refl
 rows_return (look (read reader page slot)) c w = plain_rows (look (read reader page slot)) c w _ refl
 rows_return (look (list_line number bytes)) c w =
-    with_image (look (list_line number bytes)) c w (row 1 _) (row 8 _) (lent_wrong (not_aline bytes) w.logs) refl refl refl
+    with_image (look (list_line number bytes)) c w (row 1 _) (row 8 _) (lent_wrong (not_a_line bytes) w.logs) refl refl refl
 rows_return (look (list_lines first bytes)) c w =
     with_image (look (list_lines first bytes)) c w (row 1 _) (row 8 _) (lent_wrong (not_lines bytes) w.logs) refl refl refl
 rows_return (commit number budget) c w = plain_rows (commit number budget) c w _ refl

@@ -100,8 +100,8 @@ module _ (s : Sizes) (table : List (List ℕ)) (shaped : Shaped s table) where
       (take_at (get_or table j []) (words_in (drop (suc j) table)) (width_in s page) (shaped.widths page slot h k))
 
 -- A value put in the place of one as long, seen word by word.
-get_d_past : (a b : List ℕ) (w : ℕ) → length a ≤ w → get_or (a ++ b) w 0 ≡ get_or b (w - length a) 0
-get_d_past a b w h =
+get_or_past : (a b : List ℕ) (w : ℕ) → length a ≤ w → get_or (a ++ b) w 0 ≡ get_or b (w - length a) 0
+get_or_past a b w h =
     let same : w ≡ length a + (w - length a) = omega arith in
     ap (λ (k : ℕ). get_or (a ++ b) k 0) same ∙ get_or-append-add a b (w - length a) 0
 
@@ -117,13 +117,13 @@ put_word a old new rest w wide = go (leb (length a) w) refl (ltb w (length a + l
         get_or-append a (new ++ rest) 0 w h ∙ sym (get_or-append a (old ++ rest) 0 w h)
     go true e true f =
         let h : length a ≤ w = leb-true (length a) w e in
-        get_d_past a (new ++ rest) w h ∙ get_or-append new rest 0 (w - length a) (omega (arith, ltb-true w (length a + length new) f))
+        get_or_past a (new ++ rest) w h ∙ get_or-append new rest 0 (w - length a) (omega (arith, ltb-true w (length a + length new) f))
     go true e false f =
         let h : length a ≤ w = leb-true (length a) w e in
         let k : length a + length new ≤ w = ltb-false w (length a + length new) f in
-        get_d_past a (new ++ rest) w h ∙ get_d_past new rest (w - length a) (omega arith)
+        get_or_past a (new ++ rest) w h ∙ get_or_past new rest (w - length a) (omega arith)
         ∙ ap (λ (n : ℕ). get_or rest (w - length a - n) 0) wide
-        ∙ sym (get_d_past a (old ++ rest) w h ∙ get_d_past old rest (w - length a) (omega arith))
+        ∙ sym (get_or_past a (old ++ rest) w h ∙ get_or_past old rest (w - length a) (omega arith))
 
 -- a value as wide as the one it replaces leaves every width
 set_widths : (table : List (List ℕ)) (j : ℕ) (v : List ℕ) (k : ℕ) → j < length table → length v ≡ length (get_or table j [])
@@ -177,16 +177,16 @@ words_applied s (e ∷ es) table shaped fits w =
     ∙ ap (patched w (map (patch_of s) es)) (word_set s table e shaped fits.0 w)
 
 -- The table after format: the value that stands at a place of joined lists, and zeros throughout.
-get_d_join : {A : Type 0} (f : ℕ → List A) (d : A) (n i : ℕ) → i < n → (k : ℕ) → k < length (f i)
+get_or_join : {A : Type 0} (f : ℕ → List A) (d : A) (n i : ℕ) → i < n → (k : ℕ) → k < length (f i)
     → get_or (join_below f n) (sum_below (λ i. length (f i)) i + k) d ≡ get_or (f i) k d
 unfolding join_below
-get_d_join f d zero i h = absurd (not-suc-le-zero h)
-get_d_join f d (suc n) i h =
+get_or_join f d zero i h = absurd (not-suc-le-zero h)
+get_or_join f d (suc n) i h =
     below_suc (λ (i : ℕ). (k : ℕ) → k < length (f i) → get_or (join_below f n ++ f n) (sum_below (λ i. length (f i)) i + k) d ≡ get_or (f i) k d) n
     (λ i h k l.
     get_or-append (join_below f n) (f n) d (sum_below (λ i. length (f i)) i + k)
     (rw (length_join f n) (omega (arith, sum_term (λ i. length (f i)) n i h)))
-    ∙ get_d_join f d n i h k l)
+    ∙ get_or_join f d n i h k l)
     (λ k l. rw (← length_join f n) (get_or-append-add (join_below f n) (f n) k d)) i h
 
 blank_value : Sizes → ℕ → List (List ℕ)
@@ -205,7 +205,7 @@ blank_shaped s =
           λ page slot h k.
           ap (λ (i : ℕ). length (get_or (join_below (blank_value s) s.pages) (i + slot) [])) (sym (blank_sum s page))
           ∙ ap length
-          (get_d_join (blank_value s) [] s.pages page h slot (rw length-replicate k)
+          (get_or_join (blank_value s) [] s.pages page h slot (rw length-replicate k)
           ∙ get_or-replicate (slots_in s page) slot (replicate (width_in s page) 0) [] k)
           ∙ length-replicate (width_in s page) 0;
     }

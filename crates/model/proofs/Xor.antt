@@ -97,21 +97,21 @@ pub length_xors_same : (a b : List ℕ) → length a ≡ length b → length (xo
 length_xors_same a b e = omega (arith, length_xors a b)
 
 -- word i is the exclusive or of the two words i
-pub get_d_xors : (a b : List ℕ) (i : ℕ) → i < length a → i < length b → get_or (xors a b) i 0 ≡ get_or a i 0 ⊕ get_or b i 0
+pub get_or_xors : (a b : List ℕ) (i : ℕ) → i < length a → i < length b → get_or (xors a b) i 0 ≡ get_or a i 0 ⊕ get_or b i 0
 unfolding xors
-get_d_xors [] b i h l = absurd (omega arith)
-get_d_xors (x ∷ a) [] i h l = absurd (omega arith)
-get_d_xors (x ∷ a) (y ∷ b) zero h l = refl
-get_d_xors (x ∷ a) (y ∷ b) (suc i) h l = get_d_xors a b i (omega arith) (omega arith)
+get_or_xors [] b i h l = absurd (omega arith)
+get_or_xors (x ∷ a) [] i h l = absurd (omega arith)
+get_or_xors (x ∷ a) (y ∷ b) zero h l = refl
+get_or_xors (x ∷ a) (y ∷ b) (suc i) h l = get_or_xors a b i (omega arith) (omega arith)
 
 -- for lists of one length this holds at every index: past their end all three have 0
-pub get_d_xors_same : (a b : List ℕ) → length a ≡ length b → (i : ℕ) → get_or (xors a b) i 0 ≡ get_or a i 0 ⊕ get_or b i 0
+pub get_or_xors_same : (a b : List ℕ) → length a ≡ length b → (i : ℕ) → get_or (xors a b) i 0 ≡ get_or a i 0 ⊕ get_or b i 0
 unfolding xors
-get_d_xors_same [] [] e i = sym (⊕-zero-r 0)
-get_d_xors_same [] (y ∷ b) e i = absurd (omega arith)
-get_d_xors_same (x ∷ a) [] e i = absurd (omega arith)
-get_d_xors_same (x ∷ a) (y ∷ b) e zero = refl
-get_d_xors_same (x ∷ a) (y ∷ b) e (suc i) = get_d_xors_same a b (omega arith) i
+get_or_xors_same [] [] e i = sym (⊕-zero-r 0)
+get_or_xors_same [] (y ∷ b) e i = absurd (omega arith)
+get_or_xors_same (x ∷ a) [] e i = absurd (omega arith)
+get_or_xors_same (x ∷ a) (y ∷ b) e zero = refl
+get_or_xors_same (x ∷ a) (y ∷ b) e (suc i) = get_or_xors_same a b (omega arith) i
 
 pub xors_comm : (a b : List ℕ) → xors a b ≡ xors b a
 unfolding xors

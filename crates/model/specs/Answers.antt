@@ -12,7 +12,7 @@ use Rattle.model.specs.Below.{within}
 use Rattle.model.specs.Anchor.{sizes_on, start_on}
 use Rattle.model.specs.World.{World, stores}
 use Rattle.model.specs.State.{new_core, sound, is_open}
-use Rattle.model.specs.Classes.{not_atable, wrong_line, uncovered_class, twice_covered}
+use Rattle.model.specs.Classes.{not_a_table, wrong_line, uncovered_class, twice_covered}
 use Rattle.model.specs.Room.{load_of, eligible, Idlest}
 use Rattle.model.specs.Refusal.{Row, number_of, stores_of, first_of, second_of}
 use Rattle.model.specs.Reads.{counts_fit, slot_fits, home_fits, update_fits, abort_fits, fits_on}
@@ -20,7 +20,7 @@ use Rattle.model.specs.Causes.{when_shut, when_replaying, when_open, when_copyin
 use Rattle.model.specs.Transaction.{disk_of}
 use Rattle.model.specs.Abort.{abort_fault}
 use Rattle.model.specs.Restart.{step_fault}
-use Rattle.model.specs.Listing.{not_aline, not_lines}
+use Rattle.model.specs.Listing.{not_a_line, not_lines}
 use Rattle.model.specs.Call.{Call, format, begin, update, Look, look, read, list_line, list_lines, commit, abort, set_classes, checkpoint_begin, checkpoint_step, checkpoint_end, restart_begin, restart_step, restart_run, restart_end, new_state, rows_of, task_of, budget_of, result_of}
 use Rattle.model.specs.Reference.{Outcome, taken, refused, interrupted, outcome_of}
 use Rattle.model.specs.Machine.{Machine, result, outcome, is_refused}
@@ -96,7 +96,7 @@ is_format new_state = false
 -- of a table of classes
 abbrev pub beside_wrong_in : Look → Bool
 beside_wrong_in (read reader page slot) = false
-beside_wrong_in (list_line number bytes) = not_aline bytes
+beside_wrong_in (list_line number bytes) = not_a_line bytes
 beside_wrong_in (list_lines first bytes) = not_lines bytes
 
 abbrev pub beside_wrong : Call → Bool
@@ -106,7 +106,7 @@ beside_wrong (begin class) = false
 beside_wrong (update number page slot value budget) = false
 beside_wrong (commit number budget) = false
 beside_wrong (abort number budget) = false
-beside_wrong (set_classes lines) = not_atable lines
+beside_wrong (set_classes lines) = not_a_table lines
 beside_wrong checkpoint_begin = false
 beside_wrong (checkpoint_step budget) = false
 beside_wrong (checkpoint_end budget) = false

@@ -12,7 +12,7 @@ use Rattle.model.specs.Format.{format_rows, format_task}
 use Rattle.model.specs.Checkpoint.{checkpoint_begin_rows, checkpoint_begin_task, checkpoint_step_rows, checkpoint_step_task, checkpoint_end_rows, checkpoint_end_task}
 use Rattle.model.specs.Restart.{restart_begin_rows, restart_begin_task, restart_step_rows, restart_step_task, restart_run_task, restart_end_rows, restart_end_task}
 use Rattle.model.specs.SetClasses.{set_classes_rows, set_classes_task}
-use Rattle.model.specs.Listing.{list_rows, not_aline, not_lines, lines_from}
+use Rattle.model.specs.Listing.{list_rows, not_a_line, not_lines, lines_from}
 
 -- Calls that only look: they hand back the state that they got, change no word and store nothing.
 pub data Look : Type 0 where
@@ -43,7 +43,7 @@ pub data Call : Type 0 where
 
 abbrev pub look_rows : Look → Core → World → List Row
 look_rows (read reader page slot) c w = read_rows c w reader page slot
-look_rows (list_line number bytes) c w = list_rows c.stage (not_aline bytes) w.anchor w.logs number
+look_rows (list_line number bytes) c w = list_rows c.stage (not_a_line bytes) w.anchor w.logs number
 look_rows (list_lines first bytes) c w = list_rows c.stage (not_lines bytes) w.anchor w.logs first
 
 -- the value answered: of several lines, how many were written

@@ -20,7 +20,7 @@ use Rattle.model.specs.Append.{flush}
 unfoldable pub eight_below : ℕ → (ℕ → ℕ) → List ℕ
 eight_below n f = list_below (λ d. cond (ltb d n) (f d) 0) 8
 
--- a number for each of the eight disks, 0 from D on (get_d_per_disk in proofs/PerDisk.antt)
+-- a number for each of the eight disks, 0 from D on (get_or_per_disk in proofs/PerDisk.antt)
 unfoldable pub per_disk : Sizes → (ℕ → ℕ) → List ℕ
 per_disk s f = eight_below s.disks f
 

@@ -31,8 +31,8 @@ unfoldable pub line_count : (lines : List ℕ) → ℕ
 line_count lines = length lines / 3
 
 -- 5: "no lines or more than 16", or no whole number of lines
-unfoldable pub not_atable : (lines : List ℕ) → Bool
-not_atable lines = not (eqb (length lines % 3) 0) || eqb (length lines) 0 || ltb (3 * max_lines) (length lines)
+unfoldable pub not_a_table : (lines : List ℕ) → Bool
+not_a_table lines = not (eqb (length lines % 3) 0) || eqb (length lines) 0 || ltb (3 * max_lines) (length lines)
 
 -- 17: "a line with low above high, high above 255, an empty set or a disk not below D (first such line returned, from 0)"
 unfoldable pub line_wrong : (disks low high set : ℕ) → Bool

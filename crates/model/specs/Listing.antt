@@ -105,13 +105,13 @@ list_rows stage bytes_wrong anchor logs number =
     row 1 (forbids when_shut true stage) ∷ image_rows (lent_wrong bytes_wrong logs) anchor logs ++ row 8 (leb (length (listing anchor logs)) number) ∷ []
 
 -- "A call writes the line of a given number, from 0 and headings included, and a byte 10 into 73 lent bytes."
-abbrev pub not_aline : (bytes : ℕ) → Bool
-not_aline bytes = not (eqb bytes line_bytes)
+abbrev pub not_a_line : (bytes : ℕ) → Bool
+not_a_line bytes = not (eqb bytes line_bytes)
 
 -- what the lent bytes hold after it
 unfoldable pub line_after : Stage → (anchor logs : List ℕ) → (number : ℕ) → (before : List ℕ) → List ℕ
 line_after stage anchor logs number before =
-    filled (verdict (list_rows stage (not_aline (length before)) anchor logs number)) (get_or (listing anchor logs) number []) before
+    filled (verdict (list_rows stage (not_a_line (length before)) anchor logs number)) (get_or (listing anchor logs) number []) before
 
 -- The lines from a given number on, as many as there are and as the lent bytes have room for; not 02's, so that a whole listing is
 -- written in one call (LinesAreLines in specs/ListingPromise.antt). The bytes are a whole number of lines.

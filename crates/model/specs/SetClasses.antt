@@ -1,7 +1,7 @@
 -- 02, S-5: the call that sets a table of classes. "A refused table leaves the old one in force."
 use Rattle.std.specs.Prelude.{ℕ, List, [], ◌∷◌, Bool, not, ◌||◌, length, ltb, eqb}
 use Rattle.model.specs.declared.Core.{Core}
-use Rattle.model.specs.Classes.{class_count, line_count, not_atable, wrong_line, uncovered_class, twice_covered, classes_of}
+use Rattle.model.specs.Classes.{class_count, line_count, not_a_table, wrong_line, uncovered_class, twice_covered, classes_of}
 use Rattle.model.specs.World.{World}
 use Rattle.model.specs.Memory.{work_words}
 use Rattle.model.specs.State.{with_classes}
@@ -20,7 +20,7 @@ work_wrong c w = not (eqb (length w.work) (work_words c.sizes c.bases.total))
 -- "Checks: 5 ...; 17 ...; 18 ..., 19 ...; tried in that order after 1 (open and copying pass), when the table is set."
 unfoldable pub set_classes_rows : Core → World → (lines : List ℕ) → List Row
 set_classes_rows c w lines =
-    row 1 (stage_forbids when_serving (counts_fit c) c) ∷ row 5 (work_wrong c w || not_atable lines)
+    row 1 (stage_forbids when_serving (counts_fit c) c) ∷ row 5 (work_wrong c w || not_a_table lines)
     ∷ least_row 17 (wrong_line c.sizes.disks lines) (line_count lines)
     ∷ least_row 18 (uncovered_class lines) class_count ∷ least_row 19 (twice_covered lines) class_count ∷ []
 

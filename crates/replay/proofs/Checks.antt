@@ -14,7 +14,7 @@ use Rattle.model.specs.Refusal.{Row, row, rejected, verdict}
 use Rattle.model.specs.Causes.{anchor_wrong, unformatted, sizes_wrong, log_rows}
 use Rattle.model.specs.Checkpoint.{per_disk}
 use Rattle.model.specs.Restart.{image_rows}
-use Rattle.model.proofs.PerDisk.{get_d_per_disk}
+use Rattle.model.proofs.PerDisk.{get_or_per_disk}
 use Rattle.model.proofs.Checked.{rows_same}
 use Rattle.replay.specs.Parts.{anchor_refusal}
 
@@ -52,4 +52,4 @@ image_verdict others anchor logs rest refusal =
 pub rows_read : (s : Sizes) (anchor logs : List ℕ) → s.disks ≤ 8 → {starts : List ℕ} → starts ≡ per_disk s (start_on anchor)
     → log_rows s (λ d. get_or starts d 0) logs ≡ log_rows s (start_on anchor) logs
 rows_read s anchor logs few from =
-    rows_same s logs (start_on anchor) _ (λ d h. rw from (get_d_per_disk s (start_on anchor) d few h))
+    rows_same s logs (start_on anchor) _ (λ d h. rw from (get_or_per_disk s (start_on anchor) d few h))

@@ -18,7 +18,7 @@ use Rattle.model.specs.Causes.{tail_in, tail_wrong, wrong_tail, fault_from, log_
 use Rattle.model.specs.Checkpoint.{per_disk}
 use Rattle.model.proofs.Below.{first_unique, first_none, first_cong, first_before}
 use Rattle.model.proofs.Booleans.{or_none}
-use Rattle.model.proofs.PerDisk.{get_d_per_disk}
+use Rattle.model.proofs.PerDisk.{get_or_per_disk}
 use Rattle.replay.specs.Parts.{tail_out}
 
 module _ (ring start tail : ℕ) where
@@ -50,7 +50,7 @@ module _ (s : Sizes) (few : s.disks ≤ 8) (start : ℕ → ℕ) (logs : List �
   lowest =
       found
       ∙ first_cong (λ d. tail_out (ring_of s d) (start d) (get_or tails d 0)) (tail_wrong s start logs) s.disks
-      (λ d h. rw (to, get_d_per_disk s (tail_in s logs) d few h))
+      (λ d h. rw (to, get_or_per_disk s (tail_in s logs) d few h))
 
   pub logs_tail : disk < s.disks → verdict (log_rows s start logs) ≡ rejected 6 disk 0
   unfolding verdict

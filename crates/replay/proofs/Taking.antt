@@ -11,7 +11,7 @@ use Rattle.model.specs.Word.{part}
 use Rattle.model.specs.Decode.{span}
 use Rattle.model.specs.Image.{xor_at}
 use Rattle.model.proofs.Restart.Gain.{length_span}
-use Rattle.model.proofs.Restart.Image.{get_d_span}
+use Rattle.model.proofs.Restart.Image.{get_or_span}
 use Rattle.words.proofs.Laws.{xor_in_none, xor_in_more}
 
 -- i of the n words from position p on are done
@@ -23,7 +23,7 @@ module _ (read : ℕ → ℕ) (p n at : ℕ) (l : List ℕ) where
       → x ≡ read (p + i)
       → set before (at + i) (bit_xor (get_or before (at + i) 0) x) ≡ xor_at at (part 0 (i + 1) (span read p n)) l
   xor_more i x done h fits e =
-      rw (done, e, ← get_d_span read p n i h)
+      rw (done, e, ← get_or_span read p n i h)
       (rw zero-add at (xor_in_more l at (span read p n) 0 i (omega arith) (omega (arith, length_span read p n))))
 
   pub xor_all_lem : (i : ℕ) {after : List ℕ} → i ≡ n → after ≡ xor_at at (part 0 i (span read p n)) l → after ≡ xor_at at (span read p n) l

@@ -11,7 +11,7 @@ use Rattle.model.specs.declared.Core.{Core}
 use Rattle.model.specs.declared.Carried.{Carried}
 use Rattle.model.specs.declared.Handed.{Handed}
 use Rattle.model.specs.Sizes.{counts_in_bounds}
-use Rattle.model.specs.Classes.{class_count, line_count, not_atable, wrong_line, uncovered_class, twice_covered, classes_of}
+use Rattle.model.specs.Classes.{class_count, line_count, not_a_table, wrong_line, uncovered_class, twice_covered, classes_of}
 use Rattle.model.specs.World.{World}
 use Rattle.model.specs.Memory.{buffer_at, copy_at, owner_at, work_words}
 use Rattle.model.specs.Refusal.{Row, row, verdict, accepted, rejected}
@@ -50,15 +50,15 @@ pub record Settable (h : Carried) (work lines : List ℕ) : Type 0 where
   pub serving : when_shut h.stage ≡ false
   pub counts : Counted h.pages h.disks h.ring h.total
   pub own : own_work h work ≡ true
-  pub table : not_atable lines ≡ false
+  pub table : not_a_table lines ≡ false
 
 pub settable : (h : Carried) (work lines : List ℕ) → lent_fault h work lines ≡ 0 → Settable h work lines
 unfolding lent_fault
 settable h work lines none =
-    go (when_serving h.stage) (counts_within h.pages h.disks h.ring h.total) (own_work h work) (not_atable lines) refl refl refl refl none
+    go (when_serving h.stage) (counts_within h.pages h.disks h.ring h.total) (own_work h work) (not_a_table lines) refl refl refl refl none
   where
     go : (s f o t : Bool) → when_serving h.stage ≡ s → counts_within h.pages h.disks h.ring h.total ≡ f → own_work h work ≡ o
-        → not_atable lines ≡ t → ◌≡◌ {A = ℕ} (cond (s && f) (cond o (cond t 5 0) 5) 1) 0 → Settable h work lines
+        → not_a_table lines ≡ t → ◌≡◌ {A = ℕ} (cond (s && f) (cond o (cond t 5 0) 5) 1) 0 → Settable h work lines
     go true true true false s f o t e =
         record { serving = not_shut when_serving refl h.stage s; counts = counted f; own = o; table = t }
     go true true true true s f o t e = absurd (omega arith)
@@ -84,7 +84,7 @@ module _ (h : Carried) (w : World) (lines : List ℕ) {r : ℕ} (answer : r ≡ 
       go false e = rw (answer, e) refl
       go true e =
           rw (answer, e, own_tested (not_shut when_serving refl h.stage e))
-          (by_tests (counts_within h.pages h.disks h.ring h.total) (own_work h w.work) (not_atable lines) (line_rows h.disks lines))
+          (by_tests (counts_within h.pages h.disks h.ring h.total) (own_work h w.work) (not_a_table lines) (line_rows h.disks lines))
 
   -- they refuse
   pub set_refused : (r ≡ 0 → ⊥) → verdict (set_classes_rows c (body_of w) lines) ≡ rejected r 0 0

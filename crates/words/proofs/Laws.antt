@@ -14,7 +14,7 @@ use Rattle.model.specs.Word.{◌⊕◌, xors, ones_over, part}
 use Rattle.model.specs.Image.{xor_at}
 use Rattle.model.proofs.Xor.{length_xors_same}
 use Rattle.model.proofs.Below.{sum_append}
-use Rattle.model.proofs.Parts.{get_d_sets_behind}
+use Rattle.model.proofs.Parts.{get_or_sets_behind}
 use Rattle.model.proofs.Parts.{length_part}
 
 -- a run of stores, and one store behind it
@@ -100,7 +100,7 @@ unfolding xor_at ◌⊕◌
 xor_in_more l at source from i h k =
     let now : List ℕ = xors (part at i l) (part from i source) in
     let long : length now ≡ i = length_xor_part l source at from i (omega arith) (omega arith) in
-    let same : get_or (sets l at now) (at + i) 0 ≡ get_or l (at + i) 0 = get_d_sets_behind l at now (at + i) (omega arith) in
+    let same : get_or (sets l at now) (at + i) 0 ≡ get_or l (at + i) 0 = get_or_sets_behind l at now (at + i) (omega arith) in
     rw (length_part from i source (omega arith), length_part from (i + 1) source (omega arith), same, xor_part_more l source at from i h k)
     (sets_more l at now (get_or l (at + i) 0 ⊕ get_or source (from + i) 0) i long)
 

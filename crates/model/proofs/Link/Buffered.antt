@@ -23,7 +23,7 @@ use Rattle.model.proofs.Ledger.Entry.{Entry, record_of}
 use Rattle.model.proofs.Ledger.Order.{size_of, words_of, on}
 use Rattle.model.proofs.Ledger.Lists.{on_more, on_less, words_append, words_first, words_none}
 use Rattle.model.proofs.Link.Words.{Arrays, Link}
-use Rattle.model.proofs.Parts.{part_cong, get_d_sets_behind, part_sets_before, part_sets_behind, part_sets_end}
+use Rattle.model.proofs.Parts.{part_cong, get_or_sets_behind, part_sets_before, part_sets_behind, part_sets_end}
 use Rattle.model.proofs.Growth.{Small, fill_set, fill_set_other}
 
 -- Of the memories only the buffer of disk d is written; the anchor and the backups stay.
@@ -63,7 +63,7 @@ put_in_buffer s d w n words fits =
       anchor_same = refl;
       pages_same = refl;
       backups_same = refl;
-      work_behind = λ i h. get_d_sets_behind w.work (buffer_at d + n) words i (omega arith);
+      work_behind = λ i h. get_or_sets_behind w.work (buffer_at d + n) words i (omega arith);
     })
 
 -- The entry is behind the buffered ones.

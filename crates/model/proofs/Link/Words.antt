@@ -17,7 +17,7 @@ use Rattle.model.specs.Memory.{buffer_of}
 use Rattle.model.specs.State.{kept_of, tail_of, fill_of, after_flush, end_of}
 use Rattle.model.specs.Causes.{tail_on, retained_from}
 use Rattle.model.specs.Image.{log_of, words_from, image_from}
-use Rattle.model.proofs.Below.{get_d_list}
+use Rattle.model.proofs.Below.{get_or_list}
 use Rattle.model.proofs.Run.{perform_lengths}
 use Rattle.model.proofs.Lengths.{Lengths}
 use Rattle.model.proofs.Reader.{Holds, holds_from, holds_agree, read_ring_lem, span_holds}
@@ -132,5 +132,5 @@ module _ {s : Sizes} {l : Logs} {w : World} {F B : List Entry} (k : Link s l w F
       → log_of (image_from s c start backups w.logs) d ≡ entries_scan (on d F)
   unfolding log_of image_from
   image_log c start backups e fit laid =
-      rw (get_d_list start s.disks d 0 below, get_d_list (words_from s start w.logs) s.disks d [] below, retained start e, e)
+      rw (get_or_list start s.disks d 0 below, get_or_list (words_from s start w.logs) s.disks d [] below, retained start e, e)
       (scan_entries s _ _ (kept_of l d) (on d F) (fit_on s d F fit) laid (holds_from _ (kept_of l d) (words_of (on d F)) (λ q h m. refl)) refl)

@@ -25,7 +25,7 @@ use Rattle.model.proofs.Restart.Words.{length_xor_at, xor_at_word, with_pages, p
 use Rattle.model.proofs.Restart.Image.{backup_within}
 use Rattle.model.proofs.Restart.Progress.{log_left, backup_left, logs_left, Progress}
 use Rattle.model.proofs.Geometry.{page_end, page_base_step}
-use Rattle.model.proofs.Parts.{length_part, get_d_part, spanning_in, spanning_before, spanning_after}
+use Rattle.model.proofs.Parts.{length_part, get_or_part, spanning_in, spanning_before, spanning_after}
 
 regroup : (p v b g : ℕ) → (p ⊕ v) ⊕ (b ⊕ g) ≡ p ⊕ ((v ⊕ b) ⊕ g)
 regroup p v b g = simp xor
@@ -53,9 +53,9 @@ module _ (s : Sizes) (at page : ℕ) (backups : List ℕ) (h : page < s.pages) (
   page_word : (x : ℕ) → page_base s page ≤ x → x < page_base s page + page_words s page
       → get_or (part (at + page_base s page) (page_words s page) backups) (x - page_base s page) 0 ≡ get_or (part at (total s) backups) x 0
   page_word x l m =
-      get_d_part (at + page_base s page) (page_words s page) backups (x - page_base s page) (omega arith)
+      get_or_part (at + page_base s page) (page_words s page) backups (x - page_base s page) (omega arith)
       ∙ ap (λ (i : ℕ). get_or backups i 0) (omega arith)
-      ∙ sym (get_d_part at (total s) backups x (omega (arith, page_end s page h)))
+      ∙ sym (get_or_part at (total s) backups x (omega (arith, page_end s page h)))
 
   page_less : (x : ℕ)
       → mask (leb (page_base s page) x) (get_or (part at (total s) backups) x 0)
@@ -131,10 +131,10 @@ module _ (c : Core) (w : World) (m : Progress c w) (h : c.replay.page < c.sizes.
       rw image_backup
       (ext_get_or 0 _ _ (long ∙ sym (page_length_lem s at page w.backups h fits)) (λ i l.
       let inside : i < page_words s page = subst (λ (n : ℕ). i < n) long l in
-      get_d_part (page_base s page) (page_words s page) whole i inside
-      ∙ get_d_part at (total s) w.backups (page_base s page + i) (omega (arith, page_end s page h))
+      get_or_part (page_base s page) (page_words s page) whole i inside
+      ∙ get_or_part at (total s) w.backups (page_base s page + i) (omega (arith, page_end s page h))
       ∙ ap (λ (j : ℕ). get_or w.backups j 0) (omega arith)
-      ∙ sym (get_d_part (at + page_base s page) (page_words s page) w.backups i inside)))
+      ∙ sym (get_or_part (at + page_base s page) (page_words s page) w.backups i inside)))
 
   pub backup_step_lem : BackupStep c w c.replay.page
   unfolding restart_step_task backup_step diff

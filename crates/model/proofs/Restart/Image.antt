@@ -19,7 +19,7 @@ use Rattle.model.specs.World.{World, pages, work, Action, store, write, cost, ac
 use Rattle.model.specs.Memory.{lengths_right}
 use Rattle.model.specs.Causes.{tail_in, retained_from}
 use Rattle.model.specs.Image.{retained_words, image_of, log_of, words_from, image_from}
-use Rattle.model.proofs.Below.{list_cong, get_d_list}
+use Rattle.model.proofs.Below.{list_cong, get_or_list}
 use Rattle.model.proofs.Lengths.{lengths_right_lem}
 use Rattle.model.proofs.Scan.{scan_cong}
 use Rattle.model.proofs.Restart.Gain.{length_span}
@@ -51,11 +51,11 @@ length_backup w e =
     length_part (backup_at s (epoch_on w.anchor)) (total s) w.backups (omega (arith, backup_within s (epoch_on w.anchor)))
 
 -- The scan of a log of the image is the scan of the device's log from its start to the tail.
-pub get_d_span : (read : ℕ → ℕ) (p n i : ℕ) → i < n → get_or (span read p n) i 0 ≡ read (p + i)
+pub get_or_span : (read : ℕ → ℕ) (p n i : ℕ) → i < n → get_or (span read p n) i 0 ≡ read (p + i)
 unfolding span
-get_d_span read p zero i h = absurd (omega arith)
-get_d_span read p (suc n) zero h = ap read (sym (add-zero p))
-get_d_span read p (suc n) (suc i) h = get_d_span read (p + 1) n i (omega arith) ∙ ap read (omega arith)
+get_or_span read p zero i h = absurd (omega arith)
+get_or_span read p (suc n) zero h = ap read (sym (add-zero p))
+get_or_span read p (suc n) (suc i) h = get_or_span read (p + 1) n i (omega arith) ∙ ap read (omega arith)
 
 span_scan : (s : Sizes) (read : ℕ → ℕ) (start tail first : ℕ) (log : List ℕ) → start ≤ tail → first ≡ start
     → log ≡ span read start (tail - start)
@@ -64,14 +64,14 @@ span_scan s read start tail first log h e f =
     let long : start + (tail - start) ≡ tail = omega arith in
     rw (e, f, length_span read start (tail - start), long)
     (scan_cong s (λ p. get_or (span read start (tail - start)) (p - start) 0) read tail start
-    (λ q l m. get_d_span read start (tail - start) (q - start) (omega arith) ∙ ap read (omega arith)))
+    (λ q l m. get_or_span read start (tail - start) (q - start) (omega arith) ∙ ap read (omega arith)))
 
 pub image_log : (s : Sizes) (c : ℕ) (start : ℕ → ℕ) (backups logs : List ℕ) (d : ℕ) → d < s.disks → start d ≤ tail_in s logs d
     → log_of (image_from s c start backups logs) d ≡ retained_from s start logs d
 unfolding log_of image_from retained_from words_from
 image_log s c start disks words d h l =
-    span_scan s (read_log s words d (tail_in s words d) []) (start d) (tail_in s words d) _ _ l (get_d_list start s.disks d 0 h)
-    (get_d_list (words_from s start words) s.disks d [] h)
+    span_scan s (read_log s words d (tail_in s words d) []) (start d) (tail_in s words d) _ _ l (get_or_list start s.disks d 0 h)
+    (get_or_list (words_from s start words) s.disks d [] h)
 
 -- Worlds with the same sizes, epoch, current backup, starts and retained words have the same image.
 pub image_same : (v w : World) → sizes_on v.anchor ≡ sizes_on w.anchor → epoch_on v.anchor ≡ epoch_on w.anchor

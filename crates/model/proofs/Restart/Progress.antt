@@ -34,9 +34,9 @@ use Rattle.model.proofs.Restart.Gain.{gain, gains, restarted_word}
 use Rattle.model.proofs.Lengths.{Lengths, lengths_right_lem as lengths}
 use Rattle.model.proofs.Restart.Image.{disks_le, length_backup, image_log, SameDevices, memory_devices}
 use Rattle.model.proofs.Restart.Taken.{Taken, taken_call}
-use Rattle.model.proofs.Parts.{get_d_sets_in}
+use Rattle.model.proofs.Parts.{get_or_sets_in}
 use Rattle.model.proofs.Verdict.{row_passed, accepted_first}
-use Rattle.model.proofs.PerDisk.{get_d_per_disk, length_per_disk}
+use Rattle.model.proofs.PerDisk.{get_or_per_disk, length_per_disk}
 
 -- the rest of a disk's log: from the next position up to the tail
 unfoldable pub log_left : Core → World → ℕ → Scan
@@ -97,8 +97,8 @@ module _ (w : World) (k : Restartable w) where
       → log_left (restart_begin_task w).core (with_pages w l) d ≡ retained (sizes_on w.anchor) w d
   unfolding restart_begin_task tail_of position_of
   begun_retained d h l =
-      left_retained (restart_begin_task w).core (with_pages w l) d (get_d_per_disk (sizes_on w.anchor) (tail_on (sizes_on w.anchor) w) d eight h)
-      (get_d_per_disk (sizes_on w.anchor) (start_on w.anchor) d eight h)
+      left_retained (restart_begin_task w).core (with_pages w l) d (get_or_per_disk (sizes_on w.anchor) (tail_on (sizes_on w.anchor) w) d eight h)
+      (get_or_per_disk (sizes_on w.anchor) (start_on w.anchor) d eight h)
 
   begun_log : (d : ℕ) → d < (sizes_on w.anchor).disks → (l : List ℕ)
       → log_left (restart_begin_task w).core (with_pages w l) d ≡ log_of (image_of w) d
@@ -122,7 +122,7 @@ module _ (w : World) (k : Restartable w) where
       let n : ℕ = total (sizes_on w.anchor) in
       let long = length-replicate {A = ℕ} n 0 in
       let fits = (lengths (sizes_on w.anchor) (total (sizes_on w.anchor)) w k.lengths).pages in
-      get_d_sets_in w.pages 0 (replicate n 0) x (omega arith) (omega arith) (omega arith)
+      get_or_sets_in w.pages 0 (replicate n 0) x (omega arith) (omega arith) (omega arith)
       ∙ get_or-replicate n (x - 0) 0 0 (omega arith)
 
   begun_progress : Progress (restart_begin_task w).core (with_pages w (sets w.pages 0 (replicate (total (sizes_on w.anchor)) 0)))
@@ -139,13 +139,13 @@ module _ (w : World) (k : Restartable w) where
         bounds = k.image.bounds;
         lengths = record { pages = length-sets w.pages 0 zeros ∙ long.pages; backups = long.backups; logs = long.logs; work = long.work };
         backup = back;
-        starts = λ d h. get_d_per_disk s (start_on w.anchor) d eight h;
-        tails = λ d h. get_d_per_disk s (tail_on s w) d eight h;
+        starts = λ d h. get_or_per_disk s (start_on w.anchor) d eight h;
+        tails = λ d h. get_or_per_disk s (tail_on s w) d eight h;
         eight = length_per_disk s (tail_on s w);
         room = omega (arith, eight, length_per_disk s (start_on w.anchor));
         positions = λ d h.
-            let e = get_d_per_disk s (start_on w.anchor) d eight h in
-            let f = get_d_per_disk s (tail_on s w) d eight h in
+            let e = get_or_per_disk s (start_on w.anchor) d eight h in
+            let f = get_or_per_disk s (tail_on s w) d eight h in
             let g = k.image.whole.tails d h in
             (omega arith, omega arith);
         clean = λ d h. ap ending (begun_retained d h (sets w.pages 0 zeros)) ∙ k.image.whole.clean d h;

@@ -12,9 +12,9 @@ use Rattle.model.specs.World.{World, perform}
 use Rattle.model.specs.Abort.{xor_in}
 use Rattle.model.specs.Image.{xor_at}
 use Rattle.model.proofs.Ledger.Entry.{mask, spanning, share}
-use Rattle.model.proofs.Xor.{⊕-assoc, ⊕-zero-r, length_xors, get_d_xors_same, ⊕-left-comm}
+use Rattle.model.proofs.Xor.{⊕-assoc, ⊕-zero-r, length_xors, get_or_xors_same, ⊕-left-comm}
 use Rattle.model.proofs.Run.{perform_pages}
-use Rattle.model.proofs.Parts.{get_d_sets_before, get_d_sets_behind, length_part, get_d_part, get_d_sets_in, spanning_in, spanning_before, spanning_after}
+use Rattle.model.proofs.Parts.{get_or_sets_before, get_or_sets_behind, length_part, get_or_part, get_or_sets_in, spanning_in, spanning_before, spanning_after}
 
 -- A difference XORed in at a place adds its share to every word.
 pub length_xor_at : (at : ℕ) (diff words : List ℕ) → length (xor_at at diff words) ≡ length words
@@ -37,17 +37,17 @@ xor_at_word at diff words x fits = go (dec_lt x at) (dec_lt x (at + length diff)
         ≡ get_or words x 0 ⊕ mask (spanning at (length diff) x) (get_or diff (x - at) 0)
     go (yes before) d =
         rw (spanning_before at (length diff) x before)
-        (get_d_sets_before words at (xors (part at (length diff) words) diff) x before ∙ sym (⊕-zero-r (get_or words x 0)))
+        (get_or_sets_before words at (xors (part at (length diff) words) diff) x before ∙ sym (⊕-zero-r (get_or words x 0)))
     go (no before) (no after) =
         rw (spanning_after at (length diff) x (omega arith))
-        (get_d_sets_behind words at (xors (part at (length diff) words) diff) x (omega (arith, long)) ∙ sym (⊕-zero-r (get_or words x 0)))
+        (get_or_sets_behind words at (xors (part at (length diff) words) diff) x (omega (arith, long)) ∙ sym (⊕-zero-r (get_or words x 0)))
     go (no before) (yes after) =
         let back : at + (x - at) ≡ x = omega arith in
         rw (spanning_in at (length diff) x (omega arith) after)
-        (get_d_sets_in words at (xors (part at (length diff) words) diff) x (omega (arith, long)) (omega arith) (omega (arith, long))
-        ∙ get_d_xors_same (part at (length diff) words) diff same (x - at)
+        (get_or_sets_in words at (xors (part at (length diff) words) diff) x (omega (arith, long)) (omega arith) (omega (arith, long))
+        ∙ get_or_xors_same (part at (length diff) words) diff same (x - at)
         ∙ ap (λ (v : ℕ). v ⊕ get_or diff (x - at) 0)
-        (get_d_part at (length diff) words (x - at) (omega arith) ∙ ap (λ (i : ℕ). get_or words i 0) back))
+        (get_or_part at (length diff) words (x - at) (omega arith) ∙ ap (λ (i : ℕ). get_or words i 0) back))
 
 -- the world with other pages
 abbrev pub with_pages : World → List ℕ → World

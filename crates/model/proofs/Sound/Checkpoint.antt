@@ -15,7 +15,7 @@ use Rattle.model.specs.Causes.{when_open, when_copying, spent}
 use Rattle.model.specs.Checkpoint.{per_disk, checkpoint_begin_rows, checkpoint_begin_task, to_copy, lowest_to_copy, checkpoint_step_rows, checkpoint_step_task, new_start, checkpoint_end_rows, checkpoint_end_task}
 use Rattle.model.proofs.Below.{first_passes}
 use Rattle.model.proofs.Meaning.{Holds, new_start_lem}
-use Rattle.model.proofs.PerDisk.{get_d_per_disk, length_per_disk}
+use Rattle.model.proofs.PerDisk.{get_or_per_disk, length_per_disk}
 use Rattle.model.proofs.Store.Rows.{stage_row, open_serving, copying_serving, serving_sound_lem, sizes_sound, bases_sound, next_sound, disk_sound_lem, place_sound_lem, checkpoint_sound_lem}
 use Rattle.model.proofs.KeptBases.{bases_carried}
 use Rattle.model.proofs.Sound.Test.{Sized, Passing, serving_test, copying_test}
@@ -45,7 +45,7 @@ checkpoint_begin_passes c w sized s ok =
             epoch = leb-false _ _ epoch.0;
             copied = omega arith;
             ends = λ d h.
-                let at = get_d_per_disk c.sizes (end_of c.logs) d (disks_max c good) h in
+                let at = get_or_per_disk c.sizes (end_of c.logs) d (disks_max c good) h in
                 (omega (arith, (disk_sound_lem c d good h).ordered, tail_end c.logs d), omega arith);
           }),
     )
@@ -80,11 +80,11 @@ module _ (c : Core) (w : World) (copying : when_copying c.stage ≡ true) (s : s
   module _ (d : ℕ) (h : d < c.sizes.disks) where
     start_after : start_of after d ≡ new_start c d
     unfolding start_of
-    start_after = get_d_per_disk c.sizes (new_start c) d (disks_max c good) h
+    start_after = get_or_per_disk c.sizes (new_start c) d (disks_max c good) h
 
     tail_after : tail_of after d ≡ end_of c.logs d
     unfolding tail_of
-    tail_after = get_d_per_disk c.sizes (end_of c.logs) d (disks_max c good) h
+    tail_after = get_or_per_disk c.sizes (end_of c.logs) d (disks_max c good) h
 
     fill_after : fill_of after d ≡ 0
     unfolding fill_of

@@ -30,7 +30,7 @@ use Rattle.model.proofs.Store.Rows.{stage_row}
 use Rattle.model.proofs.Sound.Test.{Sized, Passing, serving_test, ReplaySound, replay_sound_lem, replaying_test}
 use Rattle.model.proofs.Verdict.{row_passed, verdict_append, accepted_first}
 use Rattle.model.proofs.Checked.{rows_restartable}
-use Rattle.model.proofs.PerDisk.{get_d_per_disk, length_per_disk}
+use Rattle.model.proofs.PerDisk.{get_or_per_disk, length_per_disk}
 use Rattle.model.proofs.Growth.{none_buffered, kept_start}
 
 -- An open state with no transaction and empty logs.
@@ -106,8 +106,8 @@ restart_begin_passes c w ok =
             bases = bases_made (restart_begin_task w).core refl;
             epoch = leb-false _ _ epoch.0;
             page = omega arith;
-            tails = λ d h. omega (arith, get_d_per_disk s (tail_on s w) d eight h, found.whole.tails d h);
-            positions = λ d h. omega (arith, get_d_per_disk s (tail_on s w) d eight h, get_d_per_disk s (start_on w.anchor) d eight h, found.whole.tails d h);
+            tails = λ d h. omega (arith, get_or_per_disk s (tail_on s w) d eight h, found.whole.tails d h);
+            positions = λ d h. omega (arith, get_or_per_disk s (tail_on s w) d eight h, get_or_per_disk s (start_on w.anchor) d eight h, found.whole.tails d h);
           }),
     )
 

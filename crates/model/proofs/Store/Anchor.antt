@@ -7,7 +7,7 @@ use lib.ListN.{length, get_or, set, length-set}
 use lib.Seq.{sets, length-sets, get_or-set_same, get_or-set_other}
 use Rattle.model.specs.Word.{part}
 use Rattle.model.specs.Anchor.{epoch_word, slots_at, widths_at, rows_at, epoch_on, sizes_on}
-use Rattle.model.proofs.Parts.{part_cong, get_d_sets_before, get_d_sets_inside}
+use Rattle.model.proofs.Parts.{part_cong, get_or_sets_before, get_or_sets_inside}
 use Rattle.model.proofs.Store.Puts.{first_word}
 
 -- The anchor as a format stores it: c := 0, the three numbers, both arrays, both rows, c := 1.
@@ -67,25 +67,25 @@ module _ (a front slots widths rows : List ℕ) (long : length a ≡ 148) (three
   laid_front : (i : ℕ) → i < 3 → get_or (laid_anchor a front slots widths rows) i 0 ≡ get_or front i 0
   unfolding laid_anchor
   laid_front i h =
-      get_or-set_other a5 3 i 1 0 (omega arith) ∙ get_d_sets_before a4 132 rows i (omega arith) ∙ get_d_sets_before a3 68 widths i (omega arith)
-      ∙ get_d_sets_before a2 4 slots i (omega arith) ∙ first_word a1 front i (omega (arith, l1)) (omega arith)
+      get_or-set_other a5 3 i 1 0 (omega arith) ∙ get_or_sets_before a4 132 rows i (omega arith) ∙ get_or_sets_before a3 68 widths i (omega arith)
+      ∙ get_or_sets_before a2 4 slots i (omega arith) ∙ first_word a1 front i (omega (arith, l1)) (omega arith)
 
   laid_slots : (i : ℕ) → i < 64 → get_or (laid_anchor a front slots widths rows) (4 + i) 0 ≡ get_or slots i 0
   unfolding laid_anchor
   laid_slots i h =
-      get_or-set_other a5 3 (4 + i) 1 0 (omega arith) ∙ get_d_sets_before a4 132 rows (4 + i) (omega arith)
-      ∙ get_d_sets_before a3 68 widths (4 + i) (omega arith) ∙ get_d_sets_inside a2 4 slots i (omega (arith, l2)) (omega arith)
+      get_or-set_other a5 3 (4 + i) 1 0 (omega arith) ∙ get_or_sets_before a4 132 rows (4 + i) (omega arith)
+      ∙ get_or_sets_before a3 68 widths (4 + i) (omega arith) ∙ get_or_sets_inside a2 4 slots i (omega (arith, l2)) (omega arith)
 
   laid_widths : (i : ℕ) → i < 64 → get_or (laid_anchor a front slots widths rows) (68 + i) 0 ≡ get_or widths i 0
   unfolding laid_anchor
   laid_widths i h =
-      get_or-set_other a5 3 (68 + i) 1 0 (omega arith) ∙ get_d_sets_before a4 132 rows (68 + i) (omega arith)
-      ∙ get_d_sets_inside a3 68 widths i (omega (arith, l3)) (omega arith)
+      get_or-set_other a5 3 (68 + i) 1 0 (omega arith) ∙ get_or_sets_before a4 132 rows (68 + i) (omega arith)
+      ∙ get_or_sets_inside a3 68 widths i (omega (arith, l3)) (omega arith)
 
   laid_rows : (i : ℕ) → i < 16 → get_or (laid_anchor a front slots widths rows) (132 + i) 0 ≡ get_or rows i 0
   unfolding laid_anchor
   laid_rows i h =
-      get_or-set_other a5 3 (132 + i) 1 0 (omega arith) ∙ get_d_sets_inside a4 132 rows i (omega (arith, l4)) (omega arith)
+      get_or-set_other a5 3 (132 + i) 1 0 (omega arith) ∙ get_or_sets_inside a4 132 rows i (omega (arith, l4)) (omega arith)
 
   pub laid_anchor_lem : Laid (laid_anchor a front slots widths rows) front slots widths rows
   unfolding epoch_on

@@ -38,7 +38,7 @@ use Rattle.model.proofs.Store.LogEnd.{end_told}
 use Rattle.model.proofs.Booleans.{true_false}
 use Rattle.model.proofs.Parts.{spanning_true, spanning_in}
 use Rattle.model.proofs.Verdict.{row_passed}
-use Rattle.model.proofs.PerDisk.{get_d_per_disk}
+use Rattle.model.proofs.PerDisk.{get_or_per_disk}
 
 -- ---- checkpoint begin
 
@@ -57,7 +57,7 @@ module _ {home : ℕ → ℕ} {puts : Told} {c : Core} {w : World} {r : Referenc
         capped = v.copies.capped;
         early = all_map (λ e h b. h (rw opened refl)) (F ++ B) v.copies.early;
         ends = λ e d h.
-            rw (get_d_per_disk c.sizes (end_of c.logs) d v.safe.devices.bounds.disks_max h, log_end v.safe.link d h)
+            rw (get_or_per_disk c.sizes (end_of c.logs) d v.safe.devices.bounds.disks_max h, log_end v.safe.link d h)
             (boundary_end (kept_of c.logs d) (on d F ++ on d B));
       }
 
@@ -81,7 +81,7 @@ module _ {home : ℕ → ℕ} {puts : Told} {c : Core} {w : World} {r : Referenc
         sets = sets_same refl refl v.sets;
         owners = owners_same v.safe.devices.bounds refl refl refl (λ i h. refl) v.owners;
         told = v.told;
-        marks = λ e d h. get_d_per_disk c.sizes (end_of c.logs) d v.safe.devices.bounds.disks_max h ∙ end_told v d h;
+        marks = λ e d h. get_or_per_disk c.sizes (end_of c.logs) d v.safe.devices.bounds.disks_max h ∙ end_told v d h;
       }
 
 pub checkpoint_begin_serves : {puts : Told} {c : Core} {w : World} {r : Reference} → Served puts c w r → verdict (checkpoint_begin_rows c w) ≡ accepted

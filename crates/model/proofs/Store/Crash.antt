@@ -37,7 +37,7 @@ use Rattle.model.proofs.Restart.Image.{length_backup}
 use Rattle.model.proofs.Restart.Entries.{gain_entries, sum_by_disk}
 use Rattle.model.proofs.Checked.{Whole, Restartable}
 use Rattle.model.proofs.Store.View.{Kept, view, Safe, SinceOn, anchor_kept, flushed_laid}
-use Rattle.model.proofs.Parts.{get_d_part}
+use Rattle.model.proofs.Parts.{get_or_part}
 
 -- entries are read to their end
 entries_end : (l : List Entry) → ending (entries_scan l) ≡ end
@@ -108,7 +108,7 @@ module _ {x : ℕ} {home : ℕ → ℕ} {c : Core} {w : World} {r : Reference} {
 
   backup_word : (i : ℕ) → i < total s → get_or (image_of w).backup i 0 ≡ get_or w.backups (backup_at s c.epoch + i) 0
   unfolding image_of image_from
-  backup_word i h = rw (g.devices.sizes, g.devices.epoch) (get_d_part (backup_at s c.epoch) (total s) w.backups i h)
+  backup_word i h = rw (g.devices.sizes, g.devices.epoch) (get_or_part (backup_at s c.epoch) (total s) w.backups i h)
 
   word : (i : ℕ) → i < total s → get_or (restarted (image_of w)) i 0 ≡ get_or (words_in r.committed) i 0
   unfolding view part_of

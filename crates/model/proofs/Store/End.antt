@@ -38,7 +38,7 @@ use Rattle.model.proofs.Store.Steady.{kept_aside}
 use Rattle.model.proofs.Store.Puts.{set_each, length_set_each, set_each_other, set_each_in, perform_each_start, run_before, lengths_made, fresh_is, fresh_copy, fresh_owner}
 use Rattle.model.proofs.Store.Anchor.{sizes_same}
 use Rattle.model.proofs.Store.Fresh.{Freshly, fresh_serving}
-use Rattle.model.proofs.Parts.{get_d_sets_inside}
+use Rattle.model.proofs.Parts.{get_or_sets_inside}
 use Rattle.model.proofs.Verdict.{row_passed}
 
 -- What the steps of a restart lead to: the state says what the anchor and the tails say, and the pages have the committed words.
@@ -157,7 +157,7 @@ module _ (c : Core) (w : World) (r : Reference) (m : AtEnd c w r) (found : EndFo
         short = found.short;
         backup =
             λ i h.
-            get_d_sets_inside w.backups (backup_at s n) w.pages i (omega (arith, backup_within s n, found.lengths.pages, found.lengths.backups))
+            get_or_sets_inside w.backups (backup_at s n) w.pages i (omega (arith, backup_within s n, found.lengths.pages, found.lengths.backups))
             (omega (arith, found.lengths.pages));
         pages = λ i h. ap (λ (l : List ℕ). get_or l i 0) m.pages;
         copies = λ p h. fresh_copy s n w.work found.lengths.work p (omega (arith, b.pages_max));

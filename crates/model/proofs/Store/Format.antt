@@ -31,7 +31,7 @@ use Rattle.model.proofs.Store.View.{Served}
 use Rattle.model.proofs.Store.Puts.{set_each, set_each_in, perform_each_log, lengths_made, same_word, fresh_is, fresh_copy, fresh_owner}
 use Rattle.model.proofs.Store.Anchor.{laid_anchor, Laid, laid_anchor_lem}
 use Rattle.model.proofs.Store.Fresh.{Freshly, fresh_serving}
-use Rattle.model.proofs.Parts.{length_part, get_d_part}
+use Rattle.model.proofs.Parts.{length_part, get_or_part}
 use Rattle.model.proofs.Verdict.{row_passed}
 
 -- what a format's actions do, for any words that they put
@@ -84,7 +84,7 @@ module _ (s : Sizes) (w : World) (b : Bounded s) (long : length w.anchor ≡ 148
   array at l e fits same =
       let n : length (part at 64 formatted.anchor) ≡ 64 = length_part at 64 formatted.anchor (omega (arith, words.long)) in
       ext_get_or 0 (part at 64 formatted.anchor) l (n ∙ sym e)
-      (λ i h. get_d_part at 64 formatted.anchor i (omega arith) ∙ same i (omega arith))
+      (λ i h. get_or_part at 64 formatted.anchor i (omega arith) ∙ same i (omega arith))
 
   format_sizes : sizes_on formatted.anchor ≡ s
   unfolding sizes_on

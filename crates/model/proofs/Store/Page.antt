@@ -26,7 +26,7 @@ use Rattle.model.proofs.Run.{perform_append, perform_backups}
 use Rattle.model.proofs.Lengths.{Lengths, lengths_right_lem}
 use Rattle.model.proofs.Geometry.{page_end}
 use Rattle.model.proofs.Ledger.Entry.{spanning}
-use Rattle.model.proofs.Parts.{get_d_sets_before, get_d_sets_behind, part_sets_before, length_part, get_d_sets_inside, spanning_true, spanning_false}
+use Rattle.model.proofs.Parts.{get_or_sets_before, get_or_sets_behind, part_sets_before, length_part, get_or_sets_inside, spanning_true, spanning_false}
 use Rattle.model.proofs.Restart.Image.{backup_within}
 use Rattle.model.proofs.Store.View.{Devices}
 use Rattle.model.proofs.Store.Rows.{stage_row}
@@ -123,13 +123,13 @@ module _ {c : Core} {w : World} (ok : verdict (checkpoint_step_rows c w) ≡ acc
       let k : i ≡ from + (i - from) = omega arith in
       let j : backup_at c.sizes (c.epoch + 1) + i ≡ at + (i - from) = omega arith in
       rw j (ap (λ (x : ℕ). get_or w.pages x 0) k ∙ sym (word (i - from) (omega arith))
-      ∙ sym (get_d_sets_inside w.backups at words (i - from) end_within_lem (omega (arith, size_words_lem))))
+      ∙ sym (get_or_sets_inside w.backups at words (i - from) end_within_lem (omega (arith, size_words_lem))))
   other_word i h false e = go (spanning_false from size i e)
     where
       go : (i < from) ⊎ (from + size ≤ i)
           → get_or w.backups (backup_at c.sizes (c.epoch + 1) + i) 0 ≡ get_or after.backups (backup_at c.sizes (c.epoch + 1) + i) 0
-      go (inl l) = sym (get_d_sets_before w.backups at words _ (omega arith))
-      go (inr l) = sym (get_d_sets_behind w.backups at words _ (omega (arith, size_words_lem)))
+      go (inl l) = sym (get_or_sets_before w.backups at words _ (omega arith))
+      go (inr l) = sym (get_or_sets_behind w.backups at words _ (omega (arith, size_words_lem)))
 
   pub current_word : (i : ℕ) → i < total c.sizes
       → get_or w.backups (backup_at c.sizes c.epoch + i) 0 ≡ get_or after.backups (backup_at c.sizes c.epoch + i) 0
@@ -138,8 +138,8 @@ module _ {c : Core} {w : World} (ok : verdict (checkpoint_step_rows c w) ≡ acc
       go : (backup_at c.sizes c.epoch + total c.sizes ≤ backup_at c.sizes (c.epoch + 1))
           ⊎ (backup_at c.sizes (c.epoch + 1) + total c.sizes ≤ backup_at c.sizes c.epoch)
           → get_or w.backups (backup_at c.sizes c.epoch + i) 0 ≡ get_or after.backups (backup_at c.sizes c.epoch + i) 0
-      go (inl l) = sym (get_d_sets_before w.backups at words _ (omega arith))
-      go (inr l) = sym (get_d_sets_behind w.backups at words _ (omega (arith, size_words_lem, fits)))
+      go (inl l) = sym (get_or_sets_before w.backups at words _ (omega arith))
+      go (inr l) = sym (get_or_sets_behind w.backups at words _ (omega (arith, size_words_lem, fits)))
 
   epoch_within : copy_at c.sizes page < length w.work
   unfolding work_words owner_at copy_at

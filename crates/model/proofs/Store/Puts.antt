@@ -18,7 +18,7 @@ use Rattle.model.specs.Format.{fresh_memory, fresh_work}
 use Rattle.model.proofs.Below.{below_suc}
 use Rattle.model.proofs.Run.{perform_append, perform_work, covered_append, covered_cut, covered_all}
 use Rattle.model.proofs.Lengths.{Lengths}
-use Rattle.model.proofs.Parts.{get_d_sets_behind, get_d_sets_inside}
+use Rattle.model.proofs.Parts.{get_or_sets_behind, get_or_sets_inside}
 
 -- the words of the disks below n, each set at its disk's place
 unfoldable pub set_each : (ℕ → ℕ) → (ℕ → ℕ) → ℕ → List ℕ → List ℕ
@@ -76,13 +76,13 @@ lengths_made s w h = rw (eq-eqb _ _ h.pages, eq-eqb _ _ h.backups, eq-eqb _ _ h.
 -- a run from the first word on
 pub first_word : (l xs : List ℕ) (k : ℕ) → length xs ≤ length l → k < length xs → get_or (sets l 0 xs) k 0 ≡ get_or xs k 0
 first_word l xs k fits h =
-    ap (λ (j : ℕ). get_or (sets l 0 xs) j 0) (omega arith) ∙ get_d_sets_inside l 0 xs k (omega arith) h
+    ap (λ (j : ℕ). get_or (sets l 0 xs) j 0) (omega arith) ∙ get_or_sets_inside l 0 xs k (omega arith) h
 
 -- a run of words all the same
 pub same_word : (l : List ℕ) (i n x k : ℕ) → i + n ≤ length l → k < n → get_or (sets l i (replicate n x)) (i + k) 0 ≡ x
 same_word l i n x k fits h =
     let long : length (replicate n x) ≡ n = length-replicate n x in
-    get_d_sets_inside l i (replicate n x) k (omega (arith, long)) (omega (arith, long)) ∙ get_or-replicate n k x 0 h
+    get_or_sets_inside l i (replicate n x) k (omega (arith, long)) (omega (arith, long)) ∙ get_or-replicate n k x 0 h
 
 -- the fresh memory: the owners, and before them the copy numbers
 pub fresh_is : (s : Sizes) (copy : ℕ) (l : List ℕ)
@@ -113,7 +113,7 @@ fresh_owner s copy l long i h =
     let owners : List ℕ = replicate (total s) 0 in
     let here : owner_at s i ≡ owner_at s 0 + i = omega arith in
     ap (λ (m : List ℕ). get_or m (owner_at s i) 0) (fresh_is s copy l)
-    ∙ get_d_sets_behind (sets l (owner_at s 0) owners) (copy_at s 0) (replicate 64 copy) (owner_at s i) (omega (arith, length-replicate {A = ℕ} 64 copy))
+    ∙ get_or_sets_behind (sets l (owner_at s 0) owners) (copy_at s 0) (replicate 64 copy) (owner_at s i) (omega (arith, length-replicate {A = ℕ} 64 copy))
     ∙ ap (λ (j : ℕ). get_or (sets l (owner_at s 0) owners) j 0) here
     ∙ same_word l (owner_at s 0) (total s) 0 i (omega arith) h
 

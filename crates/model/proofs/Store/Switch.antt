@@ -41,7 +41,7 @@ use Rattle.model.proofs.Store.ToldStarts.{new_start_told}
 use Rattle.model.proofs.Store.Later.{since_later}
 use Rattle.model.proofs.Store.Starts.{Moved, backup_back}
 use Rattle.model.proofs.Booleans.{true_false}
-use Rattle.model.proofs.PerDisk.{get_d_per_disk, length_per_disk}
+use Rattle.model.proofs.PerDisk.{get_or_per_disk, length_per_disk}
 
 -- the state that a checkpoint's end leaves
 abbrev pub switched_core : Core → Core
@@ -67,7 +67,7 @@ module _ {home : ℕ → ℕ} {puts : Told} {c : Core} {w : World} {r : Referenc
 
     start_now : (d : ℕ) → d < c.sizes.disks → start_of now.logs d ≡ new_start c d
     unfolding start_of
-    start_now d h = get_d_per_disk c.sizes (new_start c) d eight h
+    start_now d h = get_or_per_disk c.sizes (new_start c) d eight h
 
     kept_now : (d : ℕ) → d < c.sizes.disks → kept_of now.logs d ≡ new_start c d
     kept_now d h = kept_start now.logs d ∙ start_now d h
@@ -81,7 +81,7 @@ module _ {home : ℕ → ℕ} {puts : Told} {c : Core} {w : World} {r : Referenc
     unfolding tail_of end_of on pick
     tail_now d h =
         let empty : fill_of c.logs d ≡ 0 = g.safe.link.fill d h ∙ ap length words_none in
-        get_d_per_disk c.sizes (end_of c.logs) d eight h ∙ omega arith
+        get_or_per_disk c.sizes (end_of c.logs) d eight h ∙ omega arith
 
     suffix : (d : ℕ) → d < c.sizes.disks → Suffix (kept_of c.logs d) (new_start c d) (on d F) (on d (pick retains F))
     suffix d h = switch_suffix g.safe.ordered (new_start c) d h (cut d h)

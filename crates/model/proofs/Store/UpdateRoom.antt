@@ -21,7 +21,7 @@ use Rattle.model.specs.Transaction.{disk_of, slot_words}
 use Rattle.model.specs.Reference.{Reference, Write, writes_of, added, with_sets}
 use Rattle.model.specs.History.{Told}
 use Rattle.model.proofs.KeptBases.{slot_words_lem}
-use Rattle.model.proofs.Xor.{⊕-self-left, ⊕-zero-r, length_xors_same, get_d_xors_same}
+use Rattle.model.proofs.Xor.{⊕-self-left, ⊕-zero-r, length_xors_same, get_or_xors_same}
 use Rattle.model.proofs.Lengths.{Lengths, lengths_right_lem}
 use Rattle.model.proofs.Geometry.{page_of, slot_start, slot_start_lem, slot_apart, slot_end_total, page_in}
 use Rattle.model.proofs.Slots.{patch_of}
@@ -35,7 +35,7 @@ use Rattle.model.proofs.Ledger.Update.{MayUpdate, adds_in, adds_out, update_good
 use Rattle.model.proofs.Link.Words.{Fit}
 use Rattle.model.proofs.Link.Buffered.{InBuffer, owners_same, copies_same}
 use Rattle.model.proofs.Store.View.{view, Serving}
-use Rattle.model.proofs.Parts.{length_part, get_d_part, get_d_sets_in, spanning_true, get_d_sets_outside}
+use Rattle.model.proofs.Parts.{length_part, get_or_part, get_or_sets_in, spanning_true, get_or_sets_outside}
 
 -- What an accepted update may rely on: its transaction is open, its slot is there and not another's, its value as wide.
 pub record Allowed (c : Core) (w : World) (number page slot : ℕ) (value : List ℕ) : Type 0 where
@@ -142,9 +142,9 @@ module _ {home : ℕ → ℕ} {puts : Told} {c : Core} {w : World} {r : Referenc
     differs : get_or e.diff (i - at) 0 ≡ get_or w.pages i 0 ⊕ get_or value (i - at) 0
     differs =
         let back : at + (i - at) ≡ i = omega (arith, near) in
-        get_d_xors_same (slot_words c w page slot) value old_width (i - at)
+        get_or_xors_same (slot_words c w page slot) value old_width (i - at)
         ∙ ap (λ (x : ℕ). x ⊕ get_or value (i - at) 0)
-        (ap (λ (l : List ℕ). get_or l (i - at) 0) old_words ∙ get_d_part at (width_in s page) w.pages (i - at) (omega (arith, near)) ∙ ap (λ (k : ℕ). get_or w.pages k 0) back)
+        (ap (λ (l : List ℕ). get_or l (i - at) 0) old_words ∙ get_or_part at (width_in s page) w.pages (i - at) (omega (arith, near)) ∙ ap (λ (k : ℕ). get_or w.pages k 0) back)
 
   may_update : MayUpdate (total s) (view c w r F B) e value
   unfolding view
@@ -171,10 +171,10 @@ module _ {home : ℕ → ℕ} {puts : Told} {c : Core} {w : World} {r : Referenc
         go true h =
             ap (λ (x : ℕ). get_or w.pages i 0 ⊕ x) (adds_in i e is_change (rw diff_width h) ∙ differs i h)
             ∙ ⊕-self-left (get_or w.pages i 0) (get_or value (i - at) 0)
-            ∙ sym (get_d_sets_in w.pages at value i (omega (arith, inside, right.pages, may.width)) (near i h).0 (rw may.width (near i h).1))
+            ∙ sym (get_or_sets_in w.pages at value i (omega (arith, inside, right.pages, may.width)) (near i h).0 (rw may.width (near i h).1))
         go false h =
             ap (λ (x : ℕ). get_or w.pages i 0 ⊕ x) (adds_out i e (rw diff_width h)) ∙ ⊕-zero-r (get_or w.pages i 0)
-            ∙ sym (get_d_sets_outside w.pages at value i h)
+            ∙ sym (get_or_sets_outside w.pages at value i h)
 
     -- the memory with the slot's owner: an owner or a copy number other than that
     abbrev owned : List ℕ

@@ -9,7 +9,7 @@ use Rattle.model.specs.declared.Core.{Core}
 use Rattle.model.specs.declared.Carried.{Carried}
 use Rattle.model.specs.View.{head_words, own_work, core_of, head_lists, head_of}
 use Rattle.model.specs.Fields.{Field, slots, widths, bases, fills, sums, positions, page, numbers, disks, firsts, reserved, field_at, Put, put_words}
-use Rattle.model.proofs.View.Laid.{sum, get_d_cut, set_in, lengths_set, set_flat}
+use Rattle.model.proofs.View.Laid.{sum, get_or_cut, set_in, lengths_set, set_flat}
 use Rattle.model.proofs.View.Head.{head_lengths, HeadSized, own_long, own_view, lists_cut, view_sized, head_whole}
 
 -- the lists of the head, in their order
@@ -53,7 +53,7 @@ pub field_read : (h : Carried) (work : List ℕ) → own_work h work ≡ true �
 field_read h work e f i below =
     ap (λ (c : Core). get_or (field_of f c) i 0) (own_view h work e)
     ∙ ap (λ (ls : List (List ℕ)). get_or (get_or ls (order_of f) []) i 0) (lists_cut h work (own_long h work e))
-    ∙ get_d_cut 0 head_lengths work (order_of f) i below ∙ ap (λ (p : ℕ). get_or work (p + i) 0) (zero-add (sum (take (order_of f) head_lengths)) ∙ sym (field_place f))
+    ∙ get_or_cut 0 head_lengths work (order_of f) i below ∙ ap (λ (p : ℕ). get_or work (p + i) 0) (zero-add (sum (take (order_of f) head_lengths)) ∙ sym (field_place f))
 
 -- The lists after words are put into them.
 unfoldable pub put_lists : List Put → List (List ℕ) → List (List ℕ)

@@ -7,7 +7,7 @@ use native.Mathlib.Nat.{zero-add, suc-add, add-zero, add_assoc}
 use lib.ListN.{length, get_or, take, drop, set, length-append, length-set}
 use lib.Seq.{take-append_seam, drop-append_seam, set-append_left, take-add, drop-drop}
 use Rattle.model.specs.Word.{part}
-use Rattle.model.proofs.Parts.{get_d_part}
+use Rattle.model.proofs.Parts.{get_or_part}
 
 abbrev pub sum : List ℕ → ℕ
 sum [] = 0
@@ -43,13 +43,13 @@ flat_cut at (l ∷ ls) words rest e =
     rw (one, flat_cut (at + length l) ls words rest more) refl
 
 -- a word of one of the parts
-pub get_d_cut : (at : ℕ) (ns l : List ℕ) (k i : ℕ) → i < get_or ns k 0
+pub get_or_cut : (at : ℕ) (ns l : List ℕ) (k i : ℕ) → i < get_or ns k 0
     → get_or (get_or (cut_from at ns l) k []) i 0 ≡ get_or l (at + sum (take k ns) + i) 0
 unfolding cut_from
-get_d_cut at [] l k i h = absurd (omega arith)
-get_d_cut at (n ∷ ns) l zero i h = get_d_part at n l i h ∙ ap (λ (p : ℕ). get_or l (p + i) 0) (sym (add-zero at))
-get_d_cut at (n ∷ ns) l (suc k) i h =
-    get_d_cut (at + n) ns l k i h ∙ ap (λ (p : ℕ). get_or l (p + i) 0) (add_assoc at n (sum (take k ns)))
+get_or_cut at [] l k i h = absurd (omega arith)
+get_or_cut at (n ∷ ns) l zero i h = get_or_part at n l i h ∙ ap (λ (p : ℕ). get_or l (p + i) 0) (sym (add-zero at))
+get_or_cut at (n ∷ ns) l (suc k) i h =
+    get_or_cut (at + n) ns l k i h ∙ ap (λ (p : ℕ). get_or l (p + i) 0) (add_assoc at n (sum (take k ns)))
 
 -- a word set behind a list
 set_skip : (a b : List ℕ) (i x : ℕ) → set (a ++ b) (length a + i) x ≡ a ++ set b i x

@@ -1,10 +1,8 @@
 -- `text::put_number` meets its contract: the digits still to put stand in front of those that are there.
 use native.Mathlib.Omega.{arith}
-use borrow.Author.Rules.{rules}
 use mathlib.Core.Path.{◌≡◌, refl, sym, ◌∙◌}
-use Prim.Native.Nat.{◌-◌, ◌≤◌}
-use mathlib.Core.List.{◌++◌}
-use lib.ListN.{length, drop, length-set}
+use Prim.Native.Nat.{◌-◌}
+use lib.ListN.{length-set}
 use Rattle.model.specs.Text.{last_digits}
 use Rattle.text.proofs.Putting.{put_ends, digit_last, digit_more, digits_none}
 use Rattle.text.proofs.put_number.Goals as goal

@@ -1,12 +1,9 @@
 -- `text::put_number` meets its contract: the digits still to put stand in front of those that are there.
-use native.Mathlib.Omega.{arith}
-use borrow.Author.Rules.{rules}
-use mathlib.Core.Path.{◌≡◌, refl, sym, ◌∙◌}
+use mathlib.Core.Path.{◌≡◌}
 use Prim.Native.Nat.{◌-◌, ◌≤◌}
 use mathlib.Core.List.{◌++◌}
-use lib.ListN.{length, drop, length-set}
+use lib.ListN.{length, drop}
 use Rattle.model.specs.Text.{last_digits}
-use Rattle.text.proofs.Putting.{put_ends, digit_last, digit_more, digits_none}
 use Rattle.text.proofs.put_number.Given as goal
 
 abbrev pub invariant-loop-i : goal.invariant-loop-i

@@ -1,11 +1,8 @@
 -- `text::put_run` meets its contract: behind the place there is this byte only, up to the end.
-use native.Mathlib.Omega.{arith}
-use borrow.Author.Rules.{rules}
-use mathlib.Core.Path.{◌≡◌, refl}
+use mathlib.Core.Path.{◌≡◌}
 use Prim.Native.Nat.{◌-◌, ◌≤◌}
 use mathlib.Core.List.{◌++◌}
-use lib.ListN.{length, drop, replicate, length-set}
-use Rattle.text.proofs.Putting.{run_more}
+use lib.ListN.{length, drop, replicate}
 use Rattle.text.proofs.put_run.Given as goal
 
 abbrev pub invariant-loop-i : goal.invariant-loop-i

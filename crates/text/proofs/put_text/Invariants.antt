@@ -1,12 +1,8 @@
 -- `text::put_text` meets its contract: the bytes put so far are the last of the text.
-use native.Mathlib.Omega.{arith}
-use borrow.Author.Rules.{rules}
-use mathlib.Core.Path.{◌≡◌, refl}
-use Prim.Native.Nat.{◌+◌, ◌-◌, ◌≤◌}
+use mathlib.Core.Path.{◌≡◌}
+use Prim.Native.Nat.{◌+◌, ◌≤◌}
 use mathlib.Core.List.{◌++◌}
-use lib.ListN.{length, drop, length-set}
-use lib.Seq.{drop-length}
-use Rattle.text.proofs.Putting.{text_more}
+use lib.ListN.{length, drop}
 use Rattle.text.proofs.put_text.Given as goal
 
 abbrev pub invariant-loop-left : goal.invariant-loop-left

@@ -1,8 +1,7 @@
 -- `words::copy_words` meets its contract: after i turns the first i words are copied. Assumes nothing.
 use mathlib.Core.Path.{◌≡◌, refl}
-use Prim.Native.Nat.{◌-◌, ◌≤◌}
 use native.Mathlib.Omega.{arith}
-use lib.Seq.{sets, length-sets}
+use lib.Seq.{length-sets}
 use Rattle.model.specs.Word.{part}
 use Rattle.words.proofs.Laws.{copy_more}
 use Rattle.words.proofs.copy_words.Goals as goal

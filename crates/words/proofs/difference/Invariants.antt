@@ -1,14 +1,10 @@
 -- `words::difference` meets its contract: after i turns the first i words of the difference are written and their bits counted. Assumes
 -- nothing.
-use mathlib.Core.Path.{◌≡◌, refl, ap₂, ◌∙◌}
-use Prim.Native.Nat.{ℕ, ◌+◌, ◌-◌, ◌*◌, ◌≤◌}
-use native.Mathlib.Omega.{arith}
-use lib.Count.{ones}
-use lib.ListN.{length, length-set}
-use lib.Seq.{sets, get_or-set_same}
-use Rattle.model.specs.Below.{sum_over}
+use mathlib.Core.Path.{◌≡◌}
+use Prim.Native.Nat.{◌-◌, ◌*◌, ◌≤◌}
+use lib.ListN.{length}
+use lib.Seq.{sets}
 use Rattle.model.specs.Word.{xors, ones_over, part}
-use Rattle.words.proofs.Laws.{difference_more, ones_more, ones_fit, few_fit, few_more, difference_whole}
 use Rattle.words.proofs.difference.Given as goal
 
 abbrev pub invariant-loop-i : goal.invariant-loop-i

@@ -1,9 +1,7 @@
 -- `words::fill_words` meets its contract: after i turns the first i words are the value. Assumes nothing.
 use mathlib.Core.Path.{◌≡◌, refl}
-use Prim.Native.Nat.{◌-◌, ◌≤◌}
 use native.Mathlib.Omega.{arith}
-use lib.ListN.{replicate}
-use lib.Seq.{sets, length-sets}
+use lib.Seq.{length-sets}
 use Rattle.words.proofs.Laws.{fill_more}
 use Rattle.words.proofs.fill_words.Goals as goal
 

@@ -1,10 +1,8 @@
 -- `words::fill_words` meets its contract: after i turns the first i words are the value. Assumes nothing.
-use mathlib.Core.Path.{◌≡◌, refl}
+use mathlib.Core.Path.{◌≡◌}
 use Prim.Native.Nat.{◌-◌, ◌≤◌}
-use native.Mathlib.Omega.{arith}
 use lib.ListN.{replicate}
-use lib.Seq.{sets, length-sets}
-use Rattle.words.proofs.Laws.{fill_more}
+use lib.Seq.{sets}
 use Rattle.words.proofs.fill_words.Given as goal
 
 abbrev pub invariant-loop-i : goal.invariant-loop-i

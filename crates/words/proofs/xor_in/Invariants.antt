@@ -1,11 +1,8 @@
 -- `words::xor_in` meets its contract: after i turns the first i words are XORed in. Assumes nothing.
 use mathlib.Core.Path.{◌≡◌}
 use Prim.Native.Nat.{◌-◌, ◌≤◌}
-use native.Mathlib.Omega.{arith}
 use Rattle.model.specs.Word.{part}
 use Rattle.model.specs.Image.{xor_at}
-use Rattle.model.proofs.Restart.Words.{length_xor_at}
-use Rattle.words.proofs.Laws.{xor_in_none, xor_in_more}
 use Rattle.words.proofs.xor_in.Given as goal
 
 abbrev pub invariant-loop-i : goal.invariant-loop-i

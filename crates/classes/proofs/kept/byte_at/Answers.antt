@@ -1,7 +1,6 @@
 -- `classes::kept::byte_at` meets its contract: past the end a list reads 0. Assumes nothing.
 use mathlib.Core.Path.{sym}
 use native.Mathlib.Omega.{arith}
-use borrow.Author.Rules.{rules}
 use lib.ListN.{get_or-eq_default}
 use Rattle.classes.proofs.kept.byte_at.Goals as goal
 

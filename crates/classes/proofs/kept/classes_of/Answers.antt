@@ -1,5 +1,4 @@
 -- `classes::kept::classes_of` meets its contract: the three columns. Assumes nothing.
-use borrow.Author.Rules.{rules}
 use Rattle.classes.proofs.Tables.{classes_made}
 use Rattle.classes.proofs.kept.classes_of.Goals as goal
 

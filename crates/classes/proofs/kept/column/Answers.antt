@@ -1,12 +1,10 @@
 -- `classes::kept::column` meets its contract: the first i lines are read. Assumes nothing.
-use Prim.Native.Nat.{ℕ, ◌+◌, ◌*◌, ◌-◌, ◌≤◌, ◌<◌}
-use mathlib.Core.Path.{◌≡◌, sym, ◌∙◌}
+use mathlib.Core.Path.{sym, ◌∙◌}
 use native.Mathlib.Omega.{arith}
-use borrow.Author.Rules.{rules}
 use borrow.Author.Count.{below_more}
-use lib.ListN.{length, get_or, length-set}
+use lib.ListN.{length-set}
 use lib.Seq.{ext_get_or, get_or-set_same, get_or-set_other}
-use Rattle.model.proofs.Below.{length_list, get_d_list}
+use Rattle.model.proofs.Below.{length_list, get_or_list}
 use Rattle.classes.proofs.kept.column.Goals as goal
 
 pub byte_at-requires : goal.byte_at-requires
@@ -24,4 +22,4 @@ loop-i-preserved c =
 pub returns : goal.returns
 returns c =
     let l = c.loop-i in
-    ext_get_or 0 l.out _ (l.invariant.1 ∙ sym (length_list _ 16)) (λ k h. l.invariant.2 k (omega arith) ∙ sym (get_d_list _ 16 k 0 (omega arith)))
+    ext_get_or 0 l.out _ (l.invariant.1 ∙ sym (length_list _ 16)) (λ k h. l.invariant.2 k (omega arith) ∙ sym (get_or_list _ 16 k 0 (omega arith)))

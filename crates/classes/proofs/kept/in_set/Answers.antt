@@ -1,6 +1,5 @@
 -- `classes::kept::in_set` meets its contract: by definition. Assumes nothing.
 use mathlib.Core.Path.{refl}
-use borrow.Author.Rules.{rules}
 use Rattle.model.specs.Classes.{in_set}
 use Rattle.classes.proofs.kept.in_set.Goals as goal
 

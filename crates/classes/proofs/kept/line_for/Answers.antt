@@ -1,12 +1,8 @@
 -- `classes::kept::line_for` meets its contract: no line before i covers the class. Assumes nothing.
-use Prim.Native.Nat.{ℕ, ◌-◌, ◌≤◌, ◌<◌}
-use mathlib.Core.Path.{◌≡◌, sym, ◌∙◌}
-use mathlib.Core.Bool.{false}
+use mathlib.Core.Path.{sym, ◌∙◌}
 use native.Mathlib.Omega.{arith}
 use borrow.Author.Rules.{rules}
 use borrow.Author.Count.{below_none, below_more}
-use lib.ListN.{get_or}
-use Rattle.model.specs.Below.{within}
 use Rattle.model.proofs.Below.{first_unique, first_none}
 use Rattle.classes.proofs.kept.line_for.Goals as goal
 

@@ -1,13 +1,9 @@
 -- `classes::kept::line_for` meets its contract: no line before i covers the class. Assumes nothing.
 use Prim.Native.Nat.{ℕ, ◌-◌, ◌≤◌, ◌<◌}
-use mathlib.Core.Path.{◌≡◌, sym, ◌∙◌}
+use mathlib.Core.Path.{◌≡◌}
 use mathlib.Core.Bool.{false}
-use native.Mathlib.Omega.{arith}
-use borrow.Author.Rules.{rules}
-use borrow.Author.Count.{below_none, below_more}
 use lib.ListN.{get_or}
 use Rattle.model.specs.Below.{within}
-use Rattle.model.proofs.Below.{first_unique, first_none}
 use Rattle.classes.proofs.kept.line_for.Given as goal
 
 abbrev pub invariant-loop-i : goal.invariant-loop-i

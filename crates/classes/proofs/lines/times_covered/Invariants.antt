@@ -1,14 +1,10 @@
 -- `classes::lines::times_covered` meets its contract: the sum over the lines before i. Assumes nothing.
-use Prim.Native.Nat.{◌+◌, ◌/◌, ◌-◌, ◌≤◌}
-use mathlib.Core.Path.{◌≡◌, refl, ◌∙◌}
+use Prim.Native.Nat.{◌/◌, ◌-◌, ◌≤◌}
+use mathlib.Core.Path.{◌≡◌}
 use mathlib.Core.Bool.{cond}
-use mathlib.Core.Logic.{⊎_elim}
-use native.Mathlib.Omega.{arith}
-use borrow.Author.Rules.{rules}
 use lib.ListN.{length}
 use Rattle.model.specs.Below.{within, sum_below}
-use Rattle.model.specs.Classes.{low_at, high_at, line_count, times_covered}
-use Rattle.classes.proofs.Tables.{covered_more}
+use Rattle.model.specs.Classes.{low_at, high_at}
 use Rattle.classes.proofs.lines.times_covered.Given as goal
 
 abbrev pub invariant-loop-i : goal.invariant-loop-i

@@ -1,14 +1,9 @@
 -- `classes::lines::twice_covered` meets its contract: no class before this one is covered twice. Assumes nothing.
 use Prim.Native.Nat.{ℕ, ◌-◌, ◌≤◌, ◌<◌}
-use mathlib.Core.Path.{◌≡◌, sym}
+use mathlib.Core.Path.{◌≡◌}
 use mathlib.Core.Bool.{false}
-use native.Mathlib.Omega.{arith}
 use lib.Dec.{ltb}
-use borrow.Author.Rules.{rules}
-use borrow.Author.Tests.{lt-ltb, le-ltb}
-use borrow.Author.Count.{below_none, below_more}
-use Rattle.model.specs.Classes.{times_covered, twice_covered}
-use Rattle.model.proofs.Below.{first_unique, first_none}
+use Rattle.model.specs.Classes.{times_covered}
 use Rattle.classes.proofs.lines.twice_covered.Given as goal
 
 abbrev pub invariant-loop-class : goal.invariant-loop-class

@@ -1,12 +1,9 @@
 -- `classes::lines::wrong_line` meets its contract: no line before i is wrong. Assumes nothing.
-use Prim.Native.Nat.{ℕ, ◌/◌, ◌-◌, ◌≤◌, ◌<◌}
-use mathlib.Core.Path.{◌≡◌, sym, ◌∙◌}
-use mathlib.Core.Bool.{false}
+use mathlib.Core.Path.{sym, ◌∙◌}
 use native.Mathlib.Omega.{arith}
 use borrow.Author.Rules.{rules}
 use borrow.Author.Count.{below_none, below_more}
-use lib.ListN.{length}
-use Rattle.model.specs.Classes.{low_at, high_at, set_at, line_count, line_wrong, wrong_line}
+use Rattle.model.specs.Classes.{low_at, high_at, set_at, line_count, wrong_line}
 use Rattle.model.proofs.Below.{first_unique, first_none}
 use Rattle.classes.proofs.lines.wrong_line.Goals as goal
 

@@ -1,5 +1,4 @@
 -- `lines::command::abort_of` meets its contract, by the count of numbers.
-use borrow.Author.Rules.{rules}
 use borrow.Author.Tests.{eq-eqb, ne_eqb}
 use Rattle.lines.specs.Line.{abort_of}
 use Rattle.lines.proofs.command.abort_of.Goals as goal

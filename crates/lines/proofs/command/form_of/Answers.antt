@@ -1,5 +1,4 @@
 -- `lines::command::form_of` meets its contract, by the names compared before.
-use borrow.Author.Rules.{rules}
 use Rattle.lines.specs.Line.{form_of}
 use Rattle.lines.proofs.command.form_of.Goals as goal
 

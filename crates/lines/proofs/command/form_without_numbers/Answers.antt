@@ -1,5 +1,4 @@
 -- `lines::command::form_without_numbers` meets its contract, by the names compared before.
-use borrow.Author.Rules.{rules}
 use Rattle.lines.specs.Line.{form_without_numbers}
 use Rattle.lines.proofs.command.form_without_numbers.Goals as goal
 

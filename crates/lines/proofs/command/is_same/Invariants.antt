@@ -1,11 +1,8 @@
 -- `lines::command::is_same` meets its contract: from each index on, the bytes are the same if all are.
-use native.Mathlib.Omega.{arith}
-use borrow.Author.Rules.{rules}
-use mathlib.Core.Path.{◌≡◌, refl, sym, ◌∙◌}
+use mathlib.Core.Path.{◌≡◌}
 use Prim.Native.Nat.{◌-◌, ◌≤◌}
 use lib.ListN.{length, drop}
 use Rattle.lines.specs.Line.{same}
-use Rattle.lines.proofs.Names.{same_lengths, same_step, same_end, same_differ, same_agree}
 use Rattle.lines.proofs.command.is_same.Given as goal
 
 abbrev pub invariant-loop-i : goal.invariant-loop-i

@@ -1,6 +1,5 @@
 -- `lines::output::put_field` meets its contract: the byte, and the number in front of it.
 use native.Mathlib.Omega.{arith}
-use borrow.Author.Rules.{rules}
 use mathlib.Core.Path.{◌∙◌}
 use lib.ListN.{length-set}
 use Rattle.text.proofs.Putting.{byte_before}

@@ -1,6 +1,5 @@
 -- `lines::output::put_line` meets its contract.
 use native.Mathlib.Omega.{arith}
-use borrow.Author.Rules.{rules}
 use mathlib.Core.Path.{◌∙◌}
 use lib.Seq.{drop-length}
 use Rattle.lines.proofs.output.put_line.Goals as goal

@@ -1,6 +1,5 @@
 -- `lines::output::put_other` meets its contract.
 use native.Mathlib.Omega.{arith}
-use borrow.Author.Rules.{rules}
 use mathlib.Core.Path.{◌∙◌}
 use lib.Seq.{drop-length}
 use Rattle.lines.proofs.output.put_other.Goals as goal

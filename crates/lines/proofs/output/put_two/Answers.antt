@@ -1,6 +1,5 @@
 -- `lines::output::put_two` meets its contract: the second number first.
 use native.Mathlib.Omega.{arith}
-use borrow.Author.Rules.{rules}
 use mathlib.Core.Path.{◌∙◌}
 use Rattle.lines.proofs.output.put_two.Goals as goal
 

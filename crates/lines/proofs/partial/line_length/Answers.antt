@@ -1,10 +1,6 @@
 -- `lines::partial::line_length` meets its contract: no byte passed ends the line.
 use native.Mathlib.Omega.{arith}
-use borrow.Author.Rules.{rules}
-use mathlib.Core.Path.{◌≡◌, ◌∙◌}
-use Prim.Native.Nat.{◌+◌, ◌-◌, ◌≤◌}
-use lib.ListN.{length, drop}
-use Rattle.lines.specs.Line.{line_length}
+use mathlib.Core.Path.{◌∙◌}
 use Rattle.lines.proofs.Pieces.{line_here, line_on, line_out}
 use Rattle.lines.proofs.partial.line_length.Goals as goal
 

@@ -1,6 +1,5 @@
 -- `lines::partial::number_byte` meets its contract: the digit is taken, or the field is no number.
 use native.Mathlib.Omega.{arith}
-use borrow.Author.Rules.{rules}
 use Rattle.lines.proofs.Steps.{stays_past_hope, byte_low, byte_high, byte_too_large, byte_digit}
 use Rattle.lines.proofs.partial.number_byte.Goals as goal
 

@@ -1,12 +1,10 @@
 -- `lines::partial::read_piece` meets its contract: after i bytes the rest of the piece, and what follows it, is to come.
 use native.Mathlib.Omega.{arith}
-use borrow.Author.Rules.{rules}
-use mathlib.Core.Path.{◌≡◌, refl, sym, ◌∙◌}
-use mathlib.Core.List.{List, ◌++◌}
-use Prim.Native.Nat.{ℕ, ◌+◌, ◌-◌, ◌≤◌}
+use mathlib.Core.Path.{◌≡◌, refl, ◌∙◌}
+use mathlib.Core.List.{◌++◌}
+use Prim.Native.Nat.{◌+◌}
 use lib.ListN.{length, drop}
 use lib.Seq.{drop-length}
-use Rattle.lines.specs.After.{command_after}
 use Rattle.lines.proofs.Pieces.{byte_of}
 use Rattle.lines.proofs.partial.read_piece.Goals as goal
 

@@ -1,5 +1,4 @@
 -- `lines::partial::step` meets its contract, by the function of the place where the byte stands.
-use borrow.Author.Rules.{rules}
 use mathlib.Core.Path.{sym, ◌∙◌}
 use Rattle.lines.proofs.Reading.{past_hope, past_name}
 use Rattle.lines.proofs.partial.step.Goals as goal

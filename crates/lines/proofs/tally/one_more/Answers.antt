@@ -1,5 +1,4 @@
 -- `lines::tally::one_more` meets its contract.
-use borrow.Author.Rules.{rules}
 use borrow.Author.Tests.{lt-ltb, le-ltb}
 use Rattle.lines.specs.Counting.{one_more}
 use Rattle.lines.proofs.tally.one_more.Goals as goal

@@ -1,5 +1,4 @@
 -- `lines::tally::with_line` meets its contract, by the answer.
-use borrow.Author.Rules.{rules}
 use borrow.Author.Tests.{eq-eqb, ne_eqb}
 use Rattle.lines.specs.Counting.{counted}
 use Rattle.lines.proofs.tally.with_line.Goals as goal

@@ -3,7 +3,7 @@ use mathlib.Core.Path.{refl}
 use borrow.Author.Rules.{rules}
 use lib.ListN.{length}
 use Rattle.model.specs.World.{world_of}
-use Rattle.model.specs.Listing.{not_aline}
+use Rattle.model.specs.Listing.{not_a_line}
 use Rattle.model.specs.Call.{list_line}
 use Rattle.model.specs.View.{core_of, body_of}
 use Rattle.model.proofs.View.Listed.{list_serves}
@@ -18,6 +18,6 @@ returns c =
     record {
       by_index = λ pages backups work.
           list_serves (list_line a.number (length a.out.now)) a.state.carried (world_of a.anchor.now pages backups a.logs.now work)
-          (not_aline (length a.out.now)) a.number _ refl gave.value;
+          (not_a_line (length a.out.now)) a.number _ refl gave.value;
       out_value = gave.out_after;
     }

@@ -1,6 +1,5 @@
 -- `class_amiss` is safe and ends.
 use Prim.Native.Nat.{◌-◌}
-use borrow.Author.Rules.{rules}
 use Rattle.trial_table.proofs.classes.class_amiss.Given as goal
 
 abbrev pub invariant-loop-class : goal.invariant-loop-class

@@ -1,7 +1,6 @@
 -- `keep_sets` is safe and ends.
 use lib.ListN.{length}
 use mathlib.Core.Path.{◌≡◌}
-use borrow.Author.Rules.{rules}
 use Rattle.trial_table.proofs.classes.keep_sets.Given as goal
 
 abbrev pub invariant-loop-class : goal.invariant-loop-class

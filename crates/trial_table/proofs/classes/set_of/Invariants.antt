@@ -1,5 +1,4 @@
 -- `set_of` is safe and ends.
-use borrow.Author.Rules.{rules}
 use Rattle.trial_table.proofs.classes.set_of.Given as goal
 
 abbrev pub invariant-loop-left : goal.invariant-loop-left

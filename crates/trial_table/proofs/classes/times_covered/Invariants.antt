@@ -1,5 +1,4 @@
 -- `times_covered` is safe and ends.
-use borrow.Author.Rules.{rules}
 use Rattle.trial_table.proofs.classes.times_covered.Given as goal
 
 abbrev pub invariant-loop-left : goal.invariant-loop-left

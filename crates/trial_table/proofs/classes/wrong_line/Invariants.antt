@@ -1,6 +1,5 @@
 -- `wrong_line` is safe and ends.
 use Prim.Native.Nat.{◌-◌}
-use borrow.Author.Rules.{rules}
 use Rattle.trial_table.proofs.classes.wrong_line.Given as goal
 
 abbrev pub invariant-loop-line : goal.invariant-loop-line

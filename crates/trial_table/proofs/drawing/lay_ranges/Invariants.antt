@@ -1,7 +1,6 @@
 -- `lay_ranges` is safe and ends.
 use lib.ListN.{length}
 use mathlib.Core.Path.{◌≡◌}
-use borrow.Author.Rules.{rules}
 use Rattle.trial_table.proofs.drawing.lay_ranges.Given as goal
 
 abbrev pub invariant-loop-left : goal.invariant-loop-left

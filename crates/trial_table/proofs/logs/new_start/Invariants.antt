@@ -1,5 +1,4 @@
 -- `new_start` is safe and ends.
-use borrow.Author.Rules.{rules}
 use Rattle.trial_table.proofs.logs.new_start.Given as goal
 
 abbrev pub invariant-loop-left : goal.invariant-loop-left

@@ -1,5 +1,4 @@
 -- `abort_ones` is safe and ends.
-use borrow.Author.Rules.{rules}
 use Rattle.trial_table.proofs.ones.abort_ones.Given as goal
 
 abbrev pub invariant-loop-left : goal.invariant-loop-left

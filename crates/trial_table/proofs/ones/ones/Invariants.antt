@@ -1,5 +1,4 @@
 -- `ones` is safe and ends.
-use borrow.Author.Rules.{rules}
 use Rattle.trial_table.proofs.ones.ones.Given as goal
 
 abbrev pub invariant-loop-left : goal.invariant-loop-left

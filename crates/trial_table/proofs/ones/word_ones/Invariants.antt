@@ -1,5 +1,4 @@
 -- `word_ones` is safe and ends.
-use borrow.Author.Rules.{rules}
 use Rattle.trial_table.proofs.ones.word_ones.Given as goal
 
 abbrev pub invariant-loop-left : goal.invariant-loop-left

@@ -1,6 +1,5 @@
 -- `digest` is safe and ends.
 use Prim.Native.Nat.{◌-◌}
-use borrow.Author.Rules.{rules}
 use Rattle.trial_table.proofs.random.digest.Given as goal
 
 abbrev pub invariant-loop-i : goal.invariant-loop-i

@@ -1,5 +1,4 @@
 -- `idlest` is safe and ends.
-use borrow.Author.Rules.{rules}
 use Rattle.trial_table.proofs.rooms.idlest.Given as goal
 
 abbrev pub invariant-loop-left : goal.invariant-loop-left

@@ -1,5 +1,4 @@
 -- `owed_on` is safe and ends.
-use borrow.Author.Rules.{rules}
 use Rattle.trial_table.proofs.rooms.owed_on.Given as goal
 
 abbrev pub invariant-loop-left : goal.invariant-loop-left

@@ -1,5 +1,4 @@
 -- `differing` is safe and ends.
-use borrow.Author.Rules.{rules}
 use Rattle.trial_table.proofs.words.differing.Given as goal
 
 abbrev pub invariant-loop-left : goal.invariant-loop-left

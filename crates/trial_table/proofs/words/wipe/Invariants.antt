@@ -1,7 +1,6 @@
 -- `wipe` is safe and ends.
 use lib.ListN.{length}
 use mathlib.Core.Path.{◌≡◌}
-use borrow.Author.Rules.{rules}
 use Rattle.trial_table.proofs.words.wipe.Given as goal
 
 abbrev pub invariant-loop-left : goal.invariant-loop-left

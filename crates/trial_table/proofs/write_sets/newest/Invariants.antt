@@ -1,5 +1,4 @@
 -- `newest` is safe and ends.
-use borrow.Author.Rules.{rules}
 use Rattle.trial_table.proofs.write_sets.newest.Given as goal
 
 abbrev pub invariant-loop-left : goal.invariant-loop-left
