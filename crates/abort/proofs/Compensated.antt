@@ -12,7 +12,7 @@ use Rattle.model.specs.Word.{xors, ones_over, part}
 use Rattle.model.specs.Sizes.{slot_base}
 use Rattle.model.specs.Record.{change, encode, compensation_kind}
 use Rattle.model.specs.Scan.{Update}
-use Rattle.model.specs.World.{World, pages}
+use Rattle.model.specs.World.{World}
 use Rattle.model.specs.Memory.{copy_of}
 use Rattle.model.specs.Append.{append}
 use Rattle.model.specs.Image.{xor_at}

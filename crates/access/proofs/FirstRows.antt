@@ -9,16 +9,13 @@ use borrow.Author.Tests.{ne_eqb}
 use Rattle.model.specs.declared.Stage.{Stage}
 use Rattle.model.specs.declared.Core.{Core}
 use Rattle.model.specs.declared.Carried.{Carried}
-use Rattle.model.specs.Sizes.{width_in}
 use Rattle.model.specs.World.{World}
 use Rattle.model.specs.Memory.{buffer_at}
 use Rattle.model.specs.Classes.{no_classes}
-use Rattle.model.specs.State.{slot_place}
 use Rattle.model.specs.Refusal.{Row, row, verdict}
 use Rattle.model.specs.Causes.{when_serving, anchor_wrong, slot_missing}
 use Rattle.model.specs.Reads.{slot_fits}
 use Rattle.model.specs.View.{head_words, own_work, core_of, body_of}
-use Rattle.model.proofs.Booleans.{true_false}
 use Rattle.model.proofs.View.Head.{carried_back}
 use Rattle.frame.specs.Checks.{verdict_of}
 use Rattle.frame.specs.Lent.{lent_refusal}

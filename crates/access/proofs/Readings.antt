@@ -16,12 +16,12 @@ use Rattle.model.specs.Anchor.{anchor_words}
 use Rattle.model.specs.World.{World}
 use Rattle.model.specs.Memory.{owner_of}
 use Rattle.model.specs.State.{in_table, slot_place}
-use Rattle.model.specs.Refusal.{Row, row, Verdict, verdict, accepted, rejected}
+use Rattle.model.specs.Refusal.{Row, row, verdict, accepted}
 use Rattle.model.specs.Causes.{when_shut, when_serving, anchor_wrong, slot_missing, reader_not_open, locked}
 use Rattle.model.specs.Reads.{slot_fits}
 use Rattle.model.specs.Transaction.{slot_words, read_rows, read_words}
 use Rattle.model.specs.Call.{read, look, look_task}
-use Rattle.model.specs.View.{head_words, own_work, core_of, body_of, Serves}
+use Rattle.model.specs.View.{head_words, core_of, body_of, Serves}
 use Rattle.model.proofs.View.Head.{own_work_lem, carried_back, head_whole}
 use Rattle.frame.specs.Checks.{verdict_of}
 use Rattle.frame.specs.Lent.{lent_refusal}

@@ -5,7 +5,6 @@ use mathlib.Core.Bool.{Bool, true, false}
 use Prim.Native.Nat.{ℕ, suc, ◌+◌, ◌-◌, ◌%◌, ◌≤◌, ◌<◌}
 use native.Mathlib.Omega.{arith}
 use native.Mathlib.Nat.{mod-add-mod, mod-eq_of_lt, mod-lt, mod_self}
-use lib.Dec.{leb}
 use lib.ListN.{length, take, set, length-set, length-take, length-append}
 use lib.Seq.{sets, take_all, take-append-le, take-append-add}
 use borrow.Author.Tests.{leb-true, leb-false, lt-leb}

@@ -1,5 +1,5 @@
 -- A run of words under a budget: what the functions store, and what that is as a list of actions.
-use mathlib.Core.Path.{◌≡◌, refl, sym, ap, ◌∙◌}
+use mathlib.Core.Path.{◌≡◌, refl, sym, ◌∙◌}
 use mathlib.Core.List.{List, [], ◌∷◌}
 use mathlib.Core.Bool.{Bool, true, false}
 use Prim.Native.Nat.{ℕ, zero, suc, ◌+◌, ◌-◌, ◌≤◌, ◌<◌, min}
@@ -9,7 +9,7 @@ use lib.ListN.{length, take, drop, set, replicate, length-replicate}
 use lib.Seq.{sets, take-take, take_all}
 use borrow.Author.Tests.{le-leb, leb-true, leb-false}
 use Rattle.model.specs.Word.{part}
-use Rattle.model.specs.World.{World, Device, Action, cost, store, anchor, backups, logs, act, perform, covered, run, made, finishes, each}
+use Rattle.model.specs.World.{World, Device, cost, store, anchor, backups, logs, run, made, finishes, each}
 use Rattle.model.proofs.Run.{stores_stored, covered_each, perform_anchor, perform_backups, perform_logs}
 use Rattle.model.proofs.Parts.{length_part}
 use Rattle.device.specs.Ran.{Ran, Stored, with_anchor, with_backups, with_slices}

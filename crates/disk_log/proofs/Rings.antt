@@ -1,5 +1,5 @@
 -- A ring read by index: the next index, the word there, and the sizes' two arrays against what the decoder asks of them.
-use Prim.Native.Nat.{ℕ, ◌+◌, ◌-◌, ◌/◌, ◌%◌, ◌≤◌, ◌<◌}
+use Prim.Native.Nat.{ℕ, ◌+◌, ◌-◌, ◌%◌, ◌≤◌, ◌<◌}
 use mathlib.Core.Path.{◌≡◌, refl, sym, ap, ◌∙◌}
 use mathlib.Core.List.{List, [], ◌++◌}
 use mathlib.Core.Bool.{Bool, true, false, not, ◌||◌}
@@ -9,18 +9,15 @@ use lib.Dec.{leb, eqb}
 use lib.ListN.{length, get_or, length-append}
 use borrow.Author.Tests.{le-leb, lt-leb, leb-true}
 use Rattle.model.specs.declared.Sizes.{Sizes}
-use Rattle.model.specs.declared.Fault.{Fault}
-use Rattle.model.specs.declared.Fault.TheVariants.{NoFault, BadRecord}
 use Rattle.model.specs.Sizes.{slots_in, width_in, ring_of, disk_at, tail_word, ring_word, sizes_in_bounds}
 use Rattle.model.specs.Word.{part}
 use Rattle.model.specs.Decode.{read_log, span, page_field, slot_field, width_field, misplaced, decode_at}
-use Rattle.model.specs.Scan.{Scan, end, bad, item, scan, fault_in}
+use Rattle.model.specs.Scan.{Scan, scan, fault_in}
 use Rattle.model.specs.Causes.{tail_in, fault_from}
 use Rattle.model.proofs.Bounds.{bounded}
 use Rattle.model.proofs.Decode.{ChangeAt, CloseAt, decode_cong}
 use Rattle.model.proofs.Ring.{disk_within}
 use Rattle.model.proofs.Scan.{scan_cong}
-use Rattle.model.proofs.Faults.{fault_own}
 use Rattle.model.proofs.Parts.{length_part, get_or_part}
 use Rattle.model.proofs.Reader.{Holds, holds_from, append_holds, span_holds, span_cong, read_ring_lem}
 use Rattle.disk_log.proofs.Scanning.{faults_step}

@@ -8,7 +8,7 @@ use lib.ListN.{get_or}
 use borrow.Author.Tests.{lt-ltb, le-ltb, eq-eqb, ne_eqb}
 use Rattle.model.specs.declared.Core.{Core}
 use Rattle.model.specs.declared.Carried.{Carried}
-use Rattle.model.specs.State.{places, tail_of, fill_of, place_of, in_table, is_open, disk_at_place, reserved_at, reserved_on}
+use Rattle.model.specs.State.{tail_of, fill_of, place_of, in_table, is_open, disk_at_place, reserved_at, reserved_on}
 use Rattle.model.specs.Reads.{place_fits}
 use Rattle.model.specs.View.{head_fills, head_sums, head_disks, head_reserved, own_work, core_of}
 use Rattle.model.specs.Fields.{fills, sums, disks, reserved}
@@ -16,7 +16,7 @@ use Rattle.model.proofs.View.Head.{carried_back}
 use Rattle.model.proofs.View.Fields.{field_read}
 use Rattle.frame.specs.Fits.{place_within}
 use Rattle.frame.specs.declared.entry.Entry.{Entry}
-use Rattle.frame.specs.Entry.{EntryOf, Entered}
+use Rattle.frame.specs.Entry.{Entered}
 use Rattle.frame.proofs.Fitting.{place_here}
 
 refused_entry : {c : Core} {number : ℕ} (r : Entry) → 0 < r.refusal

@@ -10,7 +10,6 @@ use lib.ListN.{length, length-drop}
 use borrow.Author.Tests.{eqb-true, eq-eqb, ne_eqb}
 use Rattle.model.specs.declared.Stage.{Stage}
 use Rattle.model.specs.declared.Stage.TheVariants.{Shut}
-use Rattle.model.specs.declared.Core.{Core}
 use Rattle.model.specs.declared.Carried.{Carried}
 use Rattle.model.specs.Sizes.{counts_in_bounds, log_words, disk_at}
 use Rattle.model.specs.Anchor.{anchor_words}

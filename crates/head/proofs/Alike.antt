@@ -1,9 +1,9 @@
 -- A state whose words do not fit is as unsound as the one with the largest numbers that fit: calls that test the whole state refuse both
 -- alike.
 use mathlib.Core.Path.{◌≡◌, refl, sym, ap, ◌∙◌}
-use mathlib.Core.List.{List, [], ◌∷◌, map}
+use mathlib.Core.List.{List, [], ◌∷◌}
 use mathlib.Core.Bool.{Bool, true, false}
-use Prim.Native.Nat.{ℕ, zero, suc, ◌+◌, ◌*◌, ◌≤◌, ◌<◌, min}
+use Prim.Native.Nat.{ℕ, zero, suc, ◌*◌, ◌≤◌, ◌<◌, min}
 use native.Mathlib.Omega.{arith}
 use lib.Dec.{ltb}
 use lib.ListN.{length, get_or, replicate}
@@ -18,7 +18,7 @@ use Rattle.model.specs.Word.{part}
 use Rattle.model.specs.Sizes.{slots_in, width_in, page_words, page_base, sizes_in_bounds}
 use Rattle.model.specs.State.{base_of, bases_right, serving_sound, checkpoint_sound, sound_in, sound}
 use Rattle.model.specs.Causes.{when_shut}
-use Rattle.model.specs.View.{head_words, own_work, core_in, core_of}
+use Rattle.model.specs.View.{head_words, core_in, core_of}
 use Rattle.model.proofs.Booleans.{true_false, both}
 use Rattle.model.proofs.Bounds.{Bounded, bounded}
 use Rattle.model.proofs.KeptBases.{base_kept}

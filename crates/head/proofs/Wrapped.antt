@@ -2,7 +2,7 @@
 -- asks. A format and a restart begin test no more than the stage.
 use mathlib.Core.Path.{◌≡◌, refl, sym, ap, subst, ◌∙◌}
 use mathlib.Core.Logic.{◌⊎◌, inl, inr}
-use mathlib.Core.List.{List, [], ◌∷◌, ◌++◌}
+use mathlib.Core.List.{List, ◌∷◌}
 use mathlib.Core.Bool.{Bool, true, false, cond, not, ◌&&◌, ◌||◌}
 use Prim.Native.Nat.{ℕ, ◌-◌, ◌≤◌, ◌<◌}
 use native.Mathlib.Omega.{arith}
@@ -16,14 +16,14 @@ use Rattle.model.specs.Sizes.{disk_at, log_words, counts_in_bounds}
 use Rattle.model.specs.World.{World}
 use Rattle.model.specs.Memory.{buffer_at, copy_at, owner_at, work_words, lengths_right}
 use Rattle.model.specs.State.{new_core, sound}
-use Rattle.model.specs.Refusal.{Row, row, accepted, rejected, verdict, Result}
-use Rattle.model.specs.Causes.{when_shut, when_replaying, when_open, when_copying, when_serving, stage_forbids, anchor_wrong, lengths_wrong}
+use Rattle.model.specs.Refusal.{Row, row, rejected, verdict, Result}
+use Rattle.model.specs.Causes.{when_shut, when_replaying, when_open, when_copying, stage_forbids, anchor_wrong, lengths_wrong}
 use Rattle.model.specs.Reads.{counts_fit, fits_on}
 use Rattle.model.specs.Format.{format_rows}
 use Rattle.model.specs.Checkpoint.{checkpoint_begin_rows, checkpoint_step_rows, checkpoint_end_rows}
 use Rattle.model.specs.Restart.{restart_begin_rows, restart_step_rows, restart_end_rows}
 use Rattle.model.specs.Answers.{stages_of}
-use Rattle.model.specs.Call.{Call, format, begin, update, look, commit, abort, set_classes, checkpoint_begin, checkpoint_step, checkpoint_end, restart_begin, restart_step, restart_run, restart_end, new_state, rows_of, task_of, budget_of, result_of, Gives}
+use Rattle.model.specs.Call.{Call, format, begin, update, look, commit, abort, set_classes, checkpoint_begin, checkpoint_step, checkpoint_end, restart_begin, restart_step, restart_run, restart_end, new_state, rows_of, task_of, result_of, Gives}
 use Rattle.model.specs.View.{head_words, core_of, carried_of, body_of, behind, head_after, given_by, given, Serves}
 use Rattle.model.proofs.Booleans.{true_false}
 use Rattle.model.proofs.Verdict.{refused_leaves}

@@ -7,7 +7,7 @@ use lib.Dec.{eqb}
 use Rattle.model.specs.declared.Core.{Core}
 use Rattle.model.specs.declared.Reply.{Reply}
 use Rattle.model.specs.Below.{all_below}
-use Rattle.model.specs.World.{World, pages, work}
+use Rattle.model.specs.World.{World}
 use Rattle.model.specs.State.{open_core, tail_of}
 use Rattle.model.specs.Refusal.{verdict}
 use Rattle.model.specs.Causes.{when_replaying}

@@ -4,8 +4,8 @@ use mathlib.Core.List.{List, [], ◌∷◌, ◌++◌}
 use mathlib.Core.Bool.{Bool, true, false, cond, not, ◌&&◌, ◌||◌}
 use Prim.Native.Nat.{ℕ, ◌+◌, ◌*◌, ◌≤◌, ◌<◌}
 use native.Mathlib.Omega.{arith}
-use lib.Dec.{ltb, eqb}
-use lib.ListN.{length, drop, take-append-drop}
+use lib.Dec.{eqb}
+use lib.ListN.{drop, take-append-drop}
 use borrow.Author.Tests.{lt-ltb, le-ltb, eq-eqb, ne_eqb}
 use Rattle.model.specs.declared.Core.{Core}
 use Rattle.model.specs.declared.Carried.{Carried}
@@ -20,11 +20,9 @@ use Rattle.model.specs.Reads.{counts_fit}
 use Rattle.model.specs.SetClasses.{least_row, work_wrong, set_classes_rows, set_classes_task}
 use Rattle.model.specs.Call.{set_classes}
 use Rattle.model.specs.View.{head_words, own_work, core_of, head_of, body_of, Serves}
-use Rattle.model.proofs.Booleans.{true_false}
 use Rattle.model.proofs.Store.Rows.{not_shut}
 use Rattle.model.proofs.View.Head.{head_whole}
 use Rattle.model.proofs.View.Own.{body_long}
-use Rattle.layout.specs.Raw.{counts_of}
 use Rattle.frame.specs.Fits.{counts_within}
 use Rattle.frame.specs.Handed.{finished_to}
 use Rattle.frame.proofs.Fitting.{Counted, counted}

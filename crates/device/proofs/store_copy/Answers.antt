@@ -1,11 +1,8 @@
 -- `device::store_copy` meets its contract: after i turns the first i words are stored, and the budget is less by i. Assumes nothing.
-use mathlib.Core.Path.{◌≡◌, refl, sym, ◌∙◌}
-use Prim.Native.Nat.{◌+◌, ◌-◌, ◌≤◌, ◌<◌}
+use mathlib.Core.Path.{refl, sym, ◌∙◌}
 use native.Mathlib.Omega.{arith}
-use lib.ListN.{length}
-use lib.Seq.{sets}
 use borrow.Author.Rules.{rules}
-use borrow.Author.Tests.{not-true, not-false, le-leb, lt-leb}
+use borrow.Author.Tests.{le-leb, lt-leb}
 use Rattle.model.specs.Word.{part}
 use Rattle.words.proofs.Laws.{copy_more}
 use Rattle.device.proofs.Runs.{stored_copy, word_made, word_cut}

@@ -1,14 +1,9 @@
 -- `device::store_copy` meets its contract: after i turns the first i words are stored, and the budget is less by i. Assumes nothing.
-use mathlib.Core.Path.{◌≡◌, refl, sym, ◌∙◌}
-use Prim.Native.Nat.{◌+◌, ◌-◌, ◌≤◌, ◌<◌}
-use native.Mathlib.Omega.{arith}
+use mathlib.Core.Path.{◌≡◌}
+use Prim.Native.Nat.{◌+◌, ◌-◌, ◌≤◌}
 use lib.ListN.{length}
 use lib.Seq.{sets}
-use borrow.Author.Rules.{rules}
-use borrow.Author.Tests.{not-true, not-false, le-leb, lt-leb}
 use Rattle.model.specs.Word.{part}
-use Rattle.words.proofs.Laws.{copy_more}
-use Rattle.device.proofs.Runs.{stored_copy, word_made, word_cut}
 use Rattle.device.proofs.store_copy.Given as goal
 
 abbrev pub invariant-loop-i : goal.invariant-loop-i

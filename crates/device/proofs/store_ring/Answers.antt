@@ -1,10 +1,8 @@
 -- `device::store_ring` meets its contract: in one run, or in two around the ring's end. Assumes nothing.
 use mathlib.Core.Path.{refl}
-use Prim.Native.Nat.{◌+◌, ◌-◌, ◌%◌, ◌≤◌, ◌<◌}
 use native.Mathlib.Omega.{arith}
 use native.Mathlib.Nat.{mod-lt}
 use borrow.Author.Rules.{rules}
-use borrow.Author.Tests.{not-true, not-false}
 use Rattle.device.proofs.Ring.{one_run, first_run_cut, two_runs}
 use Rattle.device.proofs.store_ring.Goals as goal
 

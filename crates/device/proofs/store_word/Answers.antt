@@ -1,7 +1,6 @@
 -- `device::store_word` meets its contract: by cases on an empty budget. Assumes nothing.
 use mathlib.Core.Path.{◌≡◌}
 use native.Mathlib.Omega.{arith}
-use borrow.Author.Rules.{rules}
 use Rattle.device.proofs.Runs.{stored_none, stored_one}
 use Rattle.device.proofs.store_word.Goals as goal
 

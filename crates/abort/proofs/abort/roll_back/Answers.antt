@@ -1,6 +1,5 @@
 -- `abort::abort::roll_back` meets its contract: the updates taken back, then the closing record. Assumes nothing.
 use mathlib.Core.List.{[]}
-use borrow.Author.Rules.{rules}
 use borrow.Author.Tests.{not-true, not-false}
 use Rattle.model.specs.World.{world_of}
 use Rattle.model.proofs.Booleans.{true_false}

@@ -1,14 +1,11 @@
 -- `abort::difference::copy_words_of_log` meets its contract: after i turns the first i words are copied and their bits counted. Assumes nothing.
 use mathlib.Core.Path.{◌≡◌, refl, ◌∙◌}
-use Prim.Native.Nat.{ℕ, ◌-◌, ◌*◌, ◌≤◌}
+use Prim.Native.Nat.{ℕ}
 use native.Mathlib.Omega.{arith}
-use lib.ListN.{length, length-set}
-use lib.Seq.{sets}
-use Rattle.model.specs.declared.Sizes.{Sizes}
+use lib.ListN.{length-set}
 use Rattle.model.specs.Below.{sum_over}
 use Rattle.model.specs.Word.{ones_over}
 use Rattle.model.specs.Decode.{read_log, span}
-use Rattle.disk_log.specs.Reading.{LiesAt}
 use Rattle.words.proofs.Laws.{ones_fit, few_fit, few_more}
 use Rattle.abort.proofs.Spans.{set_span, ones_span}
 use borrow.Author.Rules.{rules}

@@ -1,17 +1,12 @@
 -- `abort::difference::copy_words_of_log` meets its contract: after i turns the first i words are copied and their bits counted. Assumes nothing.
-use mathlib.Core.Path.{◌≡◌, refl, ◌∙◌}
+use mathlib.Core.Path.{◌≡◌}
 use Prim.Native.Nat.{ℕ, ◌-◌, ◌*◌, ◌≤◌}
-use native.Mathlib.Omega.{arith}
-use lib.ListN.{length, length-set}
+use lib.ListN.{length}
 use lib.Seq.{sets}
 use Rattle.model.specs.declared.Sizes.{Sizes}
-use Rattle.model.specs.Below.{sum_over}
 use Rattle.model.specs.Word.{ones_over}
 use Rattle.model.specs.Decode.{read_log, span}
 use Rattle.disk_log.specs.Reading.{LiesAt}
-use Rattle.words.proofs.Laws.{ones_fit, few_fit, few_more}
-use Rattle.abort.proofs.Spans.{set_span, ones_span}
-use borrow.Author.Rules.{rules}
 use Rattle.abort.proofs.difference.copy_words_of_log.Given as goal
 
 abbrev pub invariant-loop-i : goal.invariant-loop-i

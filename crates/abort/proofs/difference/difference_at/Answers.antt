@@ -3,7 +3,6 @@ use lib.ListN.{replicate}
 use native.Mathlib.Omega.{arith}
 use Rattle.abort.proofs.Disks.{asked, extended, lies, lent_end, lent_lies, lent_to, lent_reader, lent_readable}
 use Rattle.abort.proofs.Spans.{take_span}
-use borrow.Author.Rules.{rules}
 use Rattle.abort.proofs.difference.difference_at.Goals as goal
 
 pub window_of-log-requires : goal.window_of-log-requires

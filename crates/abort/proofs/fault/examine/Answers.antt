@@ -1,5 +1,4 @@
 -- `abort::fault::examine` meets its contract: one survey of the log, then the test of the updates' words. Assumes nothing.
-use borrow.Author.Rules.{rules}
 use Rattle.abort.proofs.Examining.{examined_malformed, examined_long, examined_none}
 use Rattle.abort.proofs.fault.examine.Goals as goal
 

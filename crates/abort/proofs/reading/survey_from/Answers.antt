@@ -1,7 +1,6 @@
 -- `abort::reading::survey_from` meets its contract: the survey is lent the ring and the buffered words. Assumes nothing.
 use mathlib.Core.Path.{refl}
 use native.Mathlib.Omega.{arith}
-use borrow.Author.Rules.{rules}
 use Rattle.model.specs.Sizes.{ring_of}
 use Rattle.abort.proofs.Disks.{asked, extended, bounds, lies, lent_end, lent_ordered, lent_lies, lent_tail, lent_to, lent_readable}
 use Rattle.abort.proofs.Malformed.{lent_found}

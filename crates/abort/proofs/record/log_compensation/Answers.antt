@@ -5,7 +5,6 @@ use Rattle.model.specs.World.{world_of}
 use Rattle.frame.proofs.Homes.{lent_there, disk_there}
 use Rattle.abort.proofs.Tips.{tip_home}
 use Rattle.abort.proofs.Disks.{small, home_asked, home_lies, encodable, appended}
-use borrow.Author.Rules.{rules}
 use Rattle.abort.proofs.record.log_compensation.Goals as goal
 
 pub home_at-home-requires : goal.home_at-home-requires

@@ -1,6 +1,5 @@
 -- `abort::scope::find_scope` meets its contract: by cases on what is found. Assumes nothing.
 use native.Mathlib.Omega.{arith}
-use borrow.Author.Rules.{rules}
 use borrow.Author.Tests.{not-true, not-false}
 use Rattle.abort.proofs.Scopes.{read_refused, entry_placed, read_far, read_unsized, read_found}
 use Rattle.abort.proofs.scope.find_scope.Goals as goal

@@ -1,6 +1,5 @@
 -- `abort::scope::log_fits` meets its contract: by whether there is an update. Assumes nothing.
 use mathlib.Core.Path.{refl}
-use borrow.Author.Rules.{rules}
 use borrow.Author.Tests.{lt-ltb, le-ltb}
 use Rattle.abort.proofs.scope.log_fits.Goals as goal
 

@@ -1,7 +1,6 @@
 -- `abort::scope::scope_at` meets its contract: by whether there is an update. Assumes nothing.
 use mathlib.Core.Path.{refl}
 use native.Mathlib.Omega.{arith}
-use borrow.Author.Rules.{rules}
 use borrow.Author.Tests.{lt-ltb, le-ltb}
 use Rattle.abort.specs.Scope.{scope_in}
 use Rattle.abort.proofs.scope.scope_at.Goals as goal

@@ -2,22 +2,15 @@
 -- their bits with those counted are the bits of all. Assumes nothing.
 use mathlib.Core.Path.{◌≡◌, sym, ◌∙◌}
 use mathlib.Core.List.{[]}
-use Prim.Native.Nat.{◌+◌, ◌*◌, ◌≤◌}
 use native.Mathlib.Omega.{arith}
-use lib.ListN.{take}
 use lib.Seq.{take_all}
 use borrow.Author.Tests.{not-true, not-false}
-use Rattle.model.specs.Scan.{scan}
-use Rattle.model.specs.State.{end_of}
 use Rattle.model.proofs.Booleans.{true_false}
-use Rattle.disk_log.specs.Reading.{positions_in}
-use Rattle.abort.specs.Undo.{only_log, reader}
 use Rattle.abort.proofs.Tips.{tip_sized, tip_end}
 use Rattle.abort.proofs.Disks.{small}
 use Rattle.abort.proofs.Undone.{did_lengths}
-use Rattle.abort.proofs.Pending.{Pending, Counted, pending_start, pending_last, all_counted}
+use Rattle.abort.proofs.Pending.{pending_start, pending_last, all_counted}
 use Rattle.abort.proofs.Noting.{all_updates, all_takeable, all_few, all_held, here_many, group_takeable, group_counted, group_cut, group_step}
-use borrow.Author.Rules.{rules}
 use Rattle.abort.proofs.undo.undo_all.Goals as goal
 
 pub overflow_add-end : goal.overflow_add-end

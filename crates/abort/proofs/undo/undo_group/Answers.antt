@@ -2,15 +2,12 @@
 -- their bits with those counted are the bits of all. Assumes nothing.
 use mathlib.Core.Path.{◌≡◌, sym, ◌∙◌}
 use mathlib.Core.List.{[]}
-use Prim.Native.Nat.{◌+◌, ◌*◌, ◌≤◌}
 use native.Mathlib.Omega.{arith}
-use lib.ListN.{length, take}
 use borrow.Author.Tests.{not-true, not-false}
 use Rattle.model.proofs.Booleans.{true_false}
-use Rattle.abort.specs.Undo.{only_log, reader}
 use Rattle.abort.proofs.Tips.{tip_sized}
 use Rattle.abort.proofs.Undone.{did_lengths}
-use Rattle.abort.proofs.Pending.{Pending, Counted, pending_start, pending_last, all_counted}
+use Rattle.abort.proofs.Pending.{pending_start, pending_last, all_counted}
 use Rattle.abort.proofs.OneLeft.{one_there, one_compensable, one_counted, one_cut, one_step}
 use borrow.Author.Rules.{rules}
 use Rattle.abort.proofs.undo.undo_group.Goals as goal

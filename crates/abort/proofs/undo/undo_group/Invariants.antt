@@ -1,18 +1,10 @@
 -- `abort::undo::undo_group` meets its contract. The loop's invariant: what takes back the updates that are left takes back all, and
 -- their bits with those counted are the bits of all. Assumes nothing.
-use mathlib.Core.Path.{◌≡◌, sym, ◌∙◌}
-use mathlib.Core.List.{[]}
+use mathlib.Core.Path.{◌≡◌}
 use Prim.Native.Nat.{◌+◌, ◌*◌, ◌≤◌}
-use native.Mathlib.Omega.{arith}
 use lib.ListN.{length, take}
-use borrow.Author.Tests.{not-true, not-false}
-use Rattle.model.proofs.Booleans.{true_false}
 use Rattle.abort.specs.Undo.{only_log, reader}
-use Rattle.abort.proofs.Tips.{tip_sized}
-use Rattle.abort.proofs.Undone.{did_lengths}
-use Rattle.abort.proofs.Pending.{Pending, Counted, pending_start, pending_last, all_counted}
-use Rattle.abort.proofs.OneLeft.{one_there, one_compensable, one_counted, one_cut, one_step}
-use borrow.Author.Rules.{rules}
+use Rattle.abort.proofs.Pending.{Pending, Counted}
 use Rattle.abort.proofs.undo.undo_group.Given as goal
 
 abbrev pub invariant-loop-n : goal.invariant-loop-n

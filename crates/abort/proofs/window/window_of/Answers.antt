@@ -3,7 +3,6 @@ use mathlib.Core.Path.{refl}
 use native.Mathlib.Omega.{arith}
 use Rattle.abort.specs.Undo.{window_of}
 use Rattle.abort.proofs.Tips.{tip_tail, tip_fill, tip_end}
-use borrow.Author.Rules.{rules}
 use Rattle.abort.proofs.window.window_of.Goals as goal
 
 pub overflow_add-result : goal.overflow_add-result

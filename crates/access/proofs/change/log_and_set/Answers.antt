@@ -2,7 +2,6 @@
 use Rattle.device.specs.Ran.{with_slices}
 use borrow.Author.Tests.{not-true, not-false}
 use Rattle.access.proofs.Differences.{replaced_cut, replaced_whole}
-use borrow.Author.Rules.{rules}
 use Rattle.access.proofs.change.log_and_set.Goals as goal
 
 pub returns-then-not-added : goal.returns-then-not-added

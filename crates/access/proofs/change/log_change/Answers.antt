@@ -2,7 +2,6 @@
 use mathlib.Core.Path.{refl, sym, ◌∙◌}
 use native.Mathlib.Omega.{arith}
 use lib.ListN.{length}
-use borrow.Author.Tests.{not-true, not-false}
 use Rattle.model.specs.Word.{xors, part}
 use Rattle.model.specs.Record.{encode}
 use Rattle.model.proofs.Booleans.{true_false}
@@ -10,7 +9,6 @@ use Rattle.disk_log.specs.Write.{change_of}
 use Rattle.disk_log.proofs.Words.{change_size}
 use Rattle.disk_log.proofs.Append.{put_fits, put_cut, put_flushed}
 use Rattle.access.proofs.Differences.{record_length}
-use borrow.Author.Rules.{rules}
 use Rattle.access.proofs.change.log_change.Goals as goal
 
 pub overflow_add-fill : goal.overflow_add-fill

@@ -4,7 +4,6 @@ use native.Mathlib.Omega.{arith}
 use lib.ListN.{length-set}
 use lib.Seq.{length-sets}
 use Rattle.access.proofs.Differences.{difference_length, change_put}
-use borrow.Author.Rules.{rules}
 use Rattle.access.proofs.change.put_change.Goals as goal
 
 pub bounds-work-to-2 : goal.bounds-work-to-2

@@ -1,7 +1,6 @@
 -- `access::change::set_slot` meets its contract: the words, then the owner. Assumes nothing.
 use mathlib.Core.Path.{refl, ◌∙◌}
 use Rattle.access.proofs.Differences.{part_all}
-use borrow.Author.Rules.{rules}
 use Rattle.access.proofs.change.set_slot.Goals as goal
 
 pub returns : goal.returns

@@ -1,7 +1,6 @@
 -- `access::plan::late_refusal` meets its contract: held by another, without room, or neither. Assumes nothing.
 use mathlib.Core.Path.{refl}
 use native.Mathlib.Omega.{arith}
-use borrow.Author.Rules.{rules}
 use Rattle.model.specs.Record.{update_kind}
 use Rattle.model.proofs.RecordSizes.{words_most}
 use Rattle.access.proofs.plan.late_refusal.Goals as goal

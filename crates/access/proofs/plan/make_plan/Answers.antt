@@ -6,7 +6,6 @@ use Rattle.model.specs.Record.{words_of, update_kind}
 use Rattle.model.proofs.RecordSizes.{words_most}
 use Rattle.layout.specs.Raw.{counts_of}
 use Rattle.access.proofs.SlotBounds.{owner_at_lem, copy_at_lem}
-use borrow.Author.Rules.{rules}
 use Rattle.access.proofs.plan.make_plan.Goals as goal
 
 -- the words of an update record are few

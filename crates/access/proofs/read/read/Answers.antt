@@ -2,7 +2,6 @@
 use mathlib.Core.Path.{refl}
 use Rattle.model.specs.World.{world_of}
 use Rattle.access.proofs.Readings.{read_none, read_words_lem}
-use borrow.Author.Rules.{rules}
 use Rattle.access.proofs.read.read.Goals as goal
 
 pub returns-then-found-ne0 : goal.returns-then-found-ne0

@@ -2,7 +2,6 @@
 use mathlib.Core.Path.{refl}
 use Rattle.model.specs.World.{world_of}
 use Rattle.access.proofs.Readings.{read_refused, read_finished}
-use borrow.Author.Rules.{rules}
 use Rattle.access.proofs.read.read_answer.Goals as goal
 
 pub returns-then-found-ne0 : goal.returns-then-found-ne0

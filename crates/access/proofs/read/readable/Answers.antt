@@ -1,12 +1,9 @@
 -- `access::read::readable` meets its contract: one row after the other. Assumes nothing.
 use mathlib.Core.Path.{refl, sym, ◌∙◌}
 use mathlib.Core.List.{[]}
-use native.Mathlib.Omega.{arith}
-use borrow.Author.Tests.{not-true, not-false}
 use Rattle.model.specs.World.{world_of}
 use Rattle.access.proofs.FirstRows.{own, some_own, some_ready, numbers_fit, some_state, owner_within}
 use Rattle.access.proofs.Readings.{readable_first, readable_unfit, readable_unanchored, readable_missing, readable_unopened, readable_locked, readable_found}
-use borrow.Author.Rules.{rules}
 use Rattle.access.proofs.read.readable.Goals as goal
 
 pub returns-then-first-ne0 : goal.returns-then-first-ne0

@@ -1,9 +1,7 @@
 -- `access::slots::find_slot` meets its contract: by cases on the page's words. Assumes nothing.
 use mathlib.Core.Path.{sym, ◌∙◌}
 use native.Mathlib.Omega.{arith}
-use borrow.Author.Tests.{not-true, not-false}
 use Rattle.access.proofs.SlotBounds.{page_bounds, slot_beyond, slot_high, page_unfit, slot_found}
-use borrow.Author.Rules.{rules}
 use Rattle.access.proofs.slots.find_slot.Goals as goal
 
 pub returns-then-page-pages : goal.returns-then-page-pages

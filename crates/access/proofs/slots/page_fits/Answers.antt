@@ -3,7 +3,6 @@ use native.Mathlib.Omega.{arith}
 use Rattle.layout.proofs.Laws.{product_max}
 use Rattle.layout.proofs.Faults.{no_words, too_many, too_wide, all_right}
 use Rattle.access.proofs.SlotBounds.{page_out, many_slots, base_out, page_in}
-use borrow.Author.Rules.{rules}
 use Rattle.access.proofs.slots.page_fits.Goals as goal
 
 pub returns-then-slots-gt128 : goal.returns-then-slots-gt128

@@ -2,7 +2,6 @@
 use mathlib.Core.Path.{refl}
 use borrow.Author.Tests.{eq-eqb, ne_eqb}
 use Rattle.model.specs.Causes.{not_open, reader_not_open}
-use borrow.Author.Rules.{rules}
 use Rattle.access.proofs.slots.reader_missing.Goals as goal
 
 pub returns-then-reader-eq0 : goal.returns-then-reader-eq0

@@ -3,7 +3,6 @@ use mathlib.Core.Path.{◌≡◌, refl}
 use Prim.Native.Nat.{◌+◌, ◌-◌}
 use native.Mathlib.Omega.{arith}
 use Rattle.model.specs.Word.{part}
-use borrow.Author.Rules.{rules}
 use Rattle.access.proofs.slots.slot_part.Goals as goal
 
 pub returns : goal.returns

@@ -1,6 +1,5 @@
 -- `access::update::count_update` meets its contract: the place and the reserved words, then the fill. Assumes nothing.
 use mathlib.Core.Path.{refl, ◌∙◌}
-use borrow.Author.Rules.{rules}
 use Rattle.access.proofs.update.count_update.Goals as goal
 
 pub returns : goal.returns

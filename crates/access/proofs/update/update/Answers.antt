@@ -1,6 +1,5 @@
 -- `access::update::update` meets its contract: refused by a row, cut, or finished. Assumes nothing.
 use mathlib.Core.Path.{refl, ◌∙◌}
-use native.Mathlib.Omega.{arith}
 use borrow.Author.Tests.{not-true, not-false}
 use Rattle.model.specs.World.{world_of}
 use Rattle.model.specs.View.{core_of, body_of}

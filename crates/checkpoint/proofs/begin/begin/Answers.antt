@@ -4,7 +4,6 @@ use Rattle.model.specs.Checkpoint.{checkpoint_begin_rows}
 use Rattle.model.specs.Call.{checkpoint_begin}
 use Rattle.frame.proofs.Given.{given_first}
 use Rattle.checkpoint.proofs.Marks.{begin_serving, begin_spent, begin_given}
-use borrow.Author.Rules.{rules}
 use Rattle.checkpoint.proofs.begin.begin.Goals as goal
 
 pub returns-then-refusal-ne0 : goal.returns-then-refusal-ne0

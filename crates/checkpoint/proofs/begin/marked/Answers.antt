@@ -1,6 +1,5 @@
 -- `checkpoint::begin::marked` meets its contract: only the stage and the checkpoint change. Assumes nothing.
 use Rattle.model.specs.Checkpoint.{checkpoint_begin_task}
-use borrow.Author.Rules.{rules}
 use Rattle.checkpoint.proofs.begin.marked.Goals as goal
 
 pub returns : goal.returns

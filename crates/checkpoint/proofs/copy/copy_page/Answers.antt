@@ -1,8 +1,6 @@
 -- `checkpoint::copy::copy_page` meets its contract: the copy number is set once the page is stored. Assumes nothing.
 use mathlib.Core.Path.{refl}
 use native.Mathlib.Omega.{arith}
-use borrow.Author.Rules.{rules}
-use borrow.Author.Tests.{not-true, not-false}
 use Rattle.model.specs.Memory.{copy_at, owner_at, work_words}
 use Rattle.model.proofs.Bounds.{bounded}
 use Rattle.layout.proofs.Pages.{page_fits, copy_fits}

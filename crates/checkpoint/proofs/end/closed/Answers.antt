@@ -1,6 +1,5 @@
 -- `checkpoint::end::closed` meets its contract: the tails are the ends. Assumes nothing.
 use Rattle.model.specs.Checkpoint.{checkpoint_end_task}
-use borrow.Author.Rules.{rules}
 use Rattle.checkpoint.proofs.end.closed.Goals as goal
 
 pub returns : goal.returns

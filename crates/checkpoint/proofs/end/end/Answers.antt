@@ -4,7 +4,6 @@ use Rattle.model.specs.Checkpoint.{checkpoint_end_rows}
 use Rattle.model.specs.Call.{checkpoint_end}
 use Rattle.frame.proofs.Given.{given_first}
 use Rattle.checkpoint.proofs.Waiting.{end_early, end_given, endable}
-use borrow.Author.Rules.{rules}
 use Rattle.checkpoint.proofs.end.end.Goals as goal
 
 pub returns-then-refusal-ne0 : goal.returns-then-refusal-ne0

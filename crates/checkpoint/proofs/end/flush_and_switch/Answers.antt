@@ -3,7 +3,6 @@ use Rattle.model.specs.World.{world_of}
 use Rattle.model.specs.Checkpoint.{checkpoint_end_task}
 use Rattle.model.proofs.Store.Accepted.{disks_max}
 use Rattle.frame.proofs.Verdicts.{task_settled}
-use borrow.Author.Rules.{rules}
 use Rattle.checkpoint.proofs.end.flush_and_switch.Goals as goal
 
 pub new_starts-starts-requires : goal.new_starts-starts-requires

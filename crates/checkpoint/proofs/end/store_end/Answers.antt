@@ -1,9 +1,7 @@
 -- `checkpoint::end::store_end` meets its contract: the switch begins once all disks are flushed. Assumes nothing.
-use borrow.Author.Tests.{not-true, not-false}
 use Rattle.model.specs.World.{world_of}
 use Rattle.model.proofs.Store.Accepted.{disks_max}
 use Rattle.checkpoint.proofs.Closing.{end_cut, end_whole}
-use borrow.Author.Rules.{rules}
 use Rattle.checkpoint.proofs.end.store_end.Goals as goal
 
 pub returns-then-not-flush_all : goal.returns-then-not-flush_all

@@ -1,9 +1,7 @@
 -- `checkpoint::ends::ends_of` meets its contract: the disks passed have their ends, the others 0. Assumes nothing.
 use native.Mathlib.Omega.{arith}
-use Prim.Native.Nat.{◌-◌, ◌≤◌}
-use mathlib.Core.Path.{◌≡◌, refl, ◌∙◌}
+use mathlib.Core.Path.{refl, ◌∙◌}
 use Rattle.model.specs.State.{tail_of, fill_of, end_of}
-use Rattle.model.specs.Checkpoint.{eight_below}
 use Rattle.model.proofs.Store.Rows.{disk_sound_lem}
 use Rattle.model.proofs.Store.Accepted.{disks_max}
 use Rattle.model.proofs.PerDisk.{eight_none, eight_more, eight_per_disk}

@@ -1,20 +1,13 @@
 -- `checkpoint::flush::flush_all` meets its contract: the disks passed are flushed whole. Assumes nothing.
-use native.Mathlib.Omega.{arith}
 use Prim.Native.Nat.{ℕ, ◌-◌, ◌≤◌}
-use mathlib.Core.Path.{◌≡◌, refl, ◌∙◌}
+use mathlib.Core.Path.{◌≡◌}
 use mathlib.Core.List.{List}
 use mathlib.Core.Bool.{true}
 use lib.ListN.{length}
-use borrow.Author.Tests.{not-true, not-false}
 use Rattle.model.specs.Below.{join_below}
 use Rattle.model.specs.World.{world_of}
 use Rattle.model.specs.Append.{flush}
-use Rattle.model.proofs.Bounds.{bounded}
-use Rattle.model.proofs.Store.Rows.{sizes_sound}
 use Rattle.device.specs.Ran.{Ran}
-use Rattle.device.proofs.Below.{ran_zero, ran_next, ran_stop}
-use Rattle.frame.proofs.Homes.{lent_there, within_there, disk_there}
-use borrow.Author.Rules.{rules}
 use Rattle.checkpoint.proofs.flush.flush_all.Given as goal
 
 abbrev pub invariant-loop-d : goal.invariant-loop-d

@@ -1,10 +1,7 @@
 -- `checkpoint::starts::least_first` meets its contract: the least of the places passed. Assumes nothing.
 use native.Mathlib.Omega.{arith}
-use Prim.Native.Nat.{◌-◌, ◌≤◌}
 use mathlib.Core.Path.{◌≡◌}
-use Rattle.model.specs.Checkpoint.{least_first}
 use Rattle.checkpoint.proofs.Least.{least_none, least_more}
-use borrow.Author.Rules.{rules}
 use Rattle.checkpoint.proofs.starts.least_first.Goals as goal
 
 pub loop-i-init : goal.loop-i-init

@@ -1,12 +1,8 @@
 -- `checkpoint::starts::new_starts` meets its contract: the disks passed have their new starts, the others 0. Assumes nothing.
 use native.Mathlib.Omega.{arith}
-use Prim.Native.Nat.{◌-◌, ◌≤◌}
-use mathlib.Core.Path.{◌≡◌, ◌∙◌}
-use lib.ListN.{get_or}
-use Rattle.model.specs.State.{places}
-use Rattle.model.specs.Checkpoint.{eight_below, least_first, new_start}
+use mathlib.Core.Path.{◌∙◌}
+use Rattle.model.specs.Checkpoint.{new_start}
 use Rattle.model.proofs.PerDisk.{eight_none, eight_more, eight_per_disk}
-use borrow.Author.Rules.{rules}
 use Rattle.checkpoint.proofs.starts.new_starts.Goals as goal
 
 pub loop-d-init : goal.loop-d-init

@@ -3,7 +3,6 @@ use native.Mathlib.Omega.{arith}
 use Rattle.model.specs.World.{world_of}
 use Rattle.model.specs.Checkpoint.{checkpoint_step_task}
 use Rattle.checkpoint.proofs.Waiting.{step_settled}
-use borrow.Author.Rules.{rules}
 use Rattle.checkpoint.proofs.step.copy_next.Goals as goal
 
 pub returns : goal.returns

@@ -4,7 +4,6 @@ use Rattle.model.specs.Checkpoint.{checkpoint_step_rows}
 use Rattle.model.specs.Call.{checkpoint_step}
 use Rattle.frame.proofs.Given.{given_first}
 use Rattle.checkpoint.proofs.Waiting.{step_none, step_given, steppable}
-use borrow.Author.Rules.{rules}
 use Rattle.checkpoint.proofs.step.step.Goals as goal
 
 pub returns-then-refusal-ne0 : goal.returns-then-refusal-ne0

@@ -1,7 +1,6 @@
 -- `disk_log::front::front_at` meets its contract: within a turn the two words stand side by side.
 use Prim.Native.Nat.{◌+◌}
 use native.Mathlib.Omega.{arith}
-use borrow.Author.Rules.{rules}
 use Rattle.disk_log.proofs.Fronts.{turn_read}
 use Rattle.disk_log.proofs.front.front_at.Goals as goal
 

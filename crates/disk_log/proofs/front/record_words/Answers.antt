@@ -1,7 +1,6 @@
 -- `disk_log::front::record_words` meets its contract, by the tests of the first two words.
 use mathlib.Core.Path.{sym, ◌∙◌}
 use native.Mathlib.Omega.{arith}
-use borrow.Author.Rules.{rules}
 use Rattle.model.proofs.RecordSizes.{has_size}
 use Rattle.disk_log.proofs.Fronts.{measured_zero, measured_none, measured_outside, measured_change, measured_close, measured_set}
 use Rattle.disk_log.proofs.front.record_words.Goals as goal

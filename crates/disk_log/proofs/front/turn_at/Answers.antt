@@ -1,7 +1,6 @@
 -- `disk_log::front::turn_at` meets its contract: a turn begins at a multiple of the ring's size.
 use native.Mathlib.Omega.{arith}
 use native.Mathlib.Nat.{mod-le}
-use borrow.Author.Rules.{rules}
 use Rattle.disk_log.proofs.Fronts.{turn_here}
 use Rattle.disk_log.proofs.front.turn_at.Goals as goal
 

@@ -1,7 +1,6 @@
 -- `disk_log::kinds::record_size` meets its contract: each arm is a line of the record table.
 use mathlib.Core.Path.{sym}
 use native.Mathlib.Omega.{arith}
-use borrow.Author.Rules.{rules}
 use Rattle.model.proofs.RecordSizes.{record_sizes}
 use Rattle.disk_log.proofs.kinds.record_size.Goals as goal
 

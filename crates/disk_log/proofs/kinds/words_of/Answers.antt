@@ -1,6 +1,5 @@
 -- `disk_log::kinds::words_of` meets its contract: the words of the size, none where there is no such kind.
 use mathlib.Core.Path.{sym, ap, ◌∙◌}
-use borrow.Author.Rules.{rules}
 use Rattle.model.specs.Record.{size_words, words_of}
 use Rattle.disk_log.proofs.kinds.words_of.Goals as goal
 

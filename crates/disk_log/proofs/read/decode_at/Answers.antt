@@ -1,7 +1,6 @@
 -- `disk_log::read::decode_at` meets its contract: each answer is the definition's, by the tests that led to it.
 use mathlib.Core.Path.{sym, ◌∙◌}
 use native.Mathlib.Omega.{arith}
-use borrow.Author.Rules.{rules}
 use Rattle.model.specs.Decode.{decode_at}
 use Rattle.model.proofs.RecordSizes.{has_size}
 use Rattle.disk_log.proofs.Decoding.{decode_none, decode_past, decode_zero, decode_is_change, decode_is_close}

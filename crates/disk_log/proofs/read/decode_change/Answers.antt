@@ -1,6 +1,5 @@
 -- `disk_log::read::decode_change` meets its contract, by what `is_misplaced` ensures.
 use mathlib.Core.Path.{sym, ◌∙◌}
-use borrow.Author.Rules.{rules}
 use Rattle.disk_log.proofs.read.decode_change.Goals as goal
 
 pub returns-then-is_misplaced : goal.returns-then-is_misplaced

@@ -1,6 +1,5 @@
 -- `disk_log::read::extent_of` meets its contract.
 use mathlib.Core.Path.{refl}
-use borrow.Author.Rules.{rules}
 use Rattle.disk_log.specs.Reading.{extent_of}
 use Rattle.disk_log.proofs.read.extent_of.Goals as goal
 

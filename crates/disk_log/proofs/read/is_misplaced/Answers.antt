@@ -1,6 +1,5 @@
 -- `disk_log::read::is_misplaced` meets its contract: its tests are the definition's, in their order.
 use mathlib.Core.Path.{refl}
-use borrow.Author.Rules.{rules}
 use borrow.Author.Tests.{le-leb, lt-leb}
 use Rattle.model.specs.Sizes.{slots_in, width_in}
 use Rattle.model.specs.Decode.{misplaced}

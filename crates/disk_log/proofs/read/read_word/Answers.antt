@@ -1,7 +1,6 @@
 -- `disk_log::read::read_word` meets its contract: the ring word lies within the disk's part of the logs.
 use native.Mathlib.Nat.{mod-lt}
 use native.Mathlib.Omega.{arith}
-use borrow.Author.Rules.{rules}
 use borrow.Author.Tests.{lt-ltb, le-ltb}
 use Rattle.model.specs.Sizes.{ring_word}
 use Rattle.model.specs.Decode.{read_log}

@@ -1,6 +1,5 @@
 -- `disk_log::ring::advance` meets its contract, on this side of the ring's end and past it.
 use native.Mathlib.Omega.{arith}
-use borrow.Author.Rules.{rules}
 use Rattle.disk_log.proofs.Rings.{step_on, step_round}
 use Rattle.disk_log.proofs.ring.advance.Goals as goal
 

@@ -1,6 +1,5 @@
 -- `disk_log::ring::change_in` meets its contract, by what `is_outside` ensures.
 use mathlib.Core.Path.{sym, ◌∙◌}
-use borrow.Author.Rules.{rules}
 use Rattle.disk_log.proofs.ring.change_in.Goals as goal
 
 pub returns-then-is_outside : goal.returns-then-is_outside

@@ -2,7 +2,6 @@
 use Prim.Native.Nat.{◌+◌}
 use mathlib.Core.Path.{sym, ◌∙◌}
 use native.Mathlib.Omega.{arith}
-use borrow.Author.Rules.{rules}
 use Rattle.model.specs.Decode.{decode_at}
 use Rattle.model.proofs.RecordSizes.{has_size}
 use Rattle.disk_log.proofs.Decoding.{decode_none, decode_past, decode_zero, decode_is_change, decode_is_close}

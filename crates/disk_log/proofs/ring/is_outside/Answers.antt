@@ -1,7 +1,6 @@
 -- `disk_log::ring::is_outside` meets its contract, by the entries of sizes in bounds.
 use Prim.Native.Nat.{◌/◌, ◌%◌}
 use native.Mathlib.Omega.{arith}
-use borrow.Author.Rules.{rules}
 use Rattle.disk_log.proofs.Rings.{outside_slot, outside_width}
 use Rattle.disk_log.proofs.ring.is_outside.Goals as goal
 

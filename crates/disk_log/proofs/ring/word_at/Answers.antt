@@ -1,5 +1,4 @@
 -- `disk_log::ring::word_at` meets its contract.
-use borrow.Author.Rules.{rules}
 use Rattle.disk_log.specs.Ring.{read_ring}
 use Rattle.disk_log.proofs.ring.word_at.Goals as goal
 

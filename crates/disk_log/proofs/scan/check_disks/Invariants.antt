@@ -1,21 +1,12 @@
 -- `disk_log::scan::check_disks` meets its contract. Both loops keep: nothing malformed was met, and what is found from here on is what
 -- is found from disk 0 on. The measures are the disks and the words left.
-use Prim.Native.Nat.{ℕ, ◌+◌, ◌-◌, ◌≤◌, ◌<◌}
-use mathlib.Core.Path.{◌≡◌, refl, sym, ap, ◌∙◌}
-use mathlib.Core.Bool.{true}
-use native.Mathlib.Omega.{arith}
-use native.Mathlib.Nat.{sub-zero}
-use lib.ListN.{length, get_or}
-use borrow.Author.Rules.{rules}
-use Rattle.model.specs.declared.Sizes.{Sizes}
+use Prim.Native.Nat.{◌+◌, ◌-◌, ◌≤◌}
+use mathlib.Core.Path.{◌≡◌}
+use lib.ListN.{get_or}
 use Rattle.model.specs.declared.Fault.TheVariants.{NoFault}
-use Rattle.model.specs.Sizes.{sizes_in_bounds}
 use Rattle.model.specs.Scan.{scan, fault_in}
 use Rattle.model.specs.Causes.{fault_from}
-use Rattle.model.proofs.Bounds.{bounded}
-use Rattle.disk_log.specs.Ring.{read_ring, Ring, EntriesOf}
-use Rattle.disk_log.proofs.Rings.{ring_is, disk_fits, disk_ring, disk_begins}
-use Rattle.disk_log.proofs.Scanning.{got_change, got_close, fault_end, fault_change, fault_close, fault_bad, faults_done}
+use Rattle.disk_log.specs.Ring.{read_ring}
 use Rattle.disk_log.proofs.scan.check_disks.Given as goal
 
 abbrev pub invariant-loop-p : goal.invariant-loop-p

@@ -1,13 +1,7 @@
 -- `disk_log::scan::fate_from` meets its contract. The loop's invariant: the fate from p on is the fate from the start on. The measure is
 -- what is left of the log.
-use Prim.Native.Nat.{ℕ, ◌-◌}
-use mathlib.Core.Path.{◌≡◌, refl, ◌∙◌}
+use mathlib.Core.Path.{refl, ◌∙◌}
 use native.Mathlib.Omega.{arith}
-use borrow.Author.Rules.{rules}
-use Rattle.model.specs.declared.Sizes.{Sizes}
-use Rattle.model.specs.Decode.{read_log}
-use Rattle.model.specs.Scan.{scan, fate_in}
-use Rattle.disk_log.specs.Reading.{PagesOf, LiesAt}
 use Rattle.disk_log.proofs.Scanning.{got_change, got_close, fate_end, fate_change, fate_other, fate_close, fate_bad}
 use Rattle.disk_log.proofs.scan.fate_from.Goals as goal
 

@@ -1,16 +1,10 @@
 -- `disk_log::updates::next_updates` meets its contract. The loop's invariant: the positions gathered and those from p on are those from the
 -- start on. While fewer than n are gathered, one is still to be found. Assumes nothing.
-use Prim.Native.Nat.{ℕ, ◌-◌, ◌≤◌, ◌<◌}
+use Prim.Native.Nat.{ℕ, ◌<◌}
 use mathlib.Core.Path.{◌≡◌, refl, sym, ap, ◌∙◌}
 use mathlib.Core.List.{List, ◌++◌}
 use native.Mathlib.Omega.{arith}
-use lib.ListN.{length, take, length-set}
-use borrow.Author.Rules.{rules}
-use Rattle.model.specs.declared.Sizes.{Sizes}
-use Rattle.model.specs.Decode.{read_log}
-use Rattle.model.specs.Scan.{scan}
-use Rattle.disk_log.specs.Reading.{LiesAt, positions_in}
-use Rattle.disk_log.specs.Front.{InTurn}
+use lib.ListN.{take, length-set}
 use Rattle.disk_log.proofs.Fronts.{turn_none, turn_later}
 use Rattle.disk_log.proofs.FrontSteps.{more_at, more_fits, more_step}
 use Rattle.disk_log.proofs.Surveying.{gather_more, gather_one, gather_done}

@@ -1,5 +1,4 @@
 -- `disk_log::updates::note` meets its contract, by its test.
-use borrow.Author.Rules.{rules}
 use borrow.Author.Tests.{eq-eqb, ne_eqb}
 use Rattle.disk_log.proofs.updates.note.Goals as goal
 

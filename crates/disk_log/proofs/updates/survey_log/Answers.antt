@@ -1,23 +1,15 @@
 -- `disk_log::updates::survey_log` meets its contract. The loop's invariant: what is counted and noted and what is found from p on is what is
 -- found from the start on; an update has four words or more. Assumes nothing.
-use Prim.Native.Nat.{ℕ, ◌+◌, ◌-◌, ◌*◌, ◌/◌, ◌%◌, ◌≤◌}
-use mathlib.Core.Path.{◌≡◌, refl, sym, ◌∙◌}
-use mathlib.Core.Bool.{true}
+use Prim.Native.Nat.{◌/◌, ◌%◌}
+use mathlib.Core.Path.{refl, sym, ◌∙◌}
 use native.Mathlib.Omega.{arith}
 use lib.Dec.{eqb}
-use lib.ListN.{length}
 use borrow.Author.Rules.{rules}
-use Rattle.model.specs.declared.Sizes.{Sizes}
-use Rattle.model.specs.Sizes.{sizes_in_bounds}
-use Rattle.model.specs.Decode.{read_log}
-use Rattle.model.specs.Scan.{ring_then_buffer}
 use Rattle.model.proofs.RingThenBuffer.{parts_end}
-use Rattle.disk_log.specs.Reading.{LiesAt}
 use Rattle.disk_log.specs.Ring.{EntriesOf}
-use Rattle.disk_log.specs.Front.{InTurn}
 use Rattle.disk_log.proofs.Fronts.{turn_none, turn_later}
 use Rattle.disk_log.proofs.FrontSteps.{part_none, part_past, part_step}
-use Rattle.disk_log.proofs.Surveying.{Surveying, surveying_start, surveying_pass, surveying_update, noted_length, surveyed_end, surveyed_bad}
+use Rattle.disk_log.proofs.Surveying.{surveying_start, surveying_pass, surveying_update, noted_length, surveyed_end, surveyed_bad}
 use Rattle.disk_log.proofs.updates.survey_log.Goals as goal
 
 pub loop-p-init : goal.loop-p-init

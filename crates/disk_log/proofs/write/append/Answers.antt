@@ -1,8 +1,6 @@
 -- `append` meets its contract. Assumes nothing.
 use native.Mathlib.Omega.{arith}
-use borrow.Author.Tests.{not-true, not-false}
 use Rattle.disk_log.proofs.Append.{put_fits, put_cut, put_flushed, ends_whole, ends_cut}
-use borrow.Author.Rules.{rules}
 use Rattle.disk_log.proofs.write.append.Goals as goal
 
 pub returns-then-fill-n-le64 : goal.returns-then-fill-n-le64

@@ -6,7 +6,6 @@ use lib.ListN.{length, take, replicate}
 use Rattle.model.specs.Record.{encode}
 use Rattle.disk_log.specs.Write.{change_of}
 use Rattle.disk_log.proofs.Words.{change_size, change_length, change_put}
-use borrow.Author.Rules.{rules}
 use Rattle.disk_log.proofs.write.append_change.Goals as goal
 
 pub slice_bounds-words-end : goal.slice_bounds-words-end

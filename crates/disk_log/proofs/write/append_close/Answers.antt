@@ -1,6 +1,5 @@
 -- `append_close` meets its contract. Assumes nothing.
 use Rattle.disk_log.proofs.Words.{close_words}
-use borrow.Author.Rules.{rules}
 use Rattle.disk_log.proofs.write.append_close.Goals as goal
 
 pub returns : goal.returns

@@ -4,7 +4,6 @@ use native.Mathlib.Omega.{arith}
 use lib.ListN.{length-set}
 use Rattle.model.specs.Record.{header}
 use Rattle.disk_log.proofs.Words.{change_words}
-use borrow.Author.Rules.{rules}
 use Rattle.disk_log.proofs.write.encode_change.Goals as goal
 
 pub bounds-words-1 : goal.bounds-words-1

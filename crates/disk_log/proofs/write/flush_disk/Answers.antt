@@ -1,7 +1,5 @@
 -- `flush_disk` meets its contract. Assumes nothing.
 use native.Mathlib.Omega.{arith}
-use borrow.Author.Rules.{rules}
-use borrow.Author.Tests.{not-true, not-false}
 use Rattle.disk_log.proofs.Stores.{flush_nothing, flush_cut, flush_tail}
 use Rattle.disk_log.proofs.write.flush_disk.Goals as goal
 

@@ -1,5 +1,4 @@
 -- `put_record` meets its contract: all words of a list are its part from 0 on. Assumes nothing.
-use borrow.Author.Rules.{rules}
 use Rattle.disk_log.proofs.Words.{put_all}
 use Rattle.disk_log.proofs.write.put_record.Goals as goal
 

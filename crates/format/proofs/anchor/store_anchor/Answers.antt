@@ -1,7 +1,5 @@
 -- `format::anchor::store_anchor` meets its contract: the arrays are stored once the front is. Assumes nothing.
-use borrow.Author.Tests.{not-true, not-false}
 use Rattle.device.proofs.Ran.{ran_then, ran_cut}
-use borrow.Author.Rules.{rules}
 use Rattle.format.proofs.anchor.store_anchor.Goals as goal
 
 pub returns-then-not-store_front : goal.returns-then-not-store_front

@@ -1,5 +1,4 @@
 -- `format::anchor::store_arrays` meets its contract: each array is stored once the one before it is. Assumes nothing.
-use borrow.Author.Tests.{not-true, not-false}
 use Rattle.format.proofs.AnchorParts.{slots_cut, widths_cut, arrays_whole}
 use borrow.Author.Rules.{rules}
 use Rattle.format.proofs.anchor.store_arrays.Goals as goal

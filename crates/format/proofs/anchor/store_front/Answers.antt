@@ -1,7 +1,5 @@
 -- `format::anchor::store_front` meets its contract: the words are stored once the number is 0. Assumes nothing.
-use borrow.Author.Tests.{not-true, not-false}
 use Rattle.format.proofs.AnchorParts.{front_cut, front_whole}
-use borrow.Author.Rules.{rules}
 use Rattle.format.proofs.anchor.store_front.Goals as goal
 
 pub returns-then-not-store_word : goal.returns-then-not-store_word

@@ -1,7 +1,5 @@
 -- `format::devices::store_devices` meets its contract: each part is stored once the one before it is. Assumes nothing.
-use borrow.Author.Tests.{not-true, not-false}
 use Rattle.format.proofs.Joined.{anchor_cut, tails_cut, stores_whole}
-use borrow.Author.Rules.{rules}
 use Rattle.format.proofs.devices.store_devices.Goals as goal
 
 pub returns-then-not-store_anchor : goal.returns-then-not-store_anchor

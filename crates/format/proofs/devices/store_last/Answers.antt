@@ -1,7 +1,5 @@
 -- `format::devices::store_last` meets its contract: the number is stored once the backup is. Assumes nothing.
-use borrow.Author.Tests.{not-true, not-false}
 use Rattle.format.proofs.Joined.{last_cut, last_whole}
-use borrow.Author.Rules.{rules}
 use Rattle.format.proofs.devices.store_last.Goals as goal
 
 pub returns-then-not-store_fill : goal.returns-then-not-store_fill

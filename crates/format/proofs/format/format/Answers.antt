@@ -2,14 +2,12 @@
 -- Assumes nothing.
 use native.Mathlib.Omega.{arith}
 use mathlib.Core.Path.{sym, ◌∙◌}
-use borrow.Author.Tests.{not-true, not-false}
 use Rattle.model.specs.World.{world_of}
 use Rattle.model.proofs.Bounds.{bounded}
 use Rattle.layout.proofs.Laws.{total_made}
 use Rattle.frame.proofs.Verdicts.{refusal_given, task_given}
 use Rattle.format.proofs.Joined.{lay_cut, lay_whole}
 use Rattle.format.proofs.Rows.{format_forbidden, format_anchor, format_sizes, format_lengths, format_accepted, lengths_tested, devices_right, memories_right}
-use borrow.Author.Rules.{rules}
 use Rattle.format.proofs.format.format.Goals as goal
 
 pub returns-then-not-is_shut : goal.returns-then-not-is_shut

@@ -4,7 +4,6 @@ use native.Mathlib.Omega.{arith}
 use Rattle.model.specs.Memory.{copy_at, owner_at, work_words}
 use Rattle.model.proofs.Bounds.{bounded, total_max}
 use Rattle.format.proofs.Joined.{fresh_ran}
-use borrow.Author.Rules.{rules}
 use Rattle.format.proofs.memory.make_fresh.Goals as goal
 
 pub fresh_work-requires : goal.fresh_work-requires

@@ -1,17 +1,10 @@
 -- `format::tails::store_tails` meets its contract: the tails passed are stored. Assumes nothing.
 use native.Mathlib.Omega.{arith}
-use Prim.Native.Nat.{ℕ, ◌-◌, ◌≤◌}
 use mathlib.Core.Path.{◌≡◌, refl}
-use mathlib.Core.List.{List}
-use mathlib.Core.Bool.{true}
-use lib.ListN.{length}
-use borrow.Author.Tests.{not-true, not-false}
 use Rattle.model.specs.Below.{list_below}
 use Rattle.model.specs.Sizes.{tail_word}
-use Rattle.model.specs.World.{world_of}
 use Rattle.model.proofs.Bounds.{bounded}
 use Rattle.model.proofs.Ring.{disk_within}
-use Rattle.device.specs.Ran.{Ran}
 use Rattle.device.proofs.Below.{ran_zero, ran_next, ran_stop}
 use Rattle.format.specs.Parts.{tail_stores}
 use Rattle.format.proofs.Joined.{tail_ran, tail_on, tails_to}

@@ -1,9 +1,7 @@
 -- `frame::checks::common_refusal` meets its contract: rows 1, 2 and 5 by their tests. Assumes nothing.
 use mathlib.Core.Path.{sym, ◌∙◌}
-use borrow.Author.Tests.{not-true, not-false}
 use Rattle.frame.proofs.Fitting.{counted}
 use Rattle.frame.proofs.Verdicts.{stage_refused, counts_refused, lengths_refused, state_refused, anchor_asked}
-use borrow.Author.Rules.{rules}
 use Rattle.frame.proofs.checks.common_refusal.Goals as goal
 
 pub returns-then-not-is_allowed : goal.returns-then-not-is_allowed

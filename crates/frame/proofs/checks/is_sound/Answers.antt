@@ -1,10 +1,8 @@
 -- `frame::checks::is_sound` meets its contract: by cases on the stage. Assumes nothing.
 use mathlib.Core.Path.{refl, sym, ◌∙◌}
-use borrow.Author.Tests.{not-true, not-false}
 use Rattle.model.proofs.Bounds.{bounded}
 use Rattle.model.proofs.Store.Rows.{sizes_sound}
 use Rattle.frame.proofs.Passing.{sound_by_stage}
-use borrow.Author.Rules.{rules}
 use Rattle.frame.proofs.checks.is_sound.Goals as goal
 
 pub returns-then-is_shut : goal.returns-then-is_shut

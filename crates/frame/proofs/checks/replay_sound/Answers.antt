@@ -1,11 +1,9 @@
 -- `frame::checks::replay_sound` meets its contract: the sizes, what is kept of them, then the rest of the test. Assumes nothing.
 use mathlib.Core.Path.{refl, sym, ◌∙◌}
-use borrow.Author.Tests.{not-true, not-false}
 use Rattle.model.specs.State.{base_of}
 use Rattle.model.proofs.Bounds.{bounded}
 use Rattle.model.proofs.KeptBases.{bases_by_page}
 use Rattle.table.proofs.Tests.{replay_split}
-use borrow.Author.Rules.{rules}
 use Rattle.frame.proofs.checks.replay_sound.Goals as goal
 
 pub returns-then-not-sizes_in_bounds : goal.returns-then-not-sizes_in_bounds

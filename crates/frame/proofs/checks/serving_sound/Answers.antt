@@ -1,12 +1,11 @@
 -- `frame::checks::serving_sound` meets its contract: the sizes, what is kept of them, then the rest of the test. Assumes nothing.
 use mathlib.Core.Path.{refl, sym, ◌∙◌}
 use native.Mathlib.Omega.{arith}
-use borrow.Author.Tests.{not-true, not-false, lt-ltb, le-ltb}
+use borrow.Author.Tests.{lt-ltb, le-ltb}
 use Rattle.model.specs.State.{base_of}
 use Rattle.model.proofs.Bounds.{bounded}
 use Rattle.model.proofs.KeptBases.{bases_by_page}
 use Rattle.table.proofs.Tests.{serving_split}
-use borrow.Author.Rules.{rules}
 use Rattle.frame.proofs.checks.serving_sound.Goals as goal
 
 pub returns-then-not-sizes_in_bounds : goal.returns-then-not-sizes_in_bounds

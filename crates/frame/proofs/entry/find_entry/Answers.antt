@@ -1,7 +1,5 @@
 -- `frame::entry::find_entry` meets its contract: by cases on the words of the head. Assumes nothing.
-use borrow.Author.Tests.{not-true, not-false}
 use Rattle.frame.proofs.Entries.{entry_zero, entry_none, entry_outside, entry_unfit, entry_found}
-use borrow.Author.Rules.{rules}
 use Rattle.frame.proofs.entry.find_entry.Goals as goal
 
 pub returns-then-number-eq0 : goal.returns-then-number-eq0

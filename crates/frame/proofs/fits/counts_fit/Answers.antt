@@ -1,8 +1,6 @@
 -- `frame::fits::counts_fit` meets its contract: by cases on the first test. Assumes nothing.
 use mathlib.Core.Path.{refl, sym, ◌∙◌}
-use borrow.Author.Tests.{not-true, not-false}
 use Rattle.frame.specs.Fits.{counts_within}
-use borrow.Author.Rules.{rules}
 use Rattle.frame.proofs.fits.counts_fit.Goals as goal
 
 pub returns-then-not-counts_in_bounds : goal.returns-then-not-counts_in_bounds

@@ -6,7 +6,6 @@ use native.Mathlib.Omega.{arith}
 use borrow.Author.Tests.{lt-ltb, le-ltb, lt-leb, le-leb}
 use Rattle.model.specs.State.{limit}
 use Rattle.frame.specs.Fits.{place_within}
-use borrow.Author.Rules.{rules}
 use Rattle.frame.proofs.fits.place_fits.Goals as goal
 
 pub returns-then-disk-disks : goal.returns-then-disk-disks

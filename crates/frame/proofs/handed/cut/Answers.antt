@@ -1,6 +1,5 @@
 -- `frame::handed::cut` meets its contract: a new state. Assumes nothing.
 use mathlib.Core.Path.{refl}
-use borrow.Author.Rules.{rules}
 use Rattle.frame.proofs.handed.cut.Goals as goal
 
 pub returns : goal.returns

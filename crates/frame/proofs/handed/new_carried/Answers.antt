@@ -1,6 +1,5 @@
 -- `frame::handed::new_carried` meets its contract: field by field. Assumes nothing.
 use mathlib.Core.Path.{refl}
-use borrow.Author.Rules.{rules}
 use Rattle.model.specs.State.{new_core}
 use Rattle.frame.proofs.handed.new_carried.Goals as goal
 

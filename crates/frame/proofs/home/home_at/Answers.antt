@@ -2,7 +2,6 @@
 use mathlib.Core.Path.{refl}
 use Rattle.model.specs.Sizes.{ring_of}
 use Rattle.frame.specs.Home.{home_of}
-use borrow.Author.Rules.{rules}
 use Rattle.frame.proofs.home.home_at.Goals as goal
 
 pub returns : goal.returns

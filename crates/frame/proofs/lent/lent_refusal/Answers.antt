@@ -1,5 +1,4 @@
 -- `frame::lent::lent_refusal` meets its contract. Assumes nothing.
-use borrow.Author.Rules.{rules}
 use Rattle.frame.proofs.lent.lent_refusal.Goals as goal
 
 pub returns : goal.returns

@@ -1,7 +1,6 @@
 -- `frame::lent::refusal_when` meets its contract: the tests in their order. Assumes nothing.
 use mathlib.Core.Path.{refl, sym, ◌∙◌}
-use borrow.Author.Rules.{rules}
-use borrow.Author.Tests.{not-true, not-false, eq-eqb, ne_eqb}
+use borrow.Author.Tests.{eq-eqb, ne_eqb}
 use Rattle.frame.specs.Lent.{lent_refusal}
 use Rattle.frame.proofs.Fitting.{counted}
 use Rattle.frame.proofs.lent.refusal_when.Goals as goal

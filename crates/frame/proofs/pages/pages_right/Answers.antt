@@ -1,7 +1,5 @@
 -- `frame::pages::pages_right` meets its contract: by its two tests. Assumes nothing.
 use mathlib.Core.Path.{sym, ◌∙◌}
-use borrow.Author.Rules.{rules}
-use borrow.Author.Tests.{not-true, not-false}
 use Rattle.frame.proofs.PagesRight.{pages_tested}
 use Rattle.frame.proofs.pages.pages_right.Goals as goal
 

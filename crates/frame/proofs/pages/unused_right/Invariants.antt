@@ -1,14 +1,9 @@
 -- `frame::pages::unused_right` meets its contract: the entries passed are right. Assumes nothing.
 use Prim.Native.Nat.{◌-◌, ◌≤◌}
-use mathlib.Core.Bool.{true, and-false}
-use mathlib.Core.Path.{◌≡◌, refl}
-use native.Mathlib.Omega.{arith}
-use borrow.Author.Rules.{rules}
-use borrow.Author.Tests.{le-ltb, eq-eqb, ne_eqb}
+use mathlib.Core.Bool.{true}
+use mathlib.Core.Path.{◌≡◌}
 use Rattle.model.specs.Below.{all_below}
-use Rattle.model.proofs.Below.{all_more}
 use Rattle.frame.specs.Pages.{unused_at}
-use Rattle.frame.proofs.PagesRight.{unused_begins, unused_wrong, unused_done}
 use Rattle.frame.proofs.pages.unused_right.Given as goal
 
 abbrev pub invariant-loop-i : goal.invariant-loop-i

@@ -1,14 +1,11 @@
 -- `frame::pages::used_right` meets its contract: the pages passed are right, and the sum is that of their words, at most 128 each.
 -- Assumes nothing.
-use Prim.Native.Nat.{◌*◌, ◌-◌, ◌≤◌}
-use mathlib.Core.Bool.{true}
-use mathlib.Core.Path.{◌≡◌, refl, sym, ◌∙◌}
+use mathlib.Core.Path.{refl, sym, ◌∙◌}
 use native.Mathlib.Omega.{arith}
-use borrow.Author.Rules.{rules}
-use Rattle.model.specs.Below.{sum_below, all_below}
+use Rattle.model.specs.Below.{sum_below}
 use Rattle.model.proofs.Below.{sum_step, all_none, all_more}
 use Rattle.layout.proofs.Laws.{product_max}
-use Rattle.frame.specs.Pages.{words_at, used_at}
+use Rattle.frame.specs.Pages.{used_at}
 use Rattle.frame.proofs.PagesRight.{many_slots, wide, wordless, many_words, elsewhere, page_passes, used_wrong, used_done}
 use Rattle.frame.proofs.pages.used_right.Goals as goal
 

@@ -2,14 +2,9 @@
 -- Assumes nothing.
 use Prim.Native.Nat.{◌*◌, ◌-◌, ◌≤◌}
 use mathlib.Core.Bool.{true}
-use mathlib.Core.Path.{◌≡◌, refl, sym, ◌∙◌}
-use native.Mathlib.Omega.{arith}
-use borrow.Author.Rules.{rules}
+use mathlib.Core.Path.{◌≡◌}
 use Rattle.model.specs.Below.{sum_below, all_below}
-use Rattle.model.proofs.Below.{sum_step, all_none, all_more}
-use Rattle.layout.proofs.Laws.{product_max}
 use Rattle.frame.specs.Pages.{words_at, used_at}
-use Rattle.frame.proofs.PagesRight.{many_slots, wide, wordless, many_words, elsewhere, page_passes, used_wrong, used_done}
 use Rattle.frame.proofs.pages.used_right.Given as goal
 
 abbrev pub invariant-loop-i : goal.invariant-loop-i

@@ -1,12 +1,8 @@
 -- `frame::replaying::positions_right` meets its contract: the disks passed are right. Assumes nothing.
 use Prim.Native.Nat.{◌-◌, ◌≤◌}
-use mathlib.Core.Bool.{true, and-false}
-use mathlib.Core.Path.{◌≡◌, refl}
-use native.Mathlib.Omega.{arith}
-use borrow.Author.Rules.{rules}
-use borrow.Author.Tests.{le-leb, lt-leb}
+use mathlib.Core.Bool.{true}
+use mathlib.Core.Path.{◌≡◌}
 use Rattle.model.specs.Below.{all_below}
-use Rattle.model.proofs.Below.{all_none, all_more, all_stop, all_done}
 use Rattle.frame.specs.Pages.{position_right}
 use Rattle.frame.proofs.replaying.positions_right.Given as goal
 

@@ -1,7 +1,6 @@
 -- `frame::replaying::replay_right` meets its contract: its tests are those of the definition, in another order. Assumes nothing.
 use mathlib.Core.Path.{sym, ◌∙◌}
-use borrow.Author.Rules.{rules}
-use borrow.Author.Tests.{not-true, not-false, le-ltb, lt-ltb, lt-leb, le-leb}
+use borrow.Author.Tests.{le-ltb, lt-ltb, lt-leb, le-leb}
 use Rattle.frame.proofs.ReplayRight.{replay_parts}
 use Rattle.frame.proofs.replaying.replay_right.Goals as goal
 

@@ -1,6 +1,5 @@
 -- `frame::settle::settle` meets its contract: by cases on whether all stores were made. Assumes nothing.
 use mathlib.Core.Path.{refl}
-use borrow.Author.Rules.{rules}
 use Rattle.frame.proofs.settle.settle.Goals as goal
 
 pub returns-then-whole : goal.returns-then-whole

@@ -1,11 +1,7 @@
 -- `frame::sizes::above_bytes` meets its contract: the sum is no less than what each of the first i words has above a byte. Assumes nothing.
 use mathlib.Core.Path.{◌≡◌}
-use mathlib.Core.List.{List}
-use Prim.Native.Nat.{ℕ, ◌+◌, ◌-◌, ◌*◌, ◌/◌, ◌≤◌, ◌<◌}
-use native.Mathlib.Omega.{arith}
-use native.Mathlib.Decide.{dec_lt}
+use Prim.Native.Nat.{ℕ, ◌-◌, ◌*◌, ◌/◌, ◌≤◌, ◌<◌}
 use lib.ListN.{get_or}
-use borrow.Author.Rules.{rules}
 use Rattle.frame.proofs.sizes.above_bytes.Given as goal
 
 abbrev pub invariant-loop-i : goal.invariant-loop-i

@@ -1,11 +1,9 @@
 -- `frame::sizes::entries_at` meets its contract: after i turns the first i words are done. Assumes nothing.
-use Prim.Native.Nat.{◌+◌, ◌-◌, ◌≤◌}
+use Prim.Native.Nat.{◌+◌}
 use mathlib.Core.Path.{◌≡◌, refl, sym, ◌∙◌}
 use native.Mathlib.Omega.{arith}
 use native.Mathlib.Nat.{zero-add}
 use lib.ListN.{replicate}
-use lib.Seq.{sets}
-use borrow.Author.Rules.{rules}
 use Rattle.model.specs.Word.{part}
 use Rattle.model.proofs.Parts.{length_part}
 use Rattle.words.proofs.Laws.{copy_more, sets_whole}

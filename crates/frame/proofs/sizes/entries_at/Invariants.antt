@@ -1,14 +1,8 @@
 -- `frame::sizes::entries_at` meets its contract: after i turns the first i words are done. Assumes nothing.
-use Prim.Native.Nat.{◌+◌, ◌-◌, ◌≤◌}
-use mathlib.Core.Path.{◌≡◌, refl, sym, ◌∙◌}
-use native.Mathlib.Omega.{arith}
-use native.Mathlib.Nat.{zero-add}
-use lib.ListN.{replicate}
+use Prim.Native.Nat.{◌-◌, ◌≤◌}
+use mathlib.Core.Path.{◌≡◌}
 use lib.Seq.{sets}
-use borrow.Author.Rules.{rules}
 use Rattle.model.specs.Word.{part}
-use Rattle.model.proofs.Parts.{length_part}
-use Rattle.words.proofs.Laws.{copy_more, sets_whole}
 use Rattle.frame.proofs.sizes.entries_at.Given as goal
 
 abbrev pub invariant-loop-i : goal.invariant-loop-i

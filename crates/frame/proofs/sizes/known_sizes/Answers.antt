@@ -1,8 +1,6 @@
 -- `frame::sizes::known_sizes` meets its contract: sizes within their bounds are bytes. Assumes nothing.
 use mathlib.Core.Path.{refl, sym, ap, ◌∙◌}
 use lib.Dec.{eqb}
-use borrow.Author.Rules.{rules}
-use borrow.Author.Tests.{not-true, not-false}
 use Rattle.model.proofs.Bounds.{bounded}
 use Rattle.frame.proofs.KnownSizes.{head_out, known_not, known_here}
 use Rattle.frame.proofs.sizes.known_sizes.Goals as goal

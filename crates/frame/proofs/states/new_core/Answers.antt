@@ -1,7 +1,6 @@
 -- `frame::states::new_core` meets its contract: every field is what it says. Assumes nothing.
 use mathlib.Core.Path.{refl}
 use Rattle.model.specs.State.{new_core}
-use borrow.Author.Rules.{rules}
 use Rattle.frame.proofs.states.new_core.Goals as goal
 
 pub returns : goal.returns

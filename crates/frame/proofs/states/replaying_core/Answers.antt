@@ -1,5 +1,4 @@
 -- `frame::states::replaying_core` meets its contract: field by field. Assumes nothing.
-use borrow.Author.Rules.{rules}
 use Rattle.frame.proofs.states.replaying_core.Goals as goal
 
 pub returns : goal.returns

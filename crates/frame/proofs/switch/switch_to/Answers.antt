@@ -1,7 +1,5 @@
 -- `frame::switch::switch_to` meets its contract: the number is stored once the starts are. Assumes nothing.
-use borrow.Author.Tests.{not-true, not-false}
 use Rattle.frame.proofs.Switches.{switch_cut, switch_whole}
-use borrow.Author.Rules.{rules}
 use Rattle.frame.proofs.switch.switch_to.Goals as goal
 
 pub returns-then-not-store_copy : goal.returns-then-not-store_copy

@@ -1,6 +1,5 @@
 -- `head::hand::hand_back` meets its contract: by cases on whether the head is saved. Assumes nothing.
 use mathlib.Core.Path.{sym, ◌∙◌}
-use borrow.Author.Rules.{rules}
 use Rattle.head.proofs.Handing.{saved_head, left_whole}
 use Rattle.head.proofs.hand.hand_back.Goals as goal
 

@@ -1,11 +1,8 @@
 -- `head::lists::bases_at` meets its contract: after i turns the first i words are done. Assumes nothing.
-use Prim.Native.Nat.{◌-◌, ◌≤◌}
 use mathlib.Core.Path.{◌≡◌, refl, ◌∙◌}
 use native.Mathlib.Omega.{arith}
 use borrow.Author.Rules.{rules}
-use lib.Seq.{sets, length-sets}
-use Rattle.model.specs.Word.{part}
-use Rattle.head.specs.Narrow.{capped, base_most}
+use Rattle.head.specs.Narrow.{base_most}
 use Rattle.head.proofs.Capped.{capped_none, capped_more, capped_whole}
 use Rattle.head.proofs.lists.bases_at.Goals as goal
 

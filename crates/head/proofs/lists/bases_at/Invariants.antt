@@ -1,12 +1,9 @@
 -- `head::lists::bases_at` meets its contract: after i turns the first i words are done. Assumes nothing.
 use Prim.Native.Nat.{◌-◌, ◌≤◌}
-use mathlib.Core.Path.{◌≡◌, refl, ◌∙◌}
-use native.Mathlib.Omega.{arith}
-use borrow.Author.Rules.{rules}
-use lib.Seq.{sets, length-sets}
+use mathlib.Core.Path.{◌≡◌}
+use lib.Seq.{sets}
 use Rattle.model.specs.Word.{part}
 use Rattle.head.specs.Narrow.{capped, base_most}
-use Rattle.head.proofs.Capped.{capped_none, capped_more, capped_whole}
 use Rattle.head.proofs.lists.bases_at.Given as goal
 
 abbrev pub invariant-loop-i : goal.invariant-loop-i

@@ -1,11 +1,8 @@
 -- `head::lists::put_bases` meets its contract: after i turns the first i words are laid. Assumes nothing.
-use mathlib.Core.Path.{◌≡◌, refl, ◌∙◌}
-use Prim.Native.Nat.{◌-◌, ◌≤◌}
+use mathlib.Core.Path.{refl, ◌∙◌}
 use native.Mathlib.Omega.{arith}
 use borrow.Author.Rules.{rules}
-use lib.ListN.{length}
-use lib.Seq.{sets, length-sets}
-use Rattle.model.specs.Word.{part}
+use lib.Seq.{length-sets}
 use Rattle.head.proofs.Capped.{laid_none, laid_more, laid_whole}
 use Rattle.head.proofs.lists.put_bases.Goals as goal
 

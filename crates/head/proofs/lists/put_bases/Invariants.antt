@@ -1,12 +1,9 @@
 -- `head::lists::put_bases` meets its contract: after i turns the first i words are laid. Assumes nothing.
-use mathlib.Core.Path.{◌≡◌, refl, ◌∙◌}
+use mathlib.Core.Path.{◌≡◌}
 use Prim.Native.Nat.{◌-◌, ◌≤◌}
-use native.Mathlib.Omega.{arith}
-use borrow.Author.Rules.{rules}
 use lib.ListN.{length}
-use lib.Seq.{sets, length-sets}
+use lib.Seq.{sets}
 use Rattle.model.specs.Word.{part}
-use Rattle.head.proofs.Capped.{laid_none, laid_more, laid_whole}
 use Rattle.head.proofs.lists.put_bases.Given as goal
 
 abbrev pub invariant-loop-i : goal.invariant-loop-i

@@ -1,5 +1,4 @@
 -- `head::load::core_in` meets its contract: each list is read at its place. Assumes nothing.
-use borrow.Author.Rules.{rules}
 use Rattle.head.specs.Narrow.{narrowed}
 use Rattle.head.proofs.load.core_in.Goals as goal
 

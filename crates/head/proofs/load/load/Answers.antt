@@ -1,6 +1,5 @@
 -- `head::load::load` meets its contract: by cases on whose the work memory is. Assumes nothing.
 use mathlib.Core.Path.{refl, sym, ap, ◌∙◌}
-use borrow.Author.Rules.{rules}
 use Rattle.model.proofs.View.Head.{own_long, own_view, other_view}
 use Rattle.head.specs.Narrow.{narrowed}
 use Rattle.head.proofs.load.load.Goals as goal

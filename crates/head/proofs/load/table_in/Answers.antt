@@ -1,5 +1,4 @@
 -- `head::load::table_in` meets its contract: each list is read at its place. Assumes nothing.
-use borrow.Author.Rules.{rules}
 use Rattle.head.proofs.load.table_in.Goals as goal
 
 pub returns : goal.returns

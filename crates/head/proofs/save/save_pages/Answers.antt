@@ -1,9 +1,9 @@
 -- `head::save::save_pages` meets its contract: the lists lie one behind the other. Assumes nothing.
-use mathlib.Core.Path.{◌≡◌, refl}
+use mathlib.Core.Path.{◌≡◌}
 use native.Mathlib.Omega.{arith}
 use borrow.Author.Rules.{rules}
 use lib.ListN.{length}
-use Rattle.head.proofs.Laying.{copied, two_runs}
+use Rattle.head.proofs.Laying.{two_runs}
 use Rattle.head.proofs.save.save_pages.Goals as goal
 
 pub put_bytes-requires : goal.put_bytes-requires

@@ -1,6 +1,5 @@
 -- `head::table::is_open` meets its contract: a number other than 0 whose place is below 16. Assumes nothing.
 use borrow.Author.Tests.{eq-eqb, ne_eqb}
-use borrow.Author.Rules.{rules}
 use Rattle.model.specs.State.{is_open, in_table}
 use Rattle.head.proofs.table.is_open.Goals as goal
 

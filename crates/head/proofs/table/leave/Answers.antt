@@ -1,7 +1,6 @@
 -- `head::table::leave` meets its contract: by definition. Assumes nothing.
 use mathlib.Core.Path.{refl}
 use native.Mathlib.Omega.{arith}
-use borrow.Author.Rules.{rules}
 use lib.ListN.{length-set}
 use Rattle.model.specs.Fields.{put_words}
 use Rattle.head.proofs.table.leave.Goals as goal

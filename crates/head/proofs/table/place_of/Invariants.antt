@@ -1,10 +1,6 @@
 -- `head::table::place_of` meets its contract: no place passed holds the number. Assumes nothing.
 use Prim.Native.Nat.{◌-◌, ◌≤◌}
-use mathlib.Core.Path.{◌≡◌}
-use native.Mathlib.Omega.{arith}
-use borrow.Author.Count.{below_more}
-use borrow.Author.Rules.{rules}
-use Rattle.head.proofs.InTable.{Absent, place_found, place_none}
+use Rattle.head.proofs.InTable.{Absent}
 use Rattle.head.proofs.table.place_of.Given as goal
 
 abbrev pub invariant-loop-i : goal.invariant-loop-i

@@ -1,6 +1,5 @@
 -- `head::table::set_fill` meets its contract: by definition. Assumes nothing.
 use mathlib.Core.Path.{refl}
-use borrow.Author.Rules.{rules}
 use Rattle.model.specs.Fields.{put_words}
 use Rattle.head.proofs.table.set_fill.Goals as goal
 

@@ -2,7 +2,6 @@
 use mathlib.Core.Path.{refl}
 use native.Mathlib.Omega.{arith}
 use Rattle.words.proofs.Laws.{copied_part}
-use borrow.Author.Rules.{rules}
 use Rattle.layout.proofs.anchor.read_rows.Goals as goal
 
 pub returns : goal.returns

@@ -3,7 +3,6 @@ use mathlib.Core.Path.{refl}
 use native.Mathlib.Omega.{arith}
 use Rattle.model.specs.Anchor.{sizes_on}
 use Rattle.words.proofs.Laws.{copied_part}
-use borrow.Author.Rules.{rules}
 use Rattle.layout.proofs.anchor.read_sizes.Goals as goal
 
 pub returns : goal.returns

@@ -1,14 +1,9 @@
 -- `layout::bases::bases_of` meets its contract. The loop keeps: the pages passed begin where they should, and the sum is that of their
 -- words, at most 128 each. Assumes nothing.
 use Prim.Native.Nat.{ℕ, ◌*◌, ◌-◌, ◌≤◌, ◌<◌}
-use mathlib.Core.Path.{◌≡◌, refl}
-use native.Mathlib.Omega.{arith}
-use lib.ListN.{length, get_or, length-set}
-use borrow.Author.Rules.{rules}
+use mathlib.Core.Path.{◌≡◌}
+use lib.ListN.{length, get_or}
 use Rattle.model.specs.Below.{sum_below}
-use Rattle.model.specs.Sizes.{slots_in, width_in, page_words, page_base}
-use Rattle.model.proofs.Below.{sum_step}
-use Rattle.layout.proofs.Pages.{page_small, sums_more, bases_filled}
 use Rattle.layout.proofs.bases.bases_of.Given as goal
 
 abbrev pub invariant-loop-i : goal.invariant-loop-i

@@ -2,15 +2,10 @@
 -- words, at most 128 each. Assumes nothing.
 use Prim.Native.Nat.{◌*◌, ◌-◌, ◌≤◌}
 use mathlib.Core.Bool.{true}
-use mathlib.Core.Path.{◌≡◌, refl}
-use native.Mathlib.Omega.{arith}
+use mathlib.Core.Path.{◌≡◌}
 use lib.Dec.{eqb}
 use lib.ListN.{get_or}
-use borrow.Author.Rules.{rules}
 use Rattle.model.specs.Below.{sum_below, all_below}
-use Rattle.model.specs.Sizes.{slots_in, width_in, page_words, page_base, total}
-use Rattle.model.proofs.Below.{sum_step, all_none, all_done}
-use Rattle.layout.proofs.Pages.{page_small, bases_tested, base_more, base_wrong}
 use Rattle.layout.proofs.bases.bases_right.Given as goal
 
 abbrev pub invariant-loop-i : goal.invariant-loop-i

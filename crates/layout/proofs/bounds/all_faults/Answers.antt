@@ -1,10 +1,8 @@
 -- The loop's invariant: the count is 0 exactly where the entries passed are in bounds.
-use Prim.Native.Nat.{◌-◌, ◌≤◌}
-use mathlib.Core.Path.{◌≡◌, sym, ◌∙◌}
+use mathlib.Core.Path.{◌≡◌}
 use native.Mathlib.Omega.{arith}
-use lib.Dec.{eqb}
 use borrow.Author.Rules.{rules}
-use borrow.Author.Tests.{lt-ltb, le-ltb}
+use borrow.Author.Tests.{le-ltb}
 use Rattle.model.specs.Below.{all_below}
 use Rattle.model.specs.Sizes.{slots_in, width_in, page_words, used_entry, unused_entry, entry_in_bounds}
 use Rattle.layout.proofs.Laws.{entries_of}

@@ -1,9 +1,8 @@
 -- The loop's invariant: the first i bytes are done.
-use Prim.Native.Nat.{◌-◌, ◌≤◌}
 use mathlib.Core.Path.{◌≡◌, refl}
 use native.Mathlib.Omega.{arith}
 use borrow.Author.Rules.{rules}
-use lib.ListN.{length, take, length-set}
+use lib.ListN.{length, length-set}
 use Rattle.layout.proofs.Laws.{fill_more, fill_end}
 use Rattle.layout.proofs.bounds.bytes_of.Goals as goal
 

@@ -1,10 +1,7 @@
 -- The loop's invariant: the first i bytes are done.
 use Prim.Native.Nat.{◌-◌, ◌≤◌}
-use mathlib.Core.Path.{◌≡◌, refl}
-use native.Mathlib.Omega.{arith}
-use borrow.Author.Rules.{rules}
-use lib.ListN.{length, take, length-set}
-use Rattle.layout.proofs.Laws.{fill_more, fill_end}
+use mathlib.Core.Path.{◌≡◌}
+use lib.ListN.{length, take}
 use Rattle.layout.proofs.bounds.bytes_of.Given as goal
 
 abbrev pub invariant-loop-i : goal.invariant-loop-i

@@ -1,6 +1,4 @@
 use mathlib.Core.Path.{sym, ◌∙◌}
-use borrow.Author.Rules.{rules}
-use borrow.Author.Tests.{not-true, not-false}
 use Rattle.model.specs.Sizes.{counts_in_bounds}
 use Rattle.layout.proofs.bounds.counts_in_bounds.Goals as goal
 

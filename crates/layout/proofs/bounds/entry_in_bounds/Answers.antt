@@ -1,4 +1,3 @@
-use borrow.Author.Rules.{rules}
 use Rattle.layout.proofs.Faults.{slots_large, width_large, no_fault}
 use Rattle.layout.proofs.bounds.entry_in_bounds.Goals as goal
 

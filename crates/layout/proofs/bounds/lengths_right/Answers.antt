@@ -1,6 +1,5 @@
 -- `layout::bounds::lengths_right` meets its contract: one length after the other. Assumes nothing.
 use mathlib.Core.Path.{refl}
-use borrow.Author.Rules.{rules}
 use borrow.Author.Tests.{eq-eqb, ne_eqb}
 use Rattle.model.specs.Sizes.{log_words}
 use Rattle.model.specs.Memory.{work_words, owner_at}

@@ -1,6 +1,5 @@
 use mathlib.Core.Path.{sym, ◌∙◌}
 use borrow.Author.Rules.{rules}
-use borrow.Author.Tests.{not-true, not-false}
 use Rattle.model.specs.Sizes.{counts_in_bounds}
 use Rattle.model.proofs.Booleans.{both, in_range}
 use Rattle.layout.proofs.Laws.{counts_out, all_entries}

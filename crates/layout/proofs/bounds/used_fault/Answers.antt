@@ -1,5 +1,4 @@
 use native.Mathlib.Omega.{arith}
-use borrow.Author.Rules.{rules}
 use Rattle.layout.proofs.Faults.{no_words, too_many, too_wide, all_right}
 use Rattle.layout.proofs.bounds.used_fault.Goals as goal
 

@@ -1,7 +1,6 @@
 -- `layout::memory::buffer_place` meets its contract. Assumes nothing.
 use mathlib.Core.Path.{refl}
 use native.Mathlib.Omega.{arith}
-use borrow.Author.Rules.{rules}
 use Rattle.model.specs.Memory.{buffer_at}
 use Rattle.layout.proofs.memory.buffer_place.Goals as goal
 

@@ -1,6 +1,5 @@
 -- `layout::memory::copy_place` meets its contract: behind the buffers. Assumes nothing.
 use native.Mathlib.Omega.{arith}
-use borrow.Author.Rules.{rules}
 use Rattle.model.specs.Memory.{copy_at}
 use Rattle.layout.proofs.memory.copy_place.Goals as goal
 

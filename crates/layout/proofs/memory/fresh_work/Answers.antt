@@ -1,7 +1,6 @@
 -- `layout::memory::fresh_work` meets its contract: the owners are the last words, the copy numbers lie before them. Assumes nothing.
 use mathlib.Core.Path.{refl}
 use native.Mathlib.Omega.{arith}
-use borrow.Author.Rules.{rules}
 use Rattle.model.specs.Memory.{copy_at, owner_at}
 use Rattle.layout.specs.Raw.{counts_of}
 use Rattle.layout.proofs.Laws.{fresh_set}

@@ -1,5 +1,4 @@
 -- `layout::memory::owner_place` meets its contract: behind the copy numbers. Assumes nothing.
-use borrow.Author.Rules.{rules}
 use Rattle.model.specs.Memory.{owner_at}
 use Rattle.layout.proofs.memory.owner_place.Goals as goal
 

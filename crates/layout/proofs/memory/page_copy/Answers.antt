@@ -1,7 +1,6 @@
 -- `layout::memory::page_copy` meets its contract: the word at its place. Assumes nothing.
 use mathlib.Core.Path.{refl}
 use native.Mathlib.Omega.{arith}
-use borrow.Author.Rules.{rules}
 use Rattle.model.specs.Memory.{copy_at, copy_of}
 use Rattle.layout.specs.Raw.{counts_of}
 use Rattle.layout.proofs.memory.page_copy.Goals as goal

@@ -1,12 +1,8 @@
 -- The loop's invariant: the sum is that of the pages passed, each below 2^16.
 use Prim.Native.Nat.{◌*◌, ◌-◌, ◌≤◌}
 use mathlib.Core.Path.{◌≡◌}
-use native.Mathlib.Omega.{arith}
-use borrow.Author.Rules.{rules}
 use lib.ListN.{get_or}
 use Rattle.model.specs.Below.{sum_below}
-use Rattle.model.specs.Sizes.{slots_in, width_in, page_words, page_base}
-use Rattle.model.proofs.Below.{sum_step}
 use Rattle.layout.proofs.places.page_base.Given as goal
 
 abbrev pub invariant-loop-i : goal.invariant-loop-i

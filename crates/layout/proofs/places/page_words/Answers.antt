@@ -1,4 +1,3 @@
-use borrow.Author.Rules.{rules}
 use native.Mathlib.Omega.{arith}
 use Rattle.model.specs.Sizes.{slots_in, width_in, page_words}
 use Rattle.layout.proofs.places.page_words.Goals as goal

@@ -1,4 +1,3 @@
-use borrow.Author.Rules.{rules}
 use Rattle.model.specs.Sizes.{total}
 use Rattle.layout.proofs.places.total.Goals as goal
 

@@ -1,11 +1,9 @@
 -- `listing::call::list` meets its contract: rows 1 to 5, and then the others. Assumes nothing.
 use mathlib.Core.Path.{refl, sym, ◌∙◌}
-use borrow.Author.Tests.{not-true, not-false}
 use Rattle.model.proofs.Bounds.{bounded}
 use Rattle.replay.proofs.Checks.{anchor_passed}
 use Rattle.listing.proofs.Calling.{list_stage, list_anchor, list_lent, list_rest, logs_short, bytes_wrong_lem, lent_right}
 use Rattle.model.specs.Sizes.{log_words}
-use borrow.Author.Rules.{rules}
 use Rattle.listing.proofs.call.list.Goals as goal
 
 pub returns-then-not-is_shut : goal.returns-then-not-is_shut

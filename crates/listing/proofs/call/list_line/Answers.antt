@@ -1,5 +1,4 @@
 -- `listing::call::list_line` meets its contract: the answer by what was found, and of the lines laid the one that there is room for.
-use borrow.Author.Rules.{rules}
 use borrow.Author.Tests.{eqb-true, not-false}
 use Rattle.model.specs.Listing.{line_after}
 use Rattle.listing.proofs.Calling.{answers_refused, leaves_bytes, answers_taken, bytes_right, leaves_line}

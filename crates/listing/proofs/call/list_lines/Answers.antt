@@ -3,7 +3,6 @@ use mathlib.Core.Path.{◌≡◌, ap, ◌∙◌}
 use Prim.Native.Nat.{◌-◌, ◌/◌}
 use native.Mathlib.Omega.{arith}
 use lib.ListN.{length}
-use borrow.Author.Rules.{rules}
 use Rattle.model.specs.declared.Answer.TheVariants.{Finished}
 use Rattle.model.specs.Listing.{lines_from, lines_after}
 use Rattle.listing.proofs.Calling.{answers_refused, leaves_bytes, answers_taken, leaves_lines, line_there, lines_counted}

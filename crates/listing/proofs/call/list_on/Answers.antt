@@ -1,7 +1,6 @@
 -- `listing::call::list_on` meets its contract: the tests in the order of the rows. Assumes nothing.
 use mathlib.Core.Path.{refl}
 use native.Mathlib.Omega.{arith}
-use borrow.Author.Rules.{rules}
 use Rattle.model.proofs.Bounds.{bounded}
 use Rattle.listing.proofs.Calling.{logs_refused, logs_right, lines_past, lines_laid}
 use Rattle.listing.proofs.call.list_on.Goals as goal

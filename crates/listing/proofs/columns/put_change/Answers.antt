@@ -1,5 +1,4 @@
 -- `listing::columns::put_change` meets its contract: each column in front of those that are there, and each has room for all digits.
-use borrow.Author.Rules.{rules}
 use native.Mathlib.Omega.{arith}
 use mathlib.Core.Path.{◌∙◌}
 use Rattle.model.specs.Listing.{in_columns}

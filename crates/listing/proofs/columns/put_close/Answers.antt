@@ -1,5 +1,4 @@
 -- `listing::columns::put_close` meets its contract: spaces where a change has three columns.
-use borrow.Author.Rules.{rules}
 use native.Mathlib.Omega.{arith}
 use mathlib.Core.Path.{◌∙◌}
 use Rattle.model.specs.Text.{padded}

@@ -1,5 +1,4 @@
 -- `listing::columns::put_column` meets its contract: the spaces before the digits.
-use borrow.Author.Rules.{rules}
 use native.Mathlib.Omega.{arith}
 use Rattle.model.specs.Text.{last_digits}
 use Rattle.model.proofs.Text.{digits_most}

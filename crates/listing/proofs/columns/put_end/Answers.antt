@@ -1,5 +1,4 @@
 -- `listing::columns::put_end` meets its contract: nothing stands behind the byte.
-use borrow.Author.Rules.{rules}
 use native.Mathlib.Omega.{arith}
 use mathlib.Core.Path.{◌∙◌}
 use lib.ListN.{length-set, drop_of_length-le}

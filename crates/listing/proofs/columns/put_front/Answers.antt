@@ -1,5 +1,4 @@
 -- `listing::columns::put_front` meets its contract: each column in front of those that are there.
-use borrow.Author.Rules.{rules}
 use mathlib.Core.Path.{◌∙◌}
 use Rattle.listing.proofs.columns.put_front.Goals as goal
 

@@ -1,5 +1,4 @@
 -- `listing::columns::put_heading` meets its contract: the text is as long as the line.
-use borrow.Author.Rules.{rules}
 use native.Mathlib.Omega.{arith}
 use mathlib.Core.Path.{◌≡◌, ◌∙◌}
 use lib.ListN.{drop_of_length-le}

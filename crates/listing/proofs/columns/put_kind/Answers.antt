@@ -1,5 +1,4 @@
 -- `listing::columns::put_kind` meets its contract: the spaces before the name.
-use borrow.Author.Rules.{rules}
 use native.Mathlib.Omega.{arith}
 use Rattle.model.specs.Listing.{kind_name}
 use Rattle.listing.proofs.Padding.{column_put}

@@ -1,5 +1,4 @@
 -- `listing::columns::put_middle` meets its contract: each column in front of those that are there.
-use borrow.Author.Rules.{rules}
 use mathlib.Core.Path.{◌∙◌}
 use Rattle.listing.proofs.columns.put_middle.Goals as goal
 

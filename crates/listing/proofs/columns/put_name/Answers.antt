@@ -1,5 +1,4 @@
 -- `listing::columns::put_name` meets its contract: each arm is a name.
-use borrow.Author.Rules.{rules}
 use native.Mathlib.Omega.{arith}
 use borrow.Author.Tests.{ne_eqb}
 use Rattle.model.specs.Listing.{kind_name}

@@ -1,16 +1,11 @@
 -- `listing::pages::lay_disk` meets its contract. The loop keeps: what comes of the records from p on is what comes of all from the
 -- start, and at most as many lines as words were passed. The measure is the words left.
-use Prim.Native.Nat.{◌+◌, ◌-◌, ◌≤◌}
 use mathlib.Core.Path.{◌≡◌, refl, sym, ap, ◌∙◌}
-use mathlib.Core.Logic.{⊎_elim}
-use mathlib.Core.List.{List, ◌++◌}
+use mathlib.Core.List.{List}
 use native.Mathlib.Omega.{arith}
-use lib.ListN.{length}
 use borrow.Author.Rules.{rules}
-use Rattle.model.specs.declared.Sizes.{Sizes}
-use Rattle.model.specs.Scan.{scan}
-use Rattle.model.specs.Listing.{Listed, listed_in}
-use Rattle.disk_log.specs.Ring.{read_ring, EntriesOf}
+use Rattle.model.specs.Listing.{Listed}
+use Rattle.disk_log.specs.Ring.{read_ring}
 use Rattle.disk_log.proofs.Rings.{entries_long}
 use Rattle.listing.specs.Sheets.{finished}
 use Rattle.listing.proofs.Sheets.{Next, next_far, listed_end, listed_bad, listed_next}

@@ -1,17 +1,16 @@
 -- `listing::pages::lay_disks` meets its contract. The loop keeps: what comes of the disks from d on is what comes of all of them. The
 -- measure is the disks left.
-use Prim.Native.Nat.{ℕ, ◌+◌, ◌-◌, ◌*◌, ◌≤◌}
+use Prim.Native.Nat.{ℕ}
 use mathlib.Core.Path.{◌≡◌, refl, ap, ◌∙◌}
 use mathlib.Core.Bool.{true}
 use mathlib.Core.List.{List, [], ◌++◌}
 use native.Mathlib.Omega.{arith}
-use lib.ListN.{length, get_or}
+use lib.ListN.{get_or}
 use borrow.Author.Rules.{rules}
 use Rattle.model.specs.declared.Sizes.{Sizes}
 use Rattle.model.specs.Below.{join_below}
 use Rattle.model.specs.Sizes.{sizes_in_bounds}
-use Rattle.model.specs.Causes.{retained_from}
-use Rattle.model.specs.Listing.{Listed, listed_in}
+use Rattle.model.specs.Listing.{Listed}
 use Rattle.model.proofs.Bounds.{bounded}
 use Rattle.disk_log.specs.Ring.{Ring, EntriesOf}
 use Rattle.disk_log.proofs.Rings.{ring_is, disk_fits, disk_ring}

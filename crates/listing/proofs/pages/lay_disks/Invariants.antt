@@ -1,22 +1,14 @@
 -- `listing::pages::lay_disks` meets its contract. The loop keeps: what comes of the disks from d on is what comes of all of them. The
 -- measure is the disks left.
 use Prim.Native.Nat.{ℕ, ◌+◌, ◌-◌, ◌*◌, ◌≤◌}
-use mathlib.Core.Path.{◌≡◌, refl, ap, ◌∙◌}
-use mathlib.Core.Bool.{true}
-use mathlib.Core.List.{List, [], ◌++◌}
-use native.Mathlib.Omega.{arith}
+use mathlib.Core.Path.{◌≡◌}
+use mathlib.Core.List.{List, ◌++◌}
 use lib.ListN.{length, get_or}
-use borrow.Author.Rules.{rules}
 use Rattle.model.specs.declared.Sizes.{Sizes}
 use Rattle.model.specs.Below.{join_below}
-use Rattle.model.specs.Sizes.{sizes_in_bounds}
 use Rattle.model.specs.Causes.{retained_from}
 use Rattle.model.specs.Listing.{Listed, listed_in}
-use Rattle.model.proofs.Bounds.{bounded}
-use Rattle.disk_log.specs.Ring.{Ring, EntriesOf}
-use Rattle.disk_log.proofs.Rings.{ring_is, disk_fits, disk_ring}
 use Rattle.listing.specs.Sheets.{finished}
-use Rattle.listing.proofs.Disks.{all_checkable, tail_near, disk_listed, join_more, all_laid}
 use Rattle.listing.proofs.pages.lay_disks.Given as goal
 
 -- the records of a disk

@@ -1,8 +1,6 @@
 -- `listing::pages::lay_heading` meets its contract. Assumes nothing.
 use mathlib.Core.Path.{sym, ◌∙◌}
 use native.Mathlib.Omega.{arith}
-use borrow.Author.Rules.{rules}
-use borrow.Author.Tests.{not-true, not-false}
 use Rattle.listing.proofs.Laid.{wanted_room, laid_none, put_laid}
 use Rattle.listing.proofs.pages.lay_heading.Goals as goal
 

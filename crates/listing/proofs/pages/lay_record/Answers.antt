@@ -2,7 +2,6 @@
 use mathlib.Core.Path.{sym, subst, ◌∙◌}
 use native.Mathlib.Omega.{arith}
 use borrow.Author.Rules.{rules}
-use borrow.Author.Tests.{not-true, not-false}
 use Rattle.model.specs.declared.Decoded.{Decoded}
 use Rattle.listing.specs.Sheets.{Fits}
 use Rattle.listing.proofs.Laid.{wanted_room, laid_none, put_laid}

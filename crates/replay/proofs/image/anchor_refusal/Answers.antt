@@ -1,6 +1,5 @@
 -- `replay::image::anchor_refusal` meets its contract: the tests in the definition's order. Assumes nothing.
 use borrow.Author.Tests.{eq-eqb, ne_eqb}
-use borrow.Author.Rules.{rules}
 use Rattle.model.specs.Anchor.{epoch_on}
 use Rattle.replay.specs.Parts.{anchor_refusal}
 use Rattle.replay.proofs.image.anchor_refusal.Goals as goal

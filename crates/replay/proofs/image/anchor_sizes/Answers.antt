@@ -1,6 +1,5 @@
 -- `replay::image::anchor_sizes` meets its contract: sizes in bounds fit into bytes. Assumes nothing.
 use mathlib.Core.Path.{◌∙◌}
-use borrow.Author.Rules.{rules}
 use Rattle.replay.proofs.image.anchor_sizes.Goals as goal
 
 pub narrow-requires : goal.narrow-requires

@@ -1,6 +1,5 @@
 -- `replay::image::check_logs` meets its contract: the tails, then the records. Assumes nothing.
 use lib.ListN.{get_or}
-use borrow.Author.Rules.{rules}
 use Rattle.model.proofs.Bounds.{bounded}
 use Rattle.disk_log.proofs.Ready.{checkable}
 use Rattle.replay.specs.Parts.{finding_of}

@@ -2,7 +2,6 @@
 use mathlib.Core.Path.{sym, ◌∙◌}
 use Prim.Native.Nat.{◌≤◌}
 use native.Mathlib.Omega.{arith}
-use borrow.Author.Rules.{rules}
 use Rattle.model.specs.Anchor.{epoch_on}
 use Rattle.model.proofs.PerDisk.{per_disk_cong, eight_per_disk}
 use Rattle.replay.proofs.Rows.{current_row}

@@ -1,10 +1,6 @@
 -- `replay::image::keep_below` meets its contract: the words passed are kept. Assumes nothing.
-use Prim.Native.Nat.{◌-◌, ◌≤◌}
 use mathlib.Core.Path.{◌≡◌, refl}
-use lib.ListN.{get_or}
 use native.Mathlib.Omega.{arith}
-use borrow.Author.Rules.{rules}
-use Rattle.model.specs.Checkpoint.{eight_below}
 use Rattle.model.proofs.PerDisk.{eight_none, eight_more}
 use Rattle.replay.proofs.image.keep_below.Goals as goal
 

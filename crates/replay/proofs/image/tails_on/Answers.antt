@@ -1,11 +1,8 @@
 -- `replay::image::tails_on` meets its contract: the tails passed are read. Assumes nothing.
-use Prim.Native.Nat.{◌-◌, ◌≤◌}
-use mathlib.Core.Path.{◌≡◌, refl, ◌∙◌}
+use mathlib.Core.Path.{refl, ◌∙◌}
 use native.Mathlib.Omega.{arith}
-use borrow.Author.Rules.{rules}
 use Rattle.model.specs.Sizes.{tail_word}
 use Rattle.model.specs.Causes.{tail_in}
-use Rattle.model.specs.Checkpoint.{eight_below}
 use Rattle.model.proofs.PerDisk.{eight_none, eight_more, eight_per_disk}
 use Rattle.model.proofs.Ring.{disk_within}
 use Rattle.replay.proofs.image.tails_on.Goals as goal

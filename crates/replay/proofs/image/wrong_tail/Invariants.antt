@@ -1,14 +1,10 @@
 -- `replay::image::wrong_tail` meets its contract: no disk passed has a wrong tail. Assumes nothing.
 use Prim.Native.Nat.{ℕ, ◌-◌, ◌≤◌, ◌<◌}
-use mathlib.Core.Path.{◌≡◌, sym, ◌∙◌}
+use mathlib.Core.Path.{◌≡◌}
 use mathlib.Core.Bool.{false}
 use lib.ListN.{get_or}
-use native.Mathlib.Omega.{arith}
-use borrow.Author.Rules.{rules}
 use Rattle.model.specs.Sizes.{ring_of}
-use Rattle.model.proofs.Below.{below_suc}
 use Rattle.replay.specs.Parts.{tail_out}
-use Rattle.replay.proofs.Tails.{search_found, search_none}
 use Rattle.replay.proofs.image.wrong_tail.Given as goal
 
 abbrev pub invariant-loop-d : goal.invariant-loop-d

@@ -1,5 +1,4 @@
 -- `replay::record::is_replayed` meets its contract, for each fate. Assumes nothing.
-use borrow.Author.Rules.{rules}
 use Rattle.model.specs.Record.{in_backup}
 use Rattle.replay.proofs.record.is_replayed.Goals as goal
 

@@ -1,5 +1,4 @@
 -- `replay::record::move_on` meets its contract: one position is set. Assumes nothing.
-use borrow.Author.Rules.{rules}
 use Rattle.model.specs.State.{with_replay}
 use Rattle.model.specs.Restart.{moved_to}
 use Rattle.replay.proofs.record.move_on.Goals as goal

@@ -1,14 +1,9 @@
 -- `replay::ring::page_bases` meets its contract. The loop keeps: the pages passed begin where they should, and the sum is that of their
 -- words. Assumes nothing.
-use Prim.Native.Nat.{ℕ, ◌+◌, ◌*◌, ◌-◌, ◌≤◌, ◌<◌}
-use mathlib.Core.Path.{◌≡◌, refl}
-use native.Mathlib.Omega.{arith}
-use lib.ListN.{length, get_or, length-set}
-use borrow.Author.Rules.{rules}
+use Prim.Native.Nat.{ℕ, ◌*◌, ◌-◌, ◌≤◌, ◌<◌}
+use mathlib.Core.Path.{◌≡◌}
+use lib.ListN.{length, get_or}
 use Rattle.model.specs.Below.{sum_below}
-use Rattle.model.specs.Sizes.{slots_in, width_in, page_words, page_base}
-use Rattle.model.proofs.Below.{sum_step}
-use Rattle.replay.proofs.Runs.{sums_more}
 use Rattle.replay.proofs.ring.page_bases.Given as goal
 
 abbrev pub invariant-loop-i : goal.invariant-loop-i

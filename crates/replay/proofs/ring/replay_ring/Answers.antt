@@ -1,5 +1,4 @@
 -- `replay::ring::replay_ring` meets its contract: by cases on the test. Assumes nothing.
-use borrow.Author.Rules.{rules}
 use Rattle.replay.proofs.ring.replay_ring.Goals as goal
 
 pub returns-then-replays : goal.returns-then-replays

@@ -1,6 +1,5 @@
 -- `replay::ring::xor_ring` meets its contract: in one run, or in two around the ring's end. Assumes nothing.
 use native.Mathlib.Omega.{arith}
-use borrow.Author.Rules.{rules}
 use Rattle.replay.proofs.Runs.{xor_run, xor_round}
 use Rattle.replay.proofs.ring.xor_ring.Goals as goal
 

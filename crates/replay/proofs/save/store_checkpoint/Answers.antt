@@ -1,7 +1,6 @@
 -- `replay::save::store_checkpoint` meets its contract: the checkpoint is made current once all pages are stored. Assumes nothing.
 use native.Mathlib.Omega.{arith}
 use borrow.Author.Rules.{rules}
-use borrow.Author.Tests.{not-true, not-false}
 use Rattle.model.proofs.Bounds.{bounded}
 use Rattle.replay.proofs.Saving.{pages_cut, pages_switched}
 use Rattle.replay.proofs.save.store_checkpoint.Goals as goal

@@ -1,6 +1,5 @@
 -- `replay::take::replay_span` meets its contract: by cases on the test. Assumes nothing.
 use mathlib.Core.Path.{refl}
-use borrow.Author.Rules.{rules}
 use Rattle.replay.proofs.take.replay_span.Goals as goal
 
 pub returns-then-replays : goal.returns-then-replays

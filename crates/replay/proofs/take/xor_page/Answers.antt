@@ -1,6 +1,5 @@
 -- `replay::take::xor_page` meets its contract: the page lies within the page memory, and its copy within the backup. Assumes nothing.
 use native.Mathlib.Omega.{arith}
-use borrow.Author.Rules.{rules}
 use Rattle.model.proofs.Bounds.{bounded}
 use Rattle.layout.proofs.Pages.{page_fits, copy_fits}
 use Rattle.replay.proofs.take.xor_page.Goals as goal

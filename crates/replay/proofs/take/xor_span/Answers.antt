@@ -1,15 +1,7 @@
 -- `replay::take::xor_span` meets its contract: the words passed are XORed in. Assumes nothing.
-use Prim.Native.Nat.{ℕ, ◌-◌, ◌≤◌}
-use mathlib.Core.Path.{◌≡◌, refl}
-use mathlib.Core.List.{[]}
+use mathlib.Core.Path.{refl}
 use native.Mathlib.Omega.{arith}
-use borrow.Author.Rules.{rules}
-use lib.ListN.{length, length-set}
-use Rattle.model.specs.declared.Sizes.{Sizes}
-use Rattle.model.specs.Word.{part}
-use Rattle.model.specs.Decode.{read_log, span}
-use Rattle.model.specs.Image.{xor_at}
-use Rattle.disk_log.specs.Reading.{LiesAt}
+use lib.ListN.{length-set}
 use Rattle.replay.proofs.Taking.{xor_none, xor_more, xor_all_lem}
 use Rattle.replay.proofs.take.xor_span.Goals as goal
 

@@ -1,7 +1,5 @@
 -- `restart::begin::begin` meets its contract: rows 1 to 5, and then the others. Assumes nothing.
 use mathlib.Core.Path.{sym, ◌∙◌}
-use borrow.Author.Tests.{not-true, not-false}
-use borrow.Author.Rules.{rules}
 use Rattle.model.specs.World.{world_of}
 use Rattle.model.proofs.Bounds.{bounded}
 use Rattle.model.proofs.Lengths.{lengths_right_lem}

@@ -1,7 +1,6 @@
 -- `restart::begin::begin_on` meets its contract: the tests in the order of the rows. Assumes nothing.
 use mathlib.Core.Path.{refl}
 use native.Mathlib.Omega.{arith}
-use borrow.Author.Rules.{rules}
 use Rattle.model.specs.Anchor.{epoch_on}
 use Rattle.model.proofs.Bounds.{bounded}
 use Rattle.layout.proofs.Laws.{total_made}

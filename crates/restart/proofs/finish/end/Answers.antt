@@ -1,7 +1,5 @@
 -- `restart::finish::end` meets its contract: its rows, and then its stores. Assumes nothing.
 use mathlib.Core.Path.{refl}
-use borrow.Author.Tests.{not-true, not-false}
-use borrow.Author.Rules.{rules}
 use Rattle.model.specs.Restart.{restart_end_rows}
 use Rattle.model.specs.Call.{restart_end}
 use Rattle.frame.proofs.Given.{common_passed, given_first}

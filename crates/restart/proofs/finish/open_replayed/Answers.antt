@@ -1,9 +1,7 @@
 -- `restart::finish::open_replayed` meets its contract: memory is made fresh once all is stored. Assumes nothing.
-use Prim.Native.Nat.{ℕ}
 use mathlib.Core.Path.{refl, sym}
-use borrow.Author.Tests.{not-true, not-false}
 use native.Mathlib.Omega.{arith}
-use borrow.Author.Rules.{rules, length_unmapped}
+use borrow.Author.Rules.{rules}
 use Rattle.model.specs.Memory.{copy_at, owner_at, work_words}
 use Rattle.model.proofs.Bounds.{total_max}
 use Rattle.replay.proofs.Facts.{replaying, sizes_bounded, words_kept, bases_whole}

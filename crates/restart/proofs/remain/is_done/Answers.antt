@@ -1,6 +1,4 @@
 -- `restart::remain::is_done` meets its contract: the logs first, then the backup. Assumes nothing.
-use borrow.Author.Tests.{not-true, not-false}
-use borrow.Author.Rules.{rules}
 use Rattle.restart.proofs.Remaining.{done_split}
 use Rattle.restart.proofs.remain.is_done.Goals as goal
 

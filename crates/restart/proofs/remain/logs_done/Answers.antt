@@ -1,12 +1,5 @@
 -- `restart::remain::logs_done` meets its contract: of the logs passed nothing remains. Assumes nothing.
-use Prim.Native.Nat.{◌-◌, ◌≤◌}
-use mathlib.Core.Path.{◌≡◌}
-use mathlib.Core.Bool.{true}
-use lib.Dec.{eqb}
-use lib.ListN.{get_or}
 use native.Mathlib.Omega.{arith}
-use borrow.Author.Rules.{rules}
-use Rattle.model.specs.Below.{all_below}
 use Rattle.model.proofs.Below.{all_none, all_more, all_stop, all_done}
 use Rattle.restart.proofs.Remaining.{left_none, left_some}
 use Rattle.restart.proofs.remain.logs_done.Goals as goal

@@ -4,11 +4,7 @@ use mathlib.Core.Path.{◌≡◌}
 use mathlib.Core.Bool.{true}
 use lib.Dec.{eqb}
 use lib.ListN.{get_or}
-use native.Mathlib.Omega.{arith}
-use borrow.Author.Rules.{rules}
 use Rattle.model.specs.Below.{all_below}
-use Rattle.model.proofs.Below.{all_none, all_more, all_stop, all_done}
-use Rattle.restart.proofs.Remaining.{left_none, left_some}
 use Rattle.restart.proofs.remain.logs_done.Given as goal
 
 abbrev pub invariant-loop-d : goal.invariant-loop-d

@@ -2,7 +2,6 @@
 use mathlib.Core.Path.{sym}
 use native.Mathlib.Omega.{arith}
 use lib.ListN.{drop, take-append-drop}
-use borrow.Author.Rules.{rules}
 use Rattle.model.specs.World.{world_of}
 use Rattle.model.specs.View.{head_words, core_of, body_of}
 use Rattle.model.proofs.View.Head.{own_long}

@@ -2,7 +2,6 @@
 use mathlib.Core.Path.{sym}
 use native.Mathlib.Omega.{arith}
 use lib.ListN.{drop, take-append-drop}
-use borrow.Author.Rules.{rules}
 use Rattle.model.specs.World.{world_of}
 use Rattle.model.specs.State.{tail_of}
 use Rattle.model.specs.Restart.{moved_to}

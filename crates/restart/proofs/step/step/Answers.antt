@@ -1,8 +1,6 @@
 -- `restart::step::step` meets its contract: the first rows, and then by the source. Assumes nothing.
 use mathlib.Core.Path.{refl, sym, ◌∙◌}
 use native.Mathlib.Omega.{arith}
-use borrow.Author.Rules.{rules}
-use borrow.Author.Tests.{not-true, not-false}
 use Rattle.model.specs.World.{world_of}
 use Rattle.model.specs.Causes.{when_replaying}
 use Rattle.model.specs.Call.{restart_step}

@@ -2,14 +2,12 @@
 use mathlib.Core.Path.{refl}
 use mathlib.Core.List.{[]}
 use native.Mathlib.Omega.{arith}
-use borrow.Author.Rules.{rules}
 use Rattle.model.specs.Word.{part}
 use Rattle.model.specs.State.{tail_of}
 use Rattle.model.specs.View.{core_of}
 use Rattle.model.proofs.Parts.{length_part}
 use Rattle.model.proofs.View.Head.{own_long}
 use Rattle.replay.proofs.Facts.{eight, tail_low, extent_asked}
-use Rattle.replay.proofs.Stepping.{not_told}
 use Rattle.restart.proofs.Extents.{log_readable, slot_place_lem, slot_fits_lem, difference_ends}
 use Rattle.restart.proofs.Records.{of_log, extent_is, taken_malformed, taken_close, taken_unreadable, taken_change, changed, slot_at, slot_small}
 use Rattle.restart.proofs.step.take_record.Goals as goal

@@ -1,11 +1,7 @@
 -- `run::ahead::all_closed` meets its contract: all that were passed are closed. Assumes nothing.
-use Prim.Native.Nat.{ℕ, ◌-◌, ◌≤◌, ◌<◌}
-use mathlib.Core.Path.{◌≡◌, sym}
-use mathlib.Core.Bool.{true, false, true≢false}
-use lib.ListN.{get_or}
+use mathlib.Core.Path.{sym}
+use mathlib.Core.Bool.{true≢false}
 use native.Mathlib.Omega.{arith}
-use borrow.Author.Rules.{rules}
-use borrow.Author.Tests.{not-false}
 use Rattle.run.proofs.Searching.{closed_more}
 use Rattle.run.proofs.ahead.all_closed.Goals as goal
 

@@ -1,12 +1,8 @@
 -- `run::ahead::all_closed` meets its contract: all that were passed are closed. Assumes nothing.
 use Prim.Native.Nat.{ℕ, ◌-◌, ◌≤◌, ◌<◌}
-use mathlib.Core.Path.{◌≡◌, sym}
-use mathlib.Core.Bool.{true, false, true≢false}
+use mathlib.Core.Path.{◌≡◌}
+use mathlib.Core.Bool.{true, false}
 use lib.ListN.{get_or}
-use native.Mathlib.Omega.{arith}
-use borrow.Author.Rules.{rules}
-use borrow.Author.Tests.{not-false}
-use Rattle.run.proofs.Searching.{closed_more}
 use Rattle.run.proofs.ahead.all_closed.Given as goal
 
 abbrev pub invariant-loop-i : goal.invariant-loop-i

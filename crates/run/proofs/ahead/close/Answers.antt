@@ -1,8 +1,7 @@
 -- `run::ahead::close` meets its contract: by where the number stands. Assumes nothing.
-use mathlib.Core.Path.{refl, sym, ◌∙◌}
+use mathlib.Core.Path.{◌∙◌}
 use mathlib.Core.Bool.{true}
 use native.Mathlib.Omega.{arith}
-use borrow.Author.Rules.{rules}
 use Rattle.run.proofs.Memory.{found_here, found_nowhere}
 use Rattle.run.proofs.Searching.{search_full, search_put, search_closed}
 use Rattle.run.proofs.ahead.close.Goals as goal

@@ -1,6 +1,5 @@
 -- `run::ahead::cut_short` meets its contract. Assumes nothing.
 use native.Mathlib.Omega.{arith}
-use borrow.Author.Rules.{rules}
 use Rattle.run.proofs.Searching.{search_cut, search_lost}
 use Rattle.run.proofs.ahead.cut_short.Goals as goal
 

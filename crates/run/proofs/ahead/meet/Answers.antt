@@ -1,8 +1,7 @@
 -- `run::ahead::meet` meets its contract: by where the number stands. Assumes nothing.
-use mathlib.Core.Path.{refl, sym}
+use mathlib.Core.Path.{refl}
 use mathlib.Core.Bool.{false}
 use native.Mathlib.Omega.{arith}
-use borrow.Author.Rules.{rules}
 use Rattle.run.proofs.Memory.{found_nowhere}
 use Rattle.run.proofs.Searching.{search_put}
 use Rattle.run.proofs.ahead.meet.Goals as goal

@@ -1,19 +1,14 @@
 -- `run::ahead::search_ahead` meets its contract. The loop keeps: of all numbers met, what is known up to p with what is found from p on is
 -- the fate from the start on, and `at` is the index of p. The measure is what is left of the log. Assumes nothing.
 use Prim.Native.Nat.{ℕ, ◌+◌, ◌-◌, ◌%◌, ◌≤◌, ◌<◌}
-use mathlib.Core.Path.{◌≡◌, refl, sym, ◌∙◌}
+use mathlib.Core.Path.{◌≡◌}
 use mathlib.Core.List.{List}
-use native.Mathlib.Omega.{arith}
 use lib.ListN.{length}
-use borrow.Author.Rules.{rules}
 use Rattle.model.specs.declared.Sizes.{Sizes}
 use Rattle.model.specs.declared.Fate.{Fate}
 use Rattle.model.specs.Scan.{scan, fate_in}
 use Rattle.disk_log.specs.Ring.{read_ring, EntriesOf}
-use Rattle.disk_log.proofs.Rings.{entries_long, within, stepped, change_short, close_short}
-use Rattle.disk_log.proofs.Scanning.{got_change, got_close, fate_end, fate_change, fate_other, fate_close, fate_bad}
 use Rattle.run.specs.Run.{Searched}
-use Rattle.run.proofs.Searching.{search_begun, search_on, search_all, search_end}
 use Rattle.run.proofs.ahead.search_ahead.Given as goal
 
 -- every fate from a position on

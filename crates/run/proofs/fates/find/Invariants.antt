@@ -4,11 +4,6 @@ use mathlib.Core.Path.{◌≡◌}
 use mathlib.Core.Bool.{false}
 use lib.Dec.{eqb}
 use lib.ListN.{get_or}
-use native.Mathlib.Omega.{arith}
-use borrow.Author.Rules.{rules}
-use borrow.Author.Tests.{eq-eqb, ne_eqb}
-use Rattle.model.proofs.Below.{below_suc}
-use Rattle.replay.proofs.Tails.{search_found, search_none}
 use Rattle.run.proofs.fates.find.Given as goal
 
 abbrev pub invariant-loop-i : goal.invariant-loop-i

@@ -1,6 +1,5 @@
 -- `run::fates::forget` meets its contract. Assumes nothing.
 use native.Mathlib.Omega.{arith}
-use borrow.Author.Rules.{rules}
 use Rattle.run.proofs.Memory.{forgot, forgot_none}
 use Rattle.run.proofs.fates.forget.Goals as goal
 

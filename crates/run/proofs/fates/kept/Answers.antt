@@ -1,6 +1,5 @@
 -- `run::fates::kept` meets its contract. Assumes nothing.
 use native.Mathlib.Omega.{arith}
-use borrow.Author.Rules.{rules}
 use Rattle.run.proofs.fates.kept.Goals as goal
 
 pub returns-then-used-eq16 : goal.returns-then-used-eq16

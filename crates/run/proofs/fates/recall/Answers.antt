@@ -1,7 +1,6 @@
 -- `run::fates::recall` meets its contract: a fate found in the memory, or searched for. Assumes nothing.
 use mathlib.Core.Path.{sym, ◌∙◌}
 use native.Mathlib.Omega.{arith}
-use borrow.Author.Rules.{rules}
 use Rattle.run.proofs.Memory.{known, found_nowhere, remembers_fewer}
 use Rattle.run.proofs.fates.recall.Goals as goal
 

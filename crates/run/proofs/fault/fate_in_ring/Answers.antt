@@ -1,13 +1,7 @@
 -- `run::fault::fate_in_ring` meets its contract. The loop's invariant: the fate from p on is the fate from the start on, and `at` is the
 -- index of p. The measure is what is left of the log.
-use Prim.Native.Nat.{◌-◌, ◌%◌}
-use mathlib.Core.Path.{◌≡◌, refl, ◌∙◌}
+use mathlib.Core.Path.{refl, ◌∙◌}
 use native.Mathlib.Omega.{arith}
-use lib.ListN.{length}
-use borrow.Author.Rules.{rules}
-use Rattle.model.specs.declared.Sizes.{Sizes}
-use Rattle.model.specs.Scan.{scan, fate_in}
-use Rattle.disk_log.specs.Ring.{read_ring, EntriesOf}
 use Rattle.disk_log.proofs.Rings.{entries_long, within, stepped, change_short, close_short}
 use Rattle.disk_log.proofs.Scanning.{got_change, got_close, fate_end, fate_change, fate_other, fate_close, fate_bad}
 use Rattle.run.proofs.fault.fate_in_ring.Goals as goal

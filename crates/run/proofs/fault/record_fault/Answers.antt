@@ -1,10 +1,9 @@
 -- `run::fault::record_fault` meets its contract: by the record, and by its transaction's fate. Assumes nothing.
-use mathlib.Core.Path.{refl, sym}
+use mathlib.Core.Path.{refl}
 use native.Mathlib.Omega.{arith}
-use borrow.Author.Rules.{rules}
 use Rattle.disk_log.specs.Ring.{read_ring}
 use Rattle.disk_log.proofs.Rings.{entries_long}
-use Rattle.replay.proofs.Stepping.{not_told, fate_sound}
+use Rattle.replay.proofs.Stepping.{fate_sound}
 use Rattle.run.proofs.Faults.{fault_ahead, fault_close, fault_malformed}
 use mathlib.Core.Logic.{inl, inr}
 use Rattle.run.proofs.fault.record_fault.Goals as goal

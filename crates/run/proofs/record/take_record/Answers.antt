@@ -2,10 +2,8 @@
 use Prim.Native.Nat.{◌+◌}
 use mathlib.Core.Path.{refl, sym}
 use native.Mathlib.Omega.{arith}
-use borrow.Author.Rules.{rules}
 use Rattle.disk_log.proofs.Scanning.{got_change, got_close, fate_change, fate_other}
 use Rattle.disk_log.proofs.Rings.{entries_long, within, change_short, close_short}
-use Rattle.replay.proofs.Stepping.{not_told}
 use Rattle.run.proofs.Facts.{slot_sum}
 use Rattle.run.proofs.Memory.{remembers_later}
 use Rattle.run.proofs.Taking.{takes_malformed, takes_close, takes_unreadable, takes_change}

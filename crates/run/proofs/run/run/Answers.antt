@@ -1,7 +1,6 @@
 -- `run::run::run` meets its contract: the first rows, and then by the source. Assumes nothing.
 use mathlib.Core.Path.{refl}
 use native.Mathlib.Omega.{arith}
-use borrow.Author.Rules.{rules}
 use Rattle.model.specs.Restart.{restart_step_rows}
 use Rattle.model.specs.Call.{restart_run}
 use Rattle.frame.proofs.Given.{common_passed, given_first}

@@ -1,20 +1,12 @@
 -- `run::run::run_backup` meets its contract. The loop keeps: the run goes on from here as it would have from the start. The measure is
 -- the pages left of those asked for. Assumes nothing.
 use Prim.Native.Nat.{ℕ, ◌+◌, ◌-◌, ◌≤◌}
-use mathlib.Core.Path.{◌≡◌, refl, ◌∙◌}
+use mathlib.Core.Path.{◌≡◌}
 use mathlib.Core.List.{List}
-use native.Mathlib.Omega.{arith}
 use lib.ListN.{length}
-use borrow.Author.Rules.{rules}
 use Rattle.model.specs.World.{world_of}
-use Rattle.model.specs.State.{with_replay}
-use Rattle.model.proofs.Restart.Words.{length_xor_at}
-use Rattle.model.proofs.Restart.Steps.{remaining_backup}
 use Rattle.run.specs.Run.{Passes, Onward}
-use Rattle.replay.proofs.Facts.{replaying, sizes_bounded}
-use Rattle.replay.proofs.Stepping.{backup_none, no_fault}
-use Rattle.run.proofs.Onward.{run_refused, run_given, step_accepted}
-use Rattle.run.proofs.Backups.{page_at, pages_start, pages_more, pages_done}
+use Rattle.run.proofs.Backups.{page_at}
 use Rattle.run.proofs.run.run_backup.Given as goal
 
 abbrev pub invariant-loop-made : goal.invariant-loop-made

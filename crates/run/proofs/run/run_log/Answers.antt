@@ -1,9 +1,8 @@
 -- `run::run::run_log` meets its contract: what remains, the first record, and then the run. Assumes nothing.
 use Prim.Native.Nat.{◌<◌}
-use mathlib.Core.Path.{◌≡◌, refl, sym, ◌∙◌}
+use mathlib.Core.Path.{refl, sym, ◌∙◌}
 use native.Mathlib.Omega.{arith}
 use lib.ListN.{length}
-use borrow.Author.Rules.{rules}
 use Rattle.model.specs.Sizes.{ring_of}
 use Rattle.model.specs.State.{tail_of}
 use Rattle.model.specs.Restart.{position_of}

@@ -1,22 +1,14 @@
 -- `run::run::run_ring` meets its contract. The loop keeps: the run goes on from here as it would have from the start, every remembered
 -- fate is right from here on, and `at` is the index of p. The measure is the steps left. Assumes nothing.
-use Prim.Native.Nat.{ℕ, ◌-◌, ◌%◌, ◌≤◌, ◌<◌}
-use mathlib.Core.Path.{◌≡◌, refl, sym, ◌∙◌}
+use Prim.Native.Nat.{ℕ, ◌-◌, ◌%◌, ◌≤◌}
+use mathlib.Core.Path.{◌≡◌}
 use mathlib.Core.List.{List}
-use native.Mathlib.Omega.{arith}
 use lib.ListN.{length}
-use borrow.Author.Rules.{rules}
 use Rattle.model.specs.Scan.{scan, fate_in}
 use Rattle.model.specs.World.{world_of}
-use Rattle.model.specs.State.{tail_of}
-use Rattle.model.specs.Restart.{position_of, moved_to}
+use Rattle.model.specs.Restart.{moved_to}
 use Rattle.disk_log.specs.Ring.{read_ring}
-use Rattle.disk_log.proofs.Rings.{entries_long, within, stepped}
 use Rattle.run.specs.Run.{Remembers, Passes, Onward, DiskRing}
-use Rattle.replay.proofs.Facts.{sizes_bounded, replaying}
-use Rattle.run.proofs.Facts.{entries_of_lem, laid_of}
-use Rattle.run.proofs.Memory.{remembers_none}
-use Rattle.run.proofs.Running.{run_start, run_most, run_end, run_record}
 use Rattle.run.proofs.run.run_ring.Given as goal
 
 abbrev pub invariant-loop-made : goal.invariant-loop-made

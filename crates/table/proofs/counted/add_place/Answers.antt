@@ -1,5 +1,4 @@
 -- `table::counted::add_place` meets its contract: each sum is as it was, or has the place's words more. Assumes nothing.
-use borrow.Author.Rules.{rules}
 use native.Mathlib.Omega.{arith}
 use Rattle.table.proofs.Sums.{free_adds, away_adds, place_adds}
 use Rattle.table.proofs.counted.add_place.Goals as goal

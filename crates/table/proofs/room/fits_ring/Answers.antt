@@ -1,6 +1,5 @@
 -- `table::room::fits_ring` meets its contract: within the limit the ring decides, and the sums fit a word. Assumes nothing.
 use native.Mathlib.Omega.{arith}
-use borrow.Author.Rules.{rules}
 use Rattle.table.proofs.HasRoom.{no_room, room_by_ring}
 use Rattle.table.proofs.room.fits_ring.Goals as goal
 

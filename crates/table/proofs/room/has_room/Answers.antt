@@ -1,6 +1,5 @@
 -- `table::room::has_room` meets its contract: what is above the limit has no room. Assumes nothing.
 use native.Mathlib.Omega.{arith}
-use borrow.Author.Rules.{rules}
 use Rattle.table.proofs.HasRoom.{no_room}
 use Rattle.table.proofs.room.has_room.Goals as goal
 

@@ -1,13 +1,10 @@
 -- `table::room::idlest` meets its contract: the best of the disks passed. Assumes nothing.
 use Prim.Native.Nat.{◌-◌, ◌≤◌}
-use mathlib.Core.Path.{◌≡◌, refl}
-use native.Mathlib.Omega.{arith}
-use borrow.Author.Rules.{rules}
+use mathlib.Core.Path.{◌≡◌}
 use mathlib.Core.Bool.{◌&&◌}
 use Rattle.model.specs.Classes.{in_set}
 use Rattle.model.specs.Room.{has_room, load_of, idlest_below}
-use Rattle.table.specs.Parts.{logs_of, sums_of, core_of, idlest_in}
-use Rattle.table.proofs.HasRoom.{choice_computed, idlest_step}
+use Rattle.table.specs.Parts.{logs_of, sums_of, core_of}
 use Rattle.table.proofs.room.idlest.Given as goal
 
 abbrev pub invariant-loop-d : goal.invariant-loop-d

@@ -1,6 +1,5 @@
 -- `table::room::is_idler` meets its contract: by cases on the tests. Assumes nothing.
 use mathlib.Core.Path.{refl}
-use borrow.Author.Rules.{rules}
 use borrow.Author.Tests.{eq-eqb, ne_eqb}
 use Rattle.table.proofs.room.is_idler.Goals as goal
 

@@ -1,6 +1,5 @@
 -- `table::room::started_blocks` meets its contract: a block that is not whole is started. Assumes nothing.
 use native.Mathlib.Omega.{arith}
-use borrow.Author.Rules.{rules}
 use Rattle.model.specs.Room.{started_blocks}
 use Rattle.table.proofs.room.started_blocks.Goals as goal
 

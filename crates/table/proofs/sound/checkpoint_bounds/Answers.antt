@@ -1,6 +1,5 @@
 -- `table::sound::checkpoint_bounds` meets its contract: by cases on the tests, in the order of the definition. Assumes nothing.
 use borrow.Author.Tests.{le-ltb, lt-ltb, le-leb, lt-leb}
-use borrow.Author.Rules.{rules}
 use Rattle.table.proofs.Tests.{ends_parts}
 use Rattle.table.proofs.sound.checkpoint_bounds.Goals as goal
 

@@ -1,6 +1,5 @@
 -- `table::sound::covers` meets its contract: a position is at or below the tail, or in the buffer. Assumes nothing.
 use borrow.Author.Tests.{lt-leb}
-use borrow.Author.Rules.{rules}
 use Rattle.model.specs.Below.{within}
 use Rattle.table.proofs.Tests.{within_tail, within_buffer}
 use Rattle.table.proofs.sound.covers.Goals as goal

@@ -1,6 +1,5 @@
 -- `table::sound::disk_sound` meets its contract: by cases on the tests. Assumes nothing.
 use borrow.Author.Tests.{lt-leb, le-leb, eq-eqb, ne_eqb}
-use borrow.Author.Rules.{rules}
 use Rattle.table.proofs.sound.disk_sound.Goals as goal
 
 pub returns-then-kept-reserved : goal.returns-then-kept-reserved

@@ -1,9 +1,6 @@
 -- `table::sound::ends_sound` meets its contract: the ends passed lie in their logs. Assumes nothing.
-use Prim.Native.Nat.{◌-◌, ◌≤◌}
-use mathlib.Core.Bool.{true}
-use mathlib.Core.Path.{◌≡◌, refl, sym, ◌∙◌}
+use mathlib.Core.Path.{refl, sym, ◌∙◌}
 use native.Mathlib.Omega.{arith}
-use borrow.Author.Tests.{not-true, not-false}
 use borrow.Author.Rules.{rules}
 use Rattle.model.specs.Below.{all_below}
 use Rattle.model.specs.State.{start_of, tail_of, fill_of, end_of}

@@ -1,14 +1,9 @@
 -- `table::sound::ends_sound` meets its contract: the ends passed lie in their logs. Assumes nothing.
 use Prim.Native.Nat.{◌-◌, ◌≤◌}
 use mathlib.Core.Bool.{true}
-use mathlib.Core.Path.{◌≡◌, refl, sym, ◌∙◌}
-use native.Mathlib.Omega.{arith}
-use borrow.Author.Tests.{not-true, not-false}
-use borrow.Author.Rules.{rules}
+use mathlib.Core.Path.{◌≡◌}
 use Rattle.model.specs.Below.{all_below}
-use Rattle.model.specs.State.{start_of, tail_of, fill_of, end_of}
 use Rattle.table.specs.Parts.{end_within}
-use Rattle.model.proofs.Below.{all_more, all_stop, all_done}
 use Rattle.table.proofs.sound.ends_sound.Given as goal
 
 abbrev pub invariant-loop-d : goal.invariant-loop-d

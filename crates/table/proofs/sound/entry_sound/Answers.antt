@@ -1,7 +1,6 @@
 -- `table::sound::entry_sound` meets its contract: by cases on the tests, in the order of the definition. Assumes nothing.
 use native.Mathlib.Omega.{arith}
 use borrow.Author.Tests.{lt-leb, le-leb, lt-ltb, le-ltb, eq-eqb, ne_eqb}
-use borrow.Author.Rules.{rules}
 use Rattle.model.specs.State.{start_of, tail_of, fill_of, end_of}
 use Rattle.table.specs.Parts.{entry_sound}
 use Rattle.table.proofs.sound.entry_sound.Goals as goal

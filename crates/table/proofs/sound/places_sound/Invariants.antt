@@ -1,18 +1,12 @@
 -- `table::sound::places_sound` meets its contract: the places passed are sound, and the sums are over them. Assumes nothing.
 use Prim.Native.Nat.{ℕ, ◌-◌, ◌≤◌, ◌<◌, min}
-use mathlib.Core.Bool.{true, true≢false}
-use mathlib.Core.Path.{◌≡◌, refl, sym, ap, ◌∙◌}
-use native.Mathlib.Omega.{arith}
-use borrow.Author.Tests.{not-true, not-false}
-use borrow.Author.Rules.{rules}
-use lib.ListN.{length, get_or, get_or-replicate}
+use mathlib.Core.Bool.{true}
+use mathlib.Core.Path.{◌≡◌}
+use lib.ListN.{length, get_or}
 use Rattle.model.specs.Below.{sum_below, all_below}
 use Rattle.model.specs.State.{place_sound}
-use Rattle.model.proofs.Below.{all_more, all_stop, all_done}
 use Rattle.model.proofs.Reserved.{reserved_by}
 use Rattle.table.specs.Parts.{cap, logs_of, entries_of, table_of, core_of}
-use Rattle.table.proofs.Places.{reserved_more, reserved_all}
-use Rattle.table.proofs.Tests.{place_computed}
 use Rattle.table.proofs.sound.places_sound.Given as goal
 
 abbrev pub invariant-loop-i : goal.invariant-loop-i

@@ -1,6 +1,5 @@
 -- `table::sound::replay_bounds` meets its contract: by cases on the tests, in the order of the definition. Assumes nothing.
 use borrow.Author.Tests.{le-ltb, lt-ltb, le-leb, lt-leb}
-use borrow.Author.Rules.{rules}
 use Rattle.table.proofs.sound.replay_bounds.Goals as goal
 
 pub returns-then-core-ge-LIMIT : goal.returns-then-core-ge-LIMIT

@@ -1,8 +1,6 @@
 -- `table::sound::serving_bounds` meets its contract: by cases on the first test. Assumes nothing.
 use mathlib.Core.Bool.{and-false, and-true}
 use mathlib.Core.Path.{refl, sym, ◌∙◌}
-use borrow.Author.Tests.{not-true, not-false}
-use borrow.Author.Rules.{rules}
 use Rattle.model.specs.Below.{all_below}
 use Rattle.model.specs.State.{disk_sound}
 use Rattle.table.proofs.Tests.{disks_computed, places_parts}

@@ -7,7 +7,6 @@ use Rattle.model.specs.View.{core_of}
 use Rattle.frame.proofs.FirstChecks.{lent_ready, own_ready}
 use Rattle.frame.proofs.Shown.{shown_refused}
 use Rattle.txn.proofs.Beginning.{begin_refused, begin_anchor, begin_full, begin_spent, begin_crowded, begin_accepted, chosen_word, begun_words, begin_serves}
-use borrow.Author.Rules.{rules}
 use Rattle.txn.proofs.begin.begin.Goals as goal
 
 pub returns-then-refusal-ne0 : goal.returns-then-refusal-ne0

@@ -1,6 +1,5 @@
 -- `txn::begin::idlest_disk` meets its contract: the head's words of the disks are the view's. Assumes nothing.
 use mathlib.Core.Path.{◌∙◌}
-use borrow.Author.Rules.{rules}
 use Rattle.model.specs.Word.{part}
 use Rattle.model.specs.Room.{idlest}
 use Rattle.txn.proofs.Beginning.{idlest_words}

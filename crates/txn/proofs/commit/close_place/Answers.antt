@@ -1,6 +1,5 @@
 -- `txn::commit::close_place` meets its contract: one word, then the place. Assumes nothing.
 use mathlib.Core.Path.{refl}
-use borrow.Author.Rules.{rules}
 use Rattle.model.specs.Fields.{put_words}
 use Rattle.txn.proofs.commit.close_place.Goals as goal
 

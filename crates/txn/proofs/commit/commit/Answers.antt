@@ -1,9 +1,7 @@
 -- `txn::commit::commit` meets its contract: each refusal is the first row that applies, and then the task. Assumes nothing.
 use Prim.Native.Nat.{◌≤◌}
-use mathlib.Core.Path.{◌≡◌, refl, ◌∙◌}
+use mathlib.Core.Path.{refl, ◌∙◌}
 use native.Mathlib.Omega.{arith}
-use lib.ListN.{length}
-use borrow.Author.Tests.{not-true, not-false}
 use Rattle.model.specs.Record.{commit_kind}
 use Rattle.model.specs.World.{world_of}
 use Rattle.model.specs.Call.{commit}

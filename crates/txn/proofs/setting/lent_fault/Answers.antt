@@ -1,7 +1,5 @@
 -- `txn::setting::lent_fault` meets its contract: the tests in the order of the rows. Assumes nothing.
 use mathlib.Core.Path.{refl, sym, ◌∙◌}
-use borrow.Author.Rules.{rules}
-use borrow.Author.Tests.{not-true, not-false}
 use Rattle.txn.specs.ClassChecks.{lent_fault}
 use Rattle.txn.proofs.setting.lent_fault.Goals as goal
 

@@ -6,7 +6,6 @@ use Rattle.model.specs.Call.{set_classes}
 use Rattle.classes.proofs.Tables.{table_bytes}
 use Rattle.frame.proofs.Shown.{shown_refused}
 use Rattle.txn.proofs.ClassesSet.{settable, set_refused, set_wrong, set_uncovered, set_twice, set_accepted, set_serves}
-use borrow.Author.Rules.{rules}
 use Rattle.txn.proofs.setting.set_classes.Goals as goal
 
 pub returns-then-fault-ne0 : goal.returns-then-fault-ne0
