@@ -1,5 +1,4 @@
 -- `hall::formatted` meets its contract: a new state is formatted, with the program's sizes.
-use borrow.Author.Rules.{rules}
 use mathlib.Core.Path.{refl}
 use Rattle.hall.specs.Running.{sizes}
 use Rattle.hall.proofs.Starting.{formatted_anew}

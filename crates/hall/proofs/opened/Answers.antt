@@ -1,5 +1,4 @@
 -- `hall::opened` meets its contract: a format, and the heading.
-use borrow.Author.Rules.{rules}
 use native.Mathlib.Omega.{arith}
 use Rattle.hall.proofs.Holding.{console_opened}
 use Rattle.hall.proofs.opened.Goals as goal

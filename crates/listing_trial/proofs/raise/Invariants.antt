@@ -1,5 +1,4 @@
 -- `raise` is safe and ends.
-use borrow.Author.Rules.{rules}
 use Rattle.listing_trial.proofs.raise.Given as goal
 
 abbrev pub invariant-loop-left : goal.invariant-loop-left

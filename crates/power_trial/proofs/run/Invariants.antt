@@ -1,7 +1,6 @@
 -- `run` is safe and ends.
 use lib.ListN.{length}
 use mathlib.Core.Path.{◌≡◌}
-use borrow.Author.Rules.{rules}
 use Rattle.power_trial.proofs.run.Given as goal
 
 abbrev pub invariant-loop-left : goal.invariant-loop-left

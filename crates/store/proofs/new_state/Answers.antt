@@ -1,9 +1,8 @@
 -- `store::new_state` meets its contract: a new state does nothing and is shut. Assumes nothing.
-use mathlib.Core.Path.{refl, ap, ◌∙◌}
+use mathlib.Core.Path.{ap}
 use Rattle.model.specs.State.{sound, new_core}
 use Rattle.model.proofs.View.Back.{view_new}
 use Rattle.model.proofs.View.Shown.{new_serves}
-use borrow.Author.Rules.{rules}
 use Rattle.store.proofs.new_state.Goals as goal
 
 pub returns : goal.returns

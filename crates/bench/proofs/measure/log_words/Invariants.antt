@@ -1,5 +1,5 @@
 -- `bench::measure::log_words` is safe and ends. Assumes nothing.
-use Rattle.std.proofs.Common.{◌-◌, ◌≤◌, rules}
+use Rattle.std.proofs.Common.{◌-◌, ◌≤◌}
 use Rattle.bench.proofs.measure.log_words.Given as goal
 
 abbrev pub invariant-loop-d : goal.invariant-loop-d

@@ -1,5 +1,5 @@
 -- `bench::restarts::all_replayed` is safe and ends. Assumes nothing.
-use Rattle.std.proofs.Common.{◌≡◌, ◌-◌, ◌≤◌, length, rules}
+use Rattle.std.proofs.Common.{◌≡◌, ◌-◌, ◌≤◌, length}
 use Rattle.bench.proofs.restarts.all_replayed.Given as goal
 
 abbrev pub invariant-loop-d : goal.invariant-loop-d

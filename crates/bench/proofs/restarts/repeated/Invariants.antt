@@ -1,5 +1,5 @@
 -- `bench::restarts::repeated` is safe and ends. Assumes nothing.
-use Rattle.std.proofs.Common.{◌≡◌, ◌-◌, length, rules}
+use Rattle.std.proofs.Common.{◌≡◌, ◌-◌, length}
 use Rattle.bench.proofs.restarts.repeated.Given as goal
 
 abbrev pub invariant-loop-i : goal.invariant-loop-i

@@ -1,5 +1,5 @@
 -- `bench::restarts::source_stepped` is safe and ends. Assumes nothing.
-use Rattle.std.proofs.Common.{◌≡◌, ◌-◌, ◌≤◌, length, arith, rules}
+use Rattle.std.proofs.Common.{◌≡◌, ◌-◌, ◌≤◌, length}
 use Rattle.bench.proofs.restarts.source_stepped.Given as goal
 
 abbrev pub invariant-loop-i : goal.invariant-loop-i

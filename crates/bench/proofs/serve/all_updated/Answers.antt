@@ -1,5 +1,5 @@
 -- `bench::serve::all_updated` is safe and ends. Assumes nothing.
-use Rattle.std.proofs.Common.{◌≡◌, ◌-◌, ◌≤◌, length, arith, rules}
+use Rattle.std.proofs.Common.{arith, rules}
 use Rattle.bench.proofs.serve.all_updated.Goals as goal
 
 pub loop-tries-smaller-then-is_refused : goal.loop-tries-smaller-then-is_refused

@@ -1,5 +1,5 @@
 -- `bench::serve::all_updated` is safe and ends. Assumes nothing.
-use Rattle.std.proofs.Common.{◌≡◌, ◌-◌, ◌≤◌, length, arith, rules}
+use Rattle.std.proofs.Common.{◌≡◌, ◌-◌, ◌≤◌, length}
 use Rattle.bench.proofs.serve.all_updated.Given as goal
 
 abbrev pub invariant-loop-tries : goal.invariant-loop-tries

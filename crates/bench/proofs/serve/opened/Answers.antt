@@ -1,5 +1,5 @@
 -- `bench::serve::opened` is safe and ends. Assumes nothing.
-use Rattle.std.proofs.Common.{◌≡◌, ◌-◌, ◌≤◌, length, arith, rules}
+use Rattle.std.proofs.Common.{arith, rules}
 use Rattle.bench.proofs.serve.opened.Goals as goal
 
 pub loop-tries-smaller-then-is_refused : goal.loop-tries-smaller-then-is_refused

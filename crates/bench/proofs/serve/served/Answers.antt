@@ -1,5 +1,5 @@
 -- `bench::serve::served` is safe and ends. Assumes nothing.
-use Rattle.std.proofs.Common.{◌≡◌, ◌-◌, ◌≤◌, length, arith, rules}
+use Rattle.std.proofs.Common.{arith, rules}
 use Rattle.bench.proofs.serve.served.Goals as goal
 
 pub loop-i-smaller : goal.loop-i-smaller

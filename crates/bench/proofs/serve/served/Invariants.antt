@@ -1,5 +1,5 @@
 -- `bench::serve::served` is safe and ends. Assumes nothing.
-use Rattle.std.proofs.Common.{◌≡◌, ◌-◌, ◌≤◌, length, arith, rules}
+use Rattle.std.proofs.Common.{◌≡◌, ◌-◌, ◌≤◌, length}
 use Rattle.bench.proofs.serve.served.Given as goal
 
 abbrev pub invariant-loop-i : goal.invariant-loop-i

@@ -1,5 +1,5 @@
 -- `bench::setup::set_entries` is safe and ends. Assumes nothing.
-use Rattle.std.proofs.Common.{◌≡◌, ◌-◌, ◌≤◌, length, arith, length-set, rules}
+use Rattle.std.proofs.Common.{arith, length-set}
 use Rattle.bench.proofs.setup.set_entries.Goals as goal
 
 pub loop-i-preserved : goal.loop-i-preserved

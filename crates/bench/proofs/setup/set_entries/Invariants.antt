@@ -1,5 +1,5 @@
 -- `bench::setup::set_entries` is safe and ends. Assumes nothing.
-use Rattle.std.proofs.Common.{◌≡◌, ◌-◌, ◌≤◌, length, arith, length-set, rules}
+use Rattle.std.proofs.Common.{◌≡◌, ◌-◌, ◌≤◌, length}
 use Rattle.bench.proofs.setup.set_entries.Given as goal
 
 abbrev pub invariant-loop-i : goal.invariant-loop-i

@@ -1,5 +1,5 @@
 -- `bench::stream::product` is safe and ends. Assumes nothing.
-use Rattle.std.proofs.Common.{◌%◌, ◌≤◌, mul-le-mul_right, arith, rules}
+use Rattle.std.proofs.Common.{◌%◌, ◌≤◌, mul-le-mul_right, arith}
 use Rattle.bench.proofs.stream.product.Goals as goal
 
 pub overflow_mul-result : goal.overflow_mul-result

@@ -1,5 +1,5 @@
 -- `bench::stream::spread` is safe and ends. Assumes nothing.
-use Rattle.std.proofs.Common.{◌≡◌, ◌-◌, ◌≤◌, length, arith, length-set, rules}
+use Rattle.std.proofs.Common.{arith, length-set}
 use Rattle.bench.proofs.stream.spread.Goals as goal
 
 pub loop-k-preserved : goal.loop-k-preserved

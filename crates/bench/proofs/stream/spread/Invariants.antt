@@ -1,5 +1,5 @@
 -- `bench::stream::spread` is safe and ends. Assumes nothing.
-use Rattle.std.proofs.Common.{◌≡◌, ◌-◌, ◌≤◌, length, arith, length-set, rules}
+use Rattle.std.proofs.Common.{◌≡◌, ◌-◌, ◌≤◌, length}
 use Rattle.bench.proofs.stream.spread.Given as goal
 
 abbrev pub invariant-loop-k : goal.invariant-loop-k

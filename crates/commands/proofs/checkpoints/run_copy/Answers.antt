@@ -1,5 +1,4 @@
 -- `commands::checkpoints::run_copy` meets its contract: the line shows what the call gives.
-use borrow.Author.Rules.{rules}
 use Rattle.commands.specs.Meaning.{line_of}
 use Rattle.commands.proofs.Showing.{shows}
 use Rattle.commands.proofs.checkpoints.run_copy.Goals as goal

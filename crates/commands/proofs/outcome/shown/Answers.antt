@@ -1,5 +1,4 @@
 -- `commands::outcome::shown` meets its contract, by the cases of an answer.
-use borrow.Author.Rules.{rules}
 use Rattle.commands.proofs.Showing.{shown_finished, shown_refused, shown_cut}
 use Rattle.commands.proofs.outcome.shown.Goals as goal
 

@@ -1,7 +1,5 @@
 -- `commands::restarts::replay` meets its contract: what came before it was refused, nothing is left, or one run takes what is left.
-use borrow.Author.Rules.{rules}
-use borrow.Author.Tests.{not-true, not-false}
-use mathlib.Core.Path.{◌≡◌, sym, ◌∙◌}
+use mathlib.Core.Path.{sym, ◌∙◌}
 use Rattle.model.specs.Call.{Gives}
 use Rattle.model.proofs.View.Served.{served_gives}
 use Rattle.commands.proofs.Replaying.{end_refused, end_reached, end_run}

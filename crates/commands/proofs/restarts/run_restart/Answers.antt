@@ -1,5 +1,4 @@
 -- `commands::restarts::run_restart` meets its contract: it ends where the replay was refused, or with the end of the restart.
-use borrow.Author.Tests.{not-true, not-false}
 use mathlib.Core.Path.{refl, sym, ◌∙◌}
 use Rattle.commands.specs.Meaning.{line_of}
 use Rattle.commands.proofs.Showing.{shows_own}

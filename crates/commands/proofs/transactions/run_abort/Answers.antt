@@ -1,5 +1,4 @@
 -- `commands::transactions::run_abort` meets its contract: the line shows what the call gives.
-use borrow.Author.Rules.{rules}
 use Rattle.commands.specs.Meaning.{line_of}
 use Rattle.commands.proofs.Showing.{shows}
 use Rattle.commands.proofs.transactions.run_abort.Goals as goal

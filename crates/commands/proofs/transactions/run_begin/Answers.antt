@@ -1,5 +1,4 @@
 -- `commands::transactions::run_begin` meets its contract: the value is the transaction answered.
-use borrow.Author.Rules.{rules}
 use Rattle.commands.specs.Meaning.{line_of}
 use Rattle.commands.proofs.Showing.{shows_own}
 use Rattle.commands.proofs.transactions.run_begin.Goals as goal

@@ -1,5 +1,4 @@
 -- `commands::transactions::run_get` meets its contract: the value is what was read.
-use borrow.Author.Rules.{rules}
 use mathlib.Core.Path.{refl}
 use Rattle.commands.specs.Meaning.{line_of}
 use Rattle.commands.proofs.Showing.{shows}

@@ -1,5 +1,4 @@
 -- `commands::transactions::run_set` meets its contract: the value is what was read before, XOR the value set.
-use borrow.Author.Rules.{rules}
 use Rattle.commands.specs.Meaning.{line_of}
 use Rattle.commands.proofs.Showing.{shows_difference}
 use Rattle.commands.proofs.transactions.run_set.Goals as goal

@@ -1,5 +1,4 @@
 -- `commands::transactions::slot_word` meets its contract.
-use borrow.Author.Rules.{rules}
 use Rattle.commands.specs.Shown.{slot_word}
 use Rattle.commands.proofs.Showing.{no_word}
 use Rattle.commands.proofs.transactions.slot_word.Goals as goal

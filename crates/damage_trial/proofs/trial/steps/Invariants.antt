@@ -1,5 +1,4 @@
 -- `steps` is safe and ends.
-use borrow.Author.Rules.{rules}
 use Rattle.damage_trial.proofs.trial.steps.Given as goal
 
 abbrev pub invariant-loop-left : goal.invariant-loop-left

@@ -1,14 +1,11 @@
 -- `hall::console::feed` meets its contract: what is left of the piece, taken in from here, gives what the whole piece gives.
-use borrow.Author.Rules.{rules}
-use mathlib.Core.Path.{◌≡◌, refl, ◌∙◌}
+use mathlib.Core.Path.{◌≡◌}
 use Prim.Native.Nat.{ℕ, ◌+◌, ◌*◌, ◌-◌, ◌≤◌}
 use mathlib.Core.List.{List}
-use native.Mathlib.Omega.{arith}
 use lib.ListN.{length, drop}
 use Rattle.model.specs.World.{world_of}
 use Rattle.hall.specs.Running.{Program, fed}
 use Rattle.hall.specs.Held.{Stands}
-use Rattle.hall.proofs.Feeding.{fed_through}
 use Rattle.hall.proofs.console.feed.Given as goal
 
 abbrev pub invariant-loop-at : goal.invariant-loop-at

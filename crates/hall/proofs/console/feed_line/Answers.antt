@@ -1,5 +1,4 @@
 -- `hall::console::feed_line` meets its contract: a line's bytes are read, and the line is run if its end is there.
-use borrow.Author.Rules.{rules}
 use native.Mathlib.Omega.{arith}
 use Rattle.hall.proofs.Feeding.{line_ends, line_goes_on, piece_some}
 use Rattle.hall.proofs.Holding.{piece_read, has_begun}

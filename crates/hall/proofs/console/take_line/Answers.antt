@@ -1,5 +1,4 @@
 -- `hall::console::take_line` meets its contract: the line that is read is run, counted and shown.
-use borrow.Author.Rules.{rules}
 use native.Mathlib.Omega.{arith}
 use Rattle.hall.proofs.Holding.{line_run}
 use Rattle.hall.proofs.console.take_line.Goals as goal

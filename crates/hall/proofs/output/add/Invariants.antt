@@ -1,12 +1,8 @@
 -- `hall::output::add` meets its contract: so much of the text is there.
-use borrow.Author.Rules.{rules}
-use mathlib.Core.Path.{◌≡◌, refl}
+use mathlib.Core.Path.{◌≡◌}
 use Prim.Native.Nat.{◌+◌, ◌-◌, ◌≤◌}
-use mathlib.Core.List.{◌++◌, append-nil}
-use native.Mathlib.Omega.{arith}
+use mathlib.Core.List.{◌++◌}
 use lib.ListN.{length, take}
-use lib.Seq.{take-length}
-use Rattle.hall.proofs.Gathering.{byte_added}
 use Rattle.hall.proofs.output.add.Given as goal
 
 abbrev pub invariant-loop-i : goal.invariant-loop-i

@@ -1,5 +1,4 @@
 -- `hall::output::add_line` meets its contract: the line's text is added.
-use borrow.Author.Rules.{rules}
 use native.Mathlib.Omega.{arith}
 use mathlib.Core.Path.{◌≡◌}
 use lib.ListN.{length, take}

@@ -1,5 +1,4 @@
 -- `hall::output::text_of` meets its contract.
-use borrow.Author.Rules.{rules}
 use borrow.Author.Tests.{eq-eqb, ne_eqb}
 use Rattle.hall.specs.Running.{text_of}
 use Rattle.hall.proofs.output.text_of.Goals as goal

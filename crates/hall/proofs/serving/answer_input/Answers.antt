@@ -1,5 +1,4 @@
 -- `hall::serving::answer_input` meets its contract: the lines, then the last one, then the tally.
-use borrow.Author.Rules.{rules}
 use native.Mathlib.Omega.{arith}
 use mathlib.Core.Path.{◌∙◌}
 use Rattle.model.proofs.Booleans.{true_false}

@@ -1,5 +1,4 @@
 -- `hall::serving::close` meets its contract: the tally is added.
-use borrow.Author.Rules.{rules}
 use native.Mathlib.Omega.{arith}
 use mathlib.Core.Path.{◌≡◌}
 use lib.ListN.{length, take}

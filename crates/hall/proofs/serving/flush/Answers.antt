@@ -1,6 +1,5 @@
 -- `hall::serving::flush` meets its contract: nothing waits any more.
 use native.Mathlib.Omega.{arith}
-use borrow.Author.Rules.{rules}
 use mathlib.Core.Path.{refl, sym}
 use lib.Seq.{length-take-le}
 use Rattle.hall.proofs.Holding.{all_handed}

@@ -1,15 +1,11 @@
 -- `hall::serving::serve` meets its contract: some of the input is taken in. The measure is the number of turns that are left.
-use borrow.Author.Rules.{rules}
-use native.Mathlib.Omega.{arith}
-use mathlib.Core.Path.{◌≡◌, refl}
-use mathlib.Core.Logic.{inl, inr}
-use mathlib.Core.List.{List, [], ◌++◌}
+use mathlib.Core.Path.{◌≡◌}
+use mathlib.Core.List.{List}
 use Prim.Native.Nat.{ℕ}
 use lib.ListN.{length}
 use Rattle.model.specs.World.{world_of}
 use Rattle.hall.specs.Running.{Program, fed}
 use Rattle.hall.specs.Held.{Stands}
-use Rattle.hall.proofs.Feeding.{fed_append}
 use Rattle.hall.proofs.serving.serve.Given as goal
 
 abbrev pub invariant-loop-turns : goal.invariant-loop-turns

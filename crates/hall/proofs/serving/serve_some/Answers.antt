@@ -1,6 +1,4 @@
 -- `hall::serving::serve_some` meets its contract: what came is taken in, all of it, and its text is handed on.
-use borrow.Author.Rules.{rules}
-use native.Mathlib.Omega.{arith}
 use mathlib.Core.Path.{refl, sym}
 use mathlib.Core.List.{[]}
 use Rattle.hall.specs.Running.{fed}

@@ -1,5 +1,4 @@
 -- `line_faults` is safe and ends.
-use borrow.Author.Rules.{rules}
 use Rattle.listing_trial.proofs.comparing.line_faults.Given as goal
 
 abbrev pub invariant-loop-left : goal.invariant-loop-left

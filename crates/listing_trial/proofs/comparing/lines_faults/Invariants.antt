@@ -1,5 +1,4 @@
 -- `lines_faults` is safe and ends.
-use borrow.Author.Rules.{rules}
 use Rattle.listing_trial.proofs.comparing.lines_faults.Given as goal
 
 abbrev pub invariant-loop-left : goal.invariant-loop-left

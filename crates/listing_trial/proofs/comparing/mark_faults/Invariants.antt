@@ -1,5 +1,4 @@
 -- `mark_faults` is safe and ends.
-use borrow.Author.Rules.{rules}
 use Rattle.listing_trial.proofs.comparing.mark_faults.Given as goal
 
 abbrev pub invariant-loop-left : goal.invariant-loop-left

@@ -1,5 +1,4 @@
 -- `put_marks` is safe and ends.
-use borrow.Author.Rules.{rules}
 use Rattle.listing_trial.proofs.comparing.put_marks.Given as goal
 
 abbrev pub invariant-loop-left : goal.invariant-loop-left

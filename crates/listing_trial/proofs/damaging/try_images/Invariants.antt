@@ -1,5 +1,4 @@
 -- `try_images` is safe and ends.
-use borrow.Author.Rules.{rules}
 use Rattle.listing_trial.proofs.damaging.try_images.Given as goal
 
 abbrev pub invariant-loop-left : goal.invariant-loop-left

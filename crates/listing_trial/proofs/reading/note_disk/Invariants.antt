@@ -1,5 +1,4 @@
 -- `note_disk` is safe and ends.
-use borrow.Author.Rules.{rules}
 use Rattle.listing_trial.proofs.reading.note_disk.Given as goal
 
 abbrev pub invariant-loop-left : goal.invariant-loop-left

@@ -1,5 +1,4 @@
 -- `note_records` is safe and ends.
-use borrow.Author.Rules.{rules}
 use Rattle.listing_trial.proofs.reading.note_records.Given as goal
 
 abbrev pub invariant-loop-left : goal.invariant-loop-left

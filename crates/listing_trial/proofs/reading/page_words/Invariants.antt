@@ -1,5 +1,4 @@
 -- `page_words` is safe and ends.
-use borrow.Author.Rules.{rules}
 use Rattle.listing_trial.proofs.reading.page_words.Given as goal
 
 abbrev pub invariant-loop-left : goal.invariant-loop-left

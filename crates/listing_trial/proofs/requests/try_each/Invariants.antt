@@ -1,5 +1,4 @@
 -- `try_each` is safe and ends.
-use borrow.Author.Rules.{rules}
 use Rattle.listing_trial.proofs.requests.try_each.Given as goal
 
 abbrev pub invariant-loop-left : goal.invariant-loop-left

@@ -1,5 +1,4 @@
 -- `try_pieces` is safe and ends.
-use borrow.Author.Rules.{rules}
 use Rattle.listing_trial.proofs.requests.try_pieces.Given as goal
 
 abbrev pub invariant-loop-left : goal.invariant-loop-left

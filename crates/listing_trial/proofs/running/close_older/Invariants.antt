@@ -1,5 +1,4 @@
 -- `close_older` is safe and ends.
-use borrow.Author.Rules.{rules}
 use Rattle.listing_trial.proofs.running.close_older.Given as goal
 
 abbrev pub invariant-loop-left : goal.invariant-loop-left

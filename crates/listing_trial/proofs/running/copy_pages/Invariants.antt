@@ -1,5 +1,4 @@
 -- `copy_pages` is safe and ends.
-use borrow.Author.Rules.{rules}
 use Rattle.listing_trial.proofs.running.copy_pages.Given as goal
 
 abbrev pub invariant-loop-left : goal.invariant-loop-left

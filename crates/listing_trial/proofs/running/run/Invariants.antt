@@ -1,5 +1,4 @@
 -- `run` is safe and ends.
-use borrow.Author.Rules.{rules}
 use Rattle.listing_trial.proofs.running.run.Given as goal
 
 abbrev pub invariant-loop-left : goal.invariant-loop-left

@@ -1,5 +1,4 @@
 -- `turns` is safe and ends.
-use borrow.Author.Rules.{rules}
 use Rattle.listing_trial.proofs.running.turns.Given as goal
 
 abbrev pub invariant-loop-left : goal.invariant-loop-left

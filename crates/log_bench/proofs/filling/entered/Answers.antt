@@ -1,5 +1,4 @@
 -- `log_bench::filling::entered` is safe and ends: the calls that are left fall. Assumes nothing.
-use borrow.Author.Rules.{rules}
 use Rattle.log_bench.proofs.filling.entered.Goals as goal
 
 pub first_turn-turn-requires : goal.first_turn-turn-requires

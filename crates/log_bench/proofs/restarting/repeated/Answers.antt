@@ -1,5 +1,4 @@
 -- `log_bench::restarting::repeated` is safe and ends: the restarts that are left fall. Assumes nothing.
-use borrow.Author.Rules.{rules}
 use Rattle.log_bench.proofs.restarting.repeated.Goals as goal
 
 pub new_state-requires : goal.new_state-requires

@@ -1,5 +1,4 @@
 -- `log_bench::restarting::repeated` is safe and ends: the restarts that are left fall. Assumes nothing.
-use borrow.Author.Rules.{rules}
 use Rattle.log_bench.proofs.restarting.repeated.Given as goal
 
 abbrev pub invariant-loop-left : goal.invariant-loop-left

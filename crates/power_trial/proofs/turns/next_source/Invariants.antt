@@ -1,5 +1,4 @@
 -- `next_source` is safe and ends.
-use borrow.Author.Rules.{rules}
 use Rattle.power_trial.proofs.turns.next_source.Given as goal
 
 abbrev pub invariant-loop-left : goal.invariant-loop-left

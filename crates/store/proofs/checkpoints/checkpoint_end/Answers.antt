@@ -3,7 +3,6 @@ use mathlib.Core.Path.{refl}
 use Rattle.model.specs.World.{world_of}
 use Rattle.model.specs.Call.{checkpoint_end}
 use Rattle.store.proofs.Served.{read_room, read_served}
-use borrow.Author.Rules.{rules}
 use Rattle.store.proofs.checkpoints.checkpoint_end.Goals as goal
 
 pub kept-requires : goal.kept-requires

@@ -3,7 +3,6 @@ use mathlib.Core.Path.{refl}
 use Rattle.model.specs.World.{world_of}
 use Rattle.model.specs.Call.{format}
 use Rattle.store.proofs.Served.{lent_room, lent_served}
-use borrow.Author.Rules.{rules}
 use Rattle.store.proofs.formats.format.Goals as goal
 
 pub kept-requires : goal.kept-requires

@@ -1,6 +1,5 @@
 -- `store::listings::list_lines` meets its contract: whatever the other slices hold, the answer is the verdict's.
 use mathlib.Core.Path.{refl}
-use borrow.Author.Rules.{rules}
 use lib.ListN.{length}
 use Rattle.model.specs.World.{world_of}
 use Rattle.model.specs.Listing.{not_lines}

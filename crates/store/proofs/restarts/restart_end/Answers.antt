@@ -3,7 +3,6 @@ use mathlib.Core.Path.{refl}
 use Rattle.model.specs.World.{world_of}
 use Rattle.model.specs.Call.{restart_end}
 use Rattle.store.proofs.Served.{lent_room, lent_served}
-use borrow.Author.Rules.{rules}
 use Rattle.store.proofs.restarts.restart_end.Goals as goal
 
 pub kept-requires : goal.kept-requires

@@ -1,5 +1,4 @@
 -- `store::restarts::restart_remaining` meets its contract: what the call answers of the state. Assumes nothing.
-use borrow.Author.Rules.{rules}
 use Rattle.store.proofs.restarts.restart_remaining.Goals as goal
 
 pub returns : goal.returns

@@ -2,7 +2,6 @@
 use Rattle.model.specs.World.{world_of}
 use Rattle.model.specs.Call.{begin}
 use Rattle.store.proofs.Handing.{handed_on}
-use borrow.Author.Rules.{rules}
 use Rattle.store.proofs.transactions.begin.Goals as goal
 
 pub returns : goal.returns

@@ -2,7 +2,6 @@
 use Rattle.model.specs.World.{world_of}
 use Rattle.model.specs.Call.{commit}
 use Rattle.store.proofs.Handing.{handed_on}
-use borrow.Author.Rules.{rules}
 use Rattle.store.proofs.transactions.commit.Goals as goal
 
 pub returns : goal.returns

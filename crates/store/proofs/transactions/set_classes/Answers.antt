@@ -1,7 +1,6 @@
 -- `store::transactions::set_classes` meets its contract: what the call gives, handed back, whatever the other slices hold. Assumes nothing.
 use Rattle.model.specs.Call.{set_classes}
 use Rattle.store.proofs.Handing.{handed_over}
-use borrow.Author.Rules.{rules}
 use Rattle.store.proofs.transactions.set_classes.Goals as goal
 
 pub returns : goal.returns

@@ -1,6 +1,5 @@
 -- `store::whole::kept` meets its contract: what is handed back, handed on. Assumes nothing.
 use mathlib.Core.Path.{refl}
-use borrow.Author.Rules.{rules}
 use Rattle.store.proofs.whole.kept.Goals as goal
 
 pub returns : goal.returns

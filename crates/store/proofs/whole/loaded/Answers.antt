@@ -1,5 +1,4 @@
 -- `store::whole::loaded` meets its contract: the state of what is carried and of the head. Assumes nothing.
-use borrow.Author.Rules.{rules}
 use Rattle.store.proofs.whole.loaded.Goals as goal
 
 pub returns : goal.returns
