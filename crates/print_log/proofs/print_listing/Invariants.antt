@@ -1,6 +1,5 @@
 -- `print_listing` is safe and ends.
 use Prim.Native.Nat.{◌-◌}
-use borrow.Author.Rules.{rules}
 use mathlib.Core.Path.{◌≡◌}
 use lib.ListN.{length}
 use Rattle.print_log.proofs.print_listing.Given as goal

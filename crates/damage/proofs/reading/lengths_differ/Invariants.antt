@@ -1,5 +1,4 @@
 -- `lengths_differ` is safe and ends.
-use borrow.Author.Rules.{rules}
 use Rattle.damage.proofs.reading.lengths_differ.Given as goal
 
 abbrev pub invariant-loop-left : goal.invariant-loop-left

@@ -1,5 +1,4 @@
 -- `sizes_faults` is safe and ends.
-use borrow.Author.Rules.{rules}
 use Rattle.damage.proofs.reading.sizes_faults.Given as goal
 
 abbrev pub invariant-loop-left : goal.invariant-loop-left

@@ -1,5 +1,4 @@
 -- `first_malformed` is safe and ends.
-use borrow.Author.Rules.{rules}
 use Rattle.damage.proofs.records.first_malformed.Given as goal
 
 abbrev pub invariant-loop-left : goal.invariant-loop-left

@@ -1,5 +1,4 @@
 -- `is_closed` is safe and ends.
-use borrow.Author.Rules.{rules}
 use Rattle.damage.proofs.replay.is_closed.Given as goal
 
 abbrev pub invariant-loop-left : goal.invariant-loop-left

@@ -1,5 +1,4 @@
 -- `replayed` is safe and ends.
-use borrow.Author.Rules.{rules}
 use Rattle.damage.proofs.replay.replayed.Given as goal
 
 abbrev pub invariant-loop-left : goal.invariant-loop-left

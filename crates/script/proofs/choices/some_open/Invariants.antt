@@ -1,5 +1,4 @@
 -- `some_open` is safe and ends.
-use borrow.Author.Rules.{rules}
 use Rattle.script.proofs.choices.some_open.Given as goal
 
 abbrev pub invariant-loop-left : goal.invariant-loop-left
