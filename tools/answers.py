@@ -1,11 +1,11 @@
 #!/usr/bin/env python3
 """Turns a crate's old Proof.antt files, which close a function's needs by hand, into Invariants.antt and Answers.antt.
 
-usage: tools/answers.py CRATE NAMES      in the repository's root; NAMES is what `rt check --generated DIR --old-names` wrote as DIR/names.json
+usage: tools/answers.py CRATE NAMES [FUNCTION..]      in the repository's root (all functions, or those named as module/function); NAMES is what `rt check --generated DIR --old-names` wrote as DIR/names.json
 
 Needs and goals stand in the same order, so each answer goes to the goal at its place. `c.before..F.x` becomes `c.STEP.x`, where STEP is the
 step that stands so many places back. An answer that is only `search rules` or `omega arith` goes: the check tries those itself.
-What it cannot turn it says, on a line that begins with the function; such a Proof.antt stays.
+What it cannot turn it says, on a line that begins with the function; such a Proof.antt stays. The others move to target/old-proofs.
 """
 import json
 import os
@@ -584,13 +584,13 @@ def convert(path):
         out("Answers.antt", "Goals", ans_out, helpers)
     elif helpers and any("tie." not in d["type"] for _, d in helpers):
         fn.say("helpers without answers: " + ", ".join(n for n, _ in helpers))
-    os.rename(os.path.join(folder, "Proof.antt"), os.path.join("/tmp/old-proofs", CRATE + "--" + label + ".antt"))
+    os.rename(os.path.join(folder, "Proof.antt"), os.path.join("target/old-proofs", CRATE + "--" + label + ".antt"))
     for s in fn.said:
         print(f"{CRATE} {label}: {s}")
 
 
 def main():
-    os.makedirs("/tmp/old-proofs", exist_ok=True)
+    os.makedirs("target/old-proofs", exist_ok=True)
     root = os.path.join(HERE, "proofs")
     n = 0
     for folder, dirs, files in os.walk(root):

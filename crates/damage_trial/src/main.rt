@@ -6,7 +6,7 @@
 // - each call is lent every slice a word short first, and must then answer 2 or 5 where no lower number applies;
 // - a refused call must leave every word.
 // Standard input may begin with a number: how many random images are tried (500 where there is none). To run it longer:
-//     echo 60000 | target/bin/damage_trial
+//     echo 60000 | crates/damage_trial/out/damage_trial
 #![tactic(auto)]
 
 mod acts;

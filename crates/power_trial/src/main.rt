@@ -2,7 +2,7 @@
 // each answer (number, value, stores made, budget left), each read, and after each restart the pages, word for word. Some calls are
 // lent a slice that is a word short; of these it is also compared that they leave the slices (of the logs, the first 8,192 words).
 // Standard input may begin with a number: how many lists are tried on each size (1 where there is none). To run it longer:
-//     echo 100 | target/bin/power_trial
+//     echo 100 | crates/power_trial/out/power_trial
 #![tactic(auto)]
 
 mod turns;
