@@ -119,19 +119,7 @@ def as_record(body, names):
                     break
         before = s[:i].rstrip()
         if before == "" or before.endswith((" in", "=", "\nin")):
-            parts, depth, word = [], 0, ""
-            for ch in s[i + 1 : -1]:
-                if ch in OPEN:
-                    depth += 1
-                if ch in CLOSE:
-                    depth -= 1
-                if ch == "," and depth == 0:
-                    parts.append(word.strip())
-                    word = ""
-                else:
-                    word += ch
-            if word.strip():
-                parts.append(word.strip())
+            parts = split_commas(s[i + 1 : -1])
             while 1 < len(parts) < len(names) and re.match(r"\(.*\)$", parts[-1], re.S) and len(split_commas(parts[-1][1:-1])) > 1:
                 parts[-1:] = split_commas(parts[-1][1:-1])
             if len(parts) == len(names):
@@ -163,10 +151,8 @@ def args_of(text):
 
 def chunks(text):
     """Top-level declarations: (name, type, unfolding lines, body lines, comment)."""
-    decls, cur = [], []
-    lines = text.split("\n")
     groups, cur = [], []
-    for l in lines:
+    for l in text.split("\n"):
         if l.strip() == "":
             if cur:
                 groups.append(cur)
@@ -206,7 +192,7 @@ def aligned(needs, by_name, goals):
 
     n, g = len(needs), len(goals)
     if n == g:
-        return needs, needs
+        return needs
     best = {(0, 0): (0, None)}
     for i in range(n + 1):
         for k in range(g + 1):
@@ -220,14 +206,14 @@ def aligned(needs, by_name, goals):
                 if (i + 1, k) not in best or best[i + 1, k][0] > cost + 1:
                     best[i + 1, k] = (cost + 1, (i, k, False))
     if (n, g) not in best:
-        return None, needs
+        return None
     kept, at = [], (n, g)
     while at != (0, 0):
         i, k, took = best[at][1]
         if took:
             kept.append(needs[i])
         at = (i, k)
-    return kept[::-1], needs
+    return kept[::-1]
 
 
 class Fn:
@@ -483,12 +469,12 @@ def convert(path):
     pre = [a for a in args if a in by_name and re.match(r"tie\.(invariant|decreases|measure)", by_name[a]["type"])]
     needs = [a for a in args if a not in pre]
     goals = j["needs"]
-    needs, lam = aligned(needs, by_name, goals)
+    asked = needs
+    needs = aligned(needs, by_name, goals)
     if needs is None:
-        print(f"{CRATE} {label}: {len(lam)} needs and {len(goals)} goals: old {[by_name[a]['type'] if a in by_name else a for a in lam]} new {goals}")
+        print(f"{CRATE} {label}: {len(asked)} needs and {len(goals)} goals: old {[by_name[a]['type'] if a in by_name else a for a in asked]} new {goals}")
         return
     inv_out, ans_out = [], []
-    ends_used = set(pre)
     # invariants and measures
     loops = j["loops"]
     count = {}
