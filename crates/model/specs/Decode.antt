@@ -57,7 +57,7 @@ decode_sized s end p w number copy (Words n) =
     (cond (eqb number 0) Malformed
     (cond (ltb (kind_field w) 2) (decoded_change s w number copy (p + n)) (decoded_close w number (p + n))))
 
--- a record by its first three words (round-trip in proofs/RoundTrip.antt: what was encoded is decoded; decoding_kept in
+-- a record by its first three words (round_trip in proofs/RoundTrip.antt: what was encoded is decoded; decoding_kept in
 -- proofs/RecordSizes.antt: as it was before S-6)
 unfoldable pub decode_words : Sizes → ℕ → ℕ → ℕ → ℕ → ℕ → Decoded
 decode_words s end p w number copy = decode_sized s end p w number copy (record_size (kind_field w) (width_field w))

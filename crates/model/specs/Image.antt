@@ -67,6 +67,6 @@ unfoldable pub replayed_below : Image → ℕ → List ℕ → List ℕ
 replayed_below i zero words = words
 replayed_below i (suc n) words = replayed i.sizes i.epoch (log_of i n) (replayed_below i n words)
 
--- the pages that a restart makes: the backup, then each log (replay-order: whatever the order of its steps)
+-- the pages that a restart makes: the backup, then each log (replay_order: whatever the order of its steps)
 unfoldable pub restarted : Image → List ℕ
 restarted i = replayed_below i i.sizes.disks i.backup

@@ -85,7 +85,7 @@ listed_on anchor logs =
     join_below (λ disk. listed_in disk (retained_from s (start_on anchor) logs disk)) s.disks
 
 -- "Sixty lines make a page, after a heading line.": `left` more records go on this page; where none does and a record is left, a new page
--- begins (line_count_lem and line-at in proofs/Listing.antt say it by numbers)
+-- begins (line_count_lem and line_at in proofs/Listing.antt say it by numbers)
 unfoldable pub on_pages : (left : ℕ) → List Listed → List (List ℕ)
 on_pages left [] = []
 on_pages zero (e ∷ es) = heading ∷ line_of e ∷ on_pages 59 es

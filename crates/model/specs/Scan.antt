@@ -30,7 +30,7 @@ scan_at_most s read stop zero p = end
 scan_at_most s read stop (suc n) p =
     cond (ltb p stop) (scanned read p (decode_at s read stop p) (scan_at_most s read stop n)) end
 
--- the log from p up to `stop`: each record has a word or more, so there are at most stop - p (scan_end and scan-step in proofs/Scan.antt
+-- the log from p up to `stop`: each record has a word or more, so there are at most stop - p (scan_end and scan_step in proofs/Scan.antt
 -- say it without the count)
 unfoldable pub scan : Sizes → (ℕ → ℕ) → ℕ → ℕ → Scan
 scan s read stop p = scan_at_most s read stop (stop - p) p

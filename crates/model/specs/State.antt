@@ -198,7 +198,7 @@ unfoldable pub slot_place : Core → ℕ → ℕ → ℕ
 slot_place c page slot = base_of c page + slot * width_in c.sizes page
 
 -- What is kept is right, and the bounds that keep indices, sums and the room rule safe. Every state that a call hands back passes this.
--- The first page begins at 0, and each other where the one before it ends (base-kept in proofs/KeptBases.antt).
+-- The first page begins at 0, and each other where the one before it ends (base_kept in proofs/KeptBases.antt).
 unfoldable pub bases_right : Core → Bool
 bases_right c =
     eqb c.bases.total (total c.sizes) && eqb (base_of c 0) 0
