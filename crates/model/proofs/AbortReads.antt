@@ -1,11 +1,11 @@
 -- A log changed from outside, where reading up to the tail and then the buffer differs from reading both as one log.
+use Rattle.std.specs.Prelude.{None}
 use mathlib.Core.Path.{◌≡◌, refl}
 use Prim.Native.Nat.{ℕ}
 use mathlib.Core.List.{List, [], ◌∷◌, map}
 use lib.ListN.{replicate}
 use Rattle.model.specs.declared.Sizes.{Sizes}
 use Rattle.model.specs.declared.Answer.TheVariants.{Finished, Refused}
-use Rattle.model.specs.declared.Fault.TheVariants.{NoFault}
 use Rattle.model.specs.Decode.{read_log}
 use Rattle.model.specs.Scan.{Scan, scan, fault_in, updates_in}
 use Rattle.model.specs.World.{store, logs, act}
@@ -64,7 +64,7 @@ unfolding result_of
 torn_refused = rw torn_verdict refl
 
 -- as one log nothing in it is malformed, and the update at 6 is not found: an abort would take back two of three
-pub one_misses : fault_in 0 as_one NoFault ≡ NoFault
+pub one_misses : fault_in 0 as_one None ≡ None
 unfolding opens
 one_misses = refl
 

@@ -1,4 +1,5 @@
 -- What is never refused: on the machine's own slices no cause of rows 2 to 7 arises, and what is open can be closed.
+use Rattle.std.specs.Prelude.{None, Option}
 use mathlib.Core.Path.{◌≡◌, refl, sym, ap, ◌∙◌}
 use mathlib.Core.List.{List, [], ◌∷◌}
 use mathlib.Core.Bool.{Bool, true, false, cond, not, and-false, ◌||◌}
@@ -10,8 +11,7 @@ use borrow.Author.Tests.{lt-leb, eq-eqb, eqb-true}
 use Rattle.model.specs.declared.Stage.TheVariants.{Shut}
 use Rattle.model.specs.declared.Sizes.{Sizes}
 use Rattle.model.specs.declared.Core.{Core}
-use Rattle.model.specs.declared.Fault.{Fault}
-use Rattle.model.specs.declared.Fault.TheVariants.{NoFault}
+use Rattle.model.specs.declared.BadRecord.{BadRecord}
 use Rattle.model.specs.Below.{within}
 use Rattle.model.specs.Sizes.{total}
 use Rattle.model.specs.Anchor.{anchor_words, epoch_on}
@@ -57,7 +57,7 @@ pub record Right (c : Core) (w : World) : Type 0 where
   pub restarts : Restartable w
   pub lengths : when_shut c.stage ≡ false → lengths_right c.sizes c.bases.total w ≡ true
   pub replays : when_replaying c.stage ≡ true → Progress c w
-  pub aborts : when_serving c.stage ≡ true → (number : ℕ) → abort_fault c w number ≡ NoFault
+  pub aborts : when_serving c.stage ≡ true → (number : ℕ) → abort_fault c w number ≡ None
 
 -- the slices have the lengths that the state's sizes give, and T that it keeps
 right_lengths : {puts : Told} {m : Machine} {r : Reference} → sound m.core ≡ true → Holding puts m r → when_shut m.core.stage ≡ false
@@ -106,7 +106,7 @@ record Late (k : Call) (c : Core) (w : World) : Type 0 where
 
 module _ (c : Core) (w : World) (right : Right c w) where
   -- row 7, which an abort and a restart step have next
-  fourth : (f : Fault) (rest : List Row) → f ≡ NoFault → verdict (fault_row f ∷ rest) ≡ verdict rest
+  fourth : (f : Option BadRecord) (rest : List Row) → f ≡ None → verdict (fault_row f ∷ rest) ≡ verdict rest
   unfolding verdict
   fourth f rest none = rw none
 

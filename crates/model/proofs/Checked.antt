@@ -1,4 +1,5 @@
 -- The checks of an image, of the lent lists alone: what passes them, and that whatever is accepted has passed them.
+use Rattle.std.specs.Prelude.{None}
 use mathlib.Core.Path.{◌≡◌}
 use mathlib.Core.List.{List}
 use mathlib.Core.Bool.{Bool, true, false}
@@ -8,7 +9,6 @@ use lib.Dec.{ltb}
 use lib.ListN.{length}
 use borrow.Author.Tests.{ltb-false, le-ltb, eqb-true, eqb-false, eq-eqb, ne_eqb, not-false}
 use Rattle.model.specs.declared.Sizes.{Sizes}
-use Rattle.model.specs.declared.Fault.TheVariants.{NoFault}
 use Rattle.model.specs.Sizes.{ring_of, sizes_in_bounds, total}
 use Rattle.model.specs.Anchor.{anchor_words, epoch_on, sizes_on, start_on}
 use Rattle.model.specs.Scan.{end}
@@ -38,10 +38,10 @@ module _ (s : Sizes) (start : ℕ → ℕ) (logs : List ℕ) where
       rw (first_none (tail_wrong s start logs) s.disks (λ d l. let t = h.tails d l in rw (le-ltb _ _ t.0, le-ltb _ _ t.1, le-ltb _ _ t.2)))
       (le-ltb s.disks s.disks (omega arith))
 
-  pub whole_records : Whole s start logs → fault_from s start logs s.disks 0 ≡ NoFault
+  pub whole_records : Whole s start logs → fault_from s start logs s.disks 0 ≡ None
   whole_records h = none_fault s start logs s.disks 0 (λ d from l. h.clean d (omega arith))
 
-  pub rows_whole : ltb (wrong_tail s start logs) s.disks ≡ false → fault_from s start logs s.disks 0 ≡ NoFault → Whole s start logs
+  pub rows_whole : ltb (wrong_tail s start logs) s.disks ≡ false → fault_from s start logs s.disks 0 ≡ None → Whole s start logs
   unfolding wrong_tail tail_wrong
   rows_whole six seven =
       record {

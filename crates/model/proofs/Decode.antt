@@ -1,4 +1,5 @@
 -- What is known of a decoded record, and which words it depends on.
+use Rattle.std.specs.Prelude.{Some, None, Option}
 use Prim.Native.Nat.{ℕ, ◌+◌, ◌/◌, ◌≤◌, ◌<◌}
 use mathlib.Core.Path.{◌≡◌, refl, subst}
 use mathlib.Core.Bool.{false}
@@ -6,8 +7,6 @@ use native.Mathlib.Omega.{arith}
 use lib.Dec.{ltb, eqb}
 use borrow.Author.Tests.{ltb-true, ltb-false, leb-false, eqb-true, eqb-false, not-false}
 use Rattle.model.specs.declared.Sizes.{Sizes}
-use Rattle.model.specs.declared.RecordSize.{RecordSize}
-use Rattle.model.specs.declared.RecordSize.TheVariants.{Words, NoKind}
 use Rattle.model.specs.declared.Decoded.{Decoded}
 use Rattle.model.specs.declared.Decoded.TheVariants.{Change, Close, Malformed}
 use Rattle.model.specs.Sizes.{slots_in, width_in}
@@ -73,9 +72,9 @@ module _ (P : Decoded → Type 0) (s : Sizes) (stop p w number copy : ℕ) where
   unfolding decode_words
   decoded_all none changed closed = go (record_size (kind_field w) (width_field w)) refl
     where
-      go : (z : RecordSize) → record_size (kind_field w) (width_field w) ≡ z → P (decode_sized s stop p w number copy z)
-      go NoKind e = none
-      go (Words n) e =
+      go : (z : Option ℕ) → record_size (kind_field w) (width_field w) ≡ z → P (decode_sized s stop p w number copy z)
+      go None e = none
+      go (Some n) e =
           let is = has_size (kind_field w) (width_field w) n e in
           cond_all P (ltb stop (p + n)) (λ _. none)
           (λ l. cond_all P (eqb number 0) (λ _. none)
@@ -127,9 +126,9 @@ words_cong : (s : Sizes) (stop p w m n e f : ℕ) → (p + 2 ≤ stop → m ≡ 
 unfolding decode_words
 words_cong s stop p w m n e f number copy = go (record_size (kind_field w) (width_field w)) refl
   where
-    go : (z : RecordSize) → record_size (kind_field w) (width_field w) ≡ z → decode_sized s stop p w m e z ≡ decode_sized s stop p w n f z
-    go NoKind is = refl
-    go (Words size) is =
+    go : (z : Option ℕ) → record_size (kind_field w) (width_field w) ≡ z → decode_sized s stop p w m e z ≡ decode_sized s stop p w n f z
+    go None is = refl
+    go (Some size) is =
         let known = has_size (kind_field w) (width_field w) size is in
         cond_cong (ltb stop (p + size)) (λ _. refl)
         (λ l.

@@ -1,5 +1,6 @@
 -- Faults: "lowest disk, first position there".
-use mathlib.Core.Path.{◌≡◌, refl, sym, ◌∙◌}
+use Rattle.std.specs.Prelude.{None, Some, Option}
+use mathlib.Core.Path.{◌≡◌, refl, sym, ◌∙◌, ap}
 use mathlib.Core.Logic.{◌⊎◌, inl, inr}
 use mathlib.Core.List.{List, []}
 use mathlib.Core.Bool.{Bool, true, false}
@@ -8,8 +9,8 @@ use native.Mathlib.Omega.{arith}
 use lib.Dec.{ltb}
 use borrow.Author.Tests.{ltb-true, ltb-false}
 use Rattle.model.specs.declared.Sizes.{Sizes}
-use Rattle.model.specs.declared.Fault.{Fault}
-use Rattle.model.specs.declared.Fault.TheVariants.{NoFault, BadRecord}
+use Rattle.model.specs.declared.BadRecord.{BadRecord}
+use Rattle.model.specs.Record.{bad_record}
 use Rattle.model.specs.Decode.{read_log}
 use Rattle.model.specs.Scan.{Scan, end, bad, item, fault_in}
 use Rattle.model.specs.Causes.{tail_in, retained_from, fault_from, fault_row}
@@ -17,20 +18,20 @@ use Rattle.model.proofs.Reading.{ending, either_ending, FirstBad, scan_bad}
 use Rattle.model.proofs.Booleans.{true_false}
 
 -- The fault of a scan is its malformed record, and else that of the rest.
-pub fault_bad : (disk : ℕ) (sc : Scan) (rest : Fault) (p : ℕ) → ending sc ≡ bad p → fault_in disk sc rest ≡ BadRecord disk p
+pub fault_bad : (disk : ℕ) (sc : Scan) (rest : Option BadRecord) (p : ℕ) → ending sc ≡ bad p → fault_in disk sc rest ≡ bad_record disk p
 unfolding ending fault_in
 fault_bad disk end rest p e = let z : ◌≡◌ {A = ℕ} 0 1 = cc in absurd (omega arith)
 fault_bad disk (bad q) rest p e = cc
 fault_bad disk (item q r more) rest p e = fault_bad disk more rest p e
 
-pub fault_end : (disk : ℕ) (sc : Scan) (rest : Fault) → ending sc ≡ end → fault_in disk sc rest ≡ rest
+pub fault_end : (disk : ℕ) (sc : Scan) (rest : Option BadRecord) → ending sc ≡ end → fault_in disk sc rest ≡ rest
 unfolding ending fault_in
 fault_end disk end rest e = refl
 fault_end disk (bad q) rest e = let z : ◌≡◌ {A = ℕ} 0 1 = cc in absurd (omega arith)
 fault_end disk (item q r more) rest e = fault_end disk more rest e
 
 -- a fault of the scan itself is the fault whatever follows
-pub fault_own : (disk : ℕ) (sc : Scan) (rest : Fault) {d p : ℕ} → fault_in disk sc NoFault ≡ BadRecord d p → fault_in disk sc rest ≡ BadRecord d p
+pub fault_own : (disk : ℕ) (sc : Scan) (rest : Option BadRecord) {d p : ℕ} → fault_in disk sc None ≡ bad_record d p → fault_in disk sc rest ≡ bad_record d p
 unfolding fault_in
 fault_own disk end rest e = let z : ◌≡◌ {A = ℕ} 0 1 = cc in absurd (omega arith)
 fault_own disk (bad q) rest e = e
@@ -54,13 +55,13 @@ from_next P m here rest d l = go (ltb m d) refl
         rw same at here
 
 module _ (s : Sizes) (start : ℕ → ℕ) (logs : List ℕ) where
-  pub fault_lowest : (n from disk p : ℕ) → fault_from s start logs n from ≡ BadRecord disk p → LowestFault s start logs n from disk p
+  pub fault_lowest : (n from disk p : ℕ) → fault_from s start logs n from ≡ bad_record disk p → LowestFault s start logs n from disk p
   unfolding fault_from
   fault_lowest zero from disk p e = let z : ◌≡◌ {A = ℕ} 0 1 = cc in absurd (omega arith)
   fault_lowest (suc n) from disk p e = go (either_ending (retained_from s start logs from)) (fault_lowest n (from + 1) disk p)
     where
       go : (ending (retained_from s start logs from) ≡ end) ⊎ ((q : ℕ) × (ending (retained_from s start logs from) ≡ bad q))
-          → (fault_from s start logs n (from + 1) ≡ BadRecord disk p → LowestFault s start logs n (from + 1) disk p)
+          → (fault_from s start logs n (from + 1) ≡ bad_record disk p → LowestFault s start logs n (from + 1) disk p)
           → LowestFault s start logs (suc n) from disk p
       go (inl x) rest =
           let y = rest (sym (fault_end from (retained_from s start logs from) (fault_from s start logs n (from + 1)) x) ∙ e) in
@@ -72,8 +73,8 @@ module _ (s : Sizes) (start : ℕ → ℕ) (logs : List ℕ) where
           }
       go (inr x) rest =
           let f = sym (fault_bad from (retained_from s start logs from) (fault_from s start logs n (from + 1)) x.0 x.1) ∙ e in
-          let here : from ≡ disk = cc in
-          let there : x.0 ≡ p = cc in
+          let here : from ≡ disk = ap (λ (z : Option BadRecord). (fault_row z).first) f in
+          let there : x.0 ≡ p = ap (λ (z : Option BadRecord). (fault_row z).second) f in
           record {
             above = omega arith;
             below = omega arith;
@@ -81,14 +82,14 @@ module _ (s : Sizes) (start : ℕ → ℕ) (logs : List ℕ) where
             lower = λ d l m. absurd (omega arith);
           }
 
-  pub fault_none : (n from : ℕ) → fault_from s start logs n from ≡ NoFault
+  pub fault_none : (n from : ℕ) → fault_from s start logs n from ≡ None
       → (d : ℕ) → from ≤ d → d < from + n → ending (retained_from s start logs d) ≡ end
   unfolding fault_from
   fault_none zero from e = λ d l m. absurd (omega arith)
   fault_none (suc n) from e = go (either_ending (retained_from s start logs from)) (fault_none n (from + 1))
     where
       go : (ending (retained_from s start logs from) ≡ end) ⊎ ((q : ℕ) × (ending (retained_from s start logs from) ≡ bad q))
-          → (fault_from s start logs n (from + 1) ≡ NoFault → (d : ℕ) → from + 1 ≤ d → d < from + 1 + n → ending (retained_from s start logs d) ≡ end)
+          → (fault_from s start logs n (from + 1) ≡ None → (d : ℕ) → from + 1 ≤ d → d < from + 1 + n → ending (retained_from s start logs d) ≡ end)
           → (d : ℕ) → from ≤ d → d < from + suc n → ending (retained_from s start logs d) ≡ end
       go (inl x) rest =
           from_next (λ (d : ℕ). d < from + suc n → ending (retained_from s start logs d) ≡ end) from (λ m. x)
@@ -99,7 +100,7 @@ module _ (s : Sizes) (start : ℕ → ℕ) (logs : List ℕ) where
           absurd (omega arith)
 
   pub none_fault : (n from : ℕ) → ((d : ℕ) → from ≤ d → d < from + n → ending (retained_from s start logs d) ≡ end)
-      → fault_from s start logs n from ≡ NoFault
+      → fault_from s start logs n from ≡ None
   unfolding fault_from
   none_fault zero from h = refl
   none_fault (suc n) from h =
@@ -121,12 +122,12 @@ unfolding retained_from
 retained_bad s start logs disk p e = scan_bad s (read_log s logs disk (tail_in s logs disk) []) (tail_in s logs disk) (start disk) p e
 
 -- row 7 applies to every fault
-pub no_fault : (f : Fault) → (fault_row f).applies ≡ false → f ≡ NoFault
-no_fault NoFault h = refl
-no_fault (BadRecord disk p) h = true_false refl h
+pub no_fault : (f : Option BadRecord) → (fault_row f).applies ≡ false → f ≡ None
+no_fault None h = refl
+no_fault (Some found) h = true_false refl h
 
 -- where a log is followed by no fault, the rest has none
-pub fault_rest : (disk : ℕ) (x : Scan) (rest : Fault) → fault_in disk x rest ≡ NoFault → rest ≡ NoFault
+pub fault_rest : (disk : ℕ) (x : Scan) (rest : Option BadRecord) → fault_in disk x rest ≡ None → rest ≡ None
 unfolding fault_in
 fault_rest disk end rest h = h
 fault_rest disk (bad p) rest h = let z : ◌≡◌ {A = ℕ} 0 1 = cc in absurd (omega arith)

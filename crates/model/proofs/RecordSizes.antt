@@ -1,4 +1,5 @@
 -- 01's record table as cases (02, S-6): the size of each kind, and what a size tells.
+use Rattle.std.specs.Prelude.{Some, None, Option}
 use Prim.Native.Nat.{ℕ, ◌+◌, ◌/◌, ◌≤◌, ◌<◌}
 use mathlib.Core.Path.{◌≡◌, refl, sym, ap, ◌∙◌}
 use mathlib.Core.Bool.{cond}
@@ -10,28 +11,26 @@ use borrow.Author.Tests.{lt-ltb, le-ltb, ne_eqb}
 use Rattle.model.specs.declared.Sizes.{Sizes}
 use Rattle.model.specs.declared.Decoded.{Decoded}
 use Rattle.model.specs.declared.Decoded.TheVariants.{Change, Close, Malformed}
-use Rattle.model.specs.declared.RecordSize.{RecordSize}
-use Rattle.model.specs.declared.RecordSize.TheVariants.{Words, NoKind}
 use Rattle.model.specs.Record.{Record, change, close, encode, update_kind, compensation_kind, commit_kind, abort_kind, record_size, size_words, words_of}
 use Rattle.model.specs.Decode.{kind_field, page_field, slot_field, width_field, misplaced, decode_words, decode_at}
 
-pub size_change : (kind width : ℕ) → kind < 2 → record_size kind width ≡ Words (3 + width)
+pub size_change : (kind width : ℕ) → kind < 2 → record_size kind width ≡ Some (3 + width)
 unfolding record_size
 size_change kind width h = go (ℕ_discrete kind 0)
   where
-    go : Dec (kind ≡ 0) → record_size kind width ≡ Words (3 + width)
+    go : Dec (kind ≡ 0) → record_size kind width ≡ Some (3 + width)
     go (yes e) = rw e refl
     go (no e) = let one : kind ≡ 1 = omega arith in rw one refl
 
-pub size_close : (kind width : ℕ) → 2 ≤ kind → kind < 4 → record_size kind width ≡ Words 2
+pub size_close : (kind width : ℕ) → 2 ≤ kind → kind < 4 → record_size kind width ≡ Some 2
 unfolding record_size
 size_close kind width h l = go (ℕ_discrete kind 2)
   where
-    go : Dec (kind ≡ 2) → record_size kind width ≡ Words 2
+    go : Dec (kind ≡ 2) → record_size kind width ≡ Some 2
     go (yes e) = rw e refl
     go (no e) = let three : kind ≡ 3 = omega arith in rw three refl
 
-size_none : (kind width : ℕ) → 3 < kind → record_size kind width ≡ NoKind
+size_none : (kind width : ℕ) → 3 < kind → record_size kind width ≡ None
 unfolding record_size
 size_none kind width h =
     rw (ne_eqb kind 0 (omega arith), ne_eqb kind 1 (omega arith), ne_eqb kind 2 (omega arith), ne_eqb kind 3 (omega arith)) refl
@@ -44,10 +43,10 @@ pub record HasSize (kind width n : ℕ) : Type 0 where
   pub least : 2 ≤ n
   pub most : n ≤ 3 + width
 
-same_words : {m n : ℕ} → Words m ≡ Words n → n ≡ m
+same_words : {m n : ℕ} → Some m ≡ Some n → n ≡ m
 same_words e = sym (ap size_words e)
 
-pub has_size : (kind width n : ℕ) → record_size kind width ≡ Words n → HasSize kind width n
+pub has_size : (kind width n : ℕ) → record_size kind width ≡ Some n → HasSize kind width n
 has_size kind width n e = go (dec_lt kind 2) (dec_lt kind 4)
   where
     go : Dec (kind < 2) → Dec (kind < 4) → HasSize kind width n
@@ -58,7 +57,7 @@ has_size kind width n e = go (dec_lt kind 2) (dec_lt kind 4)
         let is : n ≡ 2 = same_words (sym (size_close kind width (omega arith) l) ∙ e) in
         record { kind_lt = l; if_change = λ h. absurd (omega arith); if_close = λ _. is; least = omega arith; most = omega arith }
     go (no k) (no l) =
-        let none : NoKind ≡ Words n = sym (size_none kind width (omega arith)) ∙ e in
+        let none : None ≡ Some n = sym (size_none kind width (omega arith)) ∙ e in
         let z : ◌≡◌ {A = ℕ} 0 1 = cc in
         absurd (omega arith)
 
@@ -75,28 +74,28 @@ pub words_most : (kind width : ℕ) → words_of kind width ≤ 3 + width
 unfolding words_of
 words_most kind width = go (record_size kind width) refl
   where
-    go : (z : RecordSize) → record_size kind width ≡ z → size_words z ≤ 3 + width
-    go NoKind e = omega arith
-    go (Words n) e = (has_size kind width n e).most
+    go : (z : Option ℕ) → record_size kind width ≡ z → size_words z ≤ 3 + width
+    go None e = omega arith
+    go (Some n) e = (has_size kind width n e).most
 
 -- The size of a record is the number of words that it is written with, a change being of kind 0 or 1 and a closing record of 2 or 3.
 abbrev pub SizeWritten : Record → Type 0
 SizeWritten (change kind page slot number copy diff) =
-    kind < 2 → record_size kind (length diff) ≡ Words (length (encode (change kind page slot number copy diff)))
-SizeWritten (close kind number) = (2 ≤ kind) × (kind < 4) → record_size kind 0 ≡ Words (length (encode (close kind number)))
+    kind < 2 → record_size kind (length diff) ≡ Some (length (encode (change kind page slot number copy diff)))
+SizeWritten (close kind number) = (2 ≤ kind) × (kind < 4) → record_size kind 0 ≡ Some (length (encode (close kind number)))
 
 pub size_written : (r : Record) → SizeWritten r
 unfolding encode
-size_written (change kind page slot number copy diff) = λ k. size_change kind (length diff) k ∙ ap (λ (n : ℕ). Words n) (omega arith)
+size_written (change kind page slot number copy diff) = λ k. size_change kind (length diff) k ∙ ap (λ (n : ℕ). Some n) (omega arith)
 size_written (close kind number) = λ k. size_close kind 0 k.0 k.1
 
 -- 01's table, kind by kind, and no size above 3.
 pub record SizeTable : Type 0 where
-  pub update : (width : ℕ) → record_size update_kind width ≡ Words (3 + width)
-  pub compensation : (width : ℕ) → record_size compensation_kind width ≡ Words (3 + width)
-  pub commit : (width : ℕ) → record_size commit_kind width ≡ Words 2
-  pub abort : (width : ℕ) → record_size abort_kind width ≡ Words 2
-  pub above : (kind width : ℕ) → 3 < kind → record_size kind width ≡ NoKind
+  pub update : (width : ℕ) → record_size update_kind width ≡ Some (3 + width)
+  pub compensation : (width : ℕ) → record_size compensation_kind width ≡ Some (3 + width)
+  pub commit : (width : ℕ) → record_size commit_kind width ≡ Some 2
+  pub abort : (width : ℕ) → record_size abort_kind width ≡ Some 2
+  pub above : (kind width : ℕ) → 3 < kind → record_size kind width ≡ None
 
 pub record_sizes : SizeTable
 record_sizes =
@@ -123,11 +122,11 @@ decoded_before s end p w number copy =
     (cond (eqb (w / 8) 0) (Close (kind_field w) number (p + words_before (kind_field w) (width_field w))) Malformed))))
 
 -- the four kinds have the words that they had
-pub sizes_kept : (kind width : ℕ) → kind < 4 → record_size kind width ≡ Words (words_before kind width)
+pub sizes_kept : (kind width : ℕ) → kind < 4 → record_size kind width ≡ Some (words_before kind width)
 unfolding words_before
 sizes_kept kind width l = go (dec_lt kind 2)
   where
-    go : Dec (kind < 2) → record_size kind width ≡ Words (words_before kind width)
+    go : Dec (kind < 2) → record_size kind width ≡ Some (words_before kind width)
     go (yes k) = rw (lt-ltb kind 2 k) (size_change kind width k)
     go (no k) = rw (le-ltb kind 2 (omega arith)) (size_close kind width (omega arith) l)
 

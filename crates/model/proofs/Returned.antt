@@ -1,4 +1,5 @@
 -- What an answer tells: its number, the stores made, and the column "Returned" of 01's table.
+use Rattle.std.specs.Prelude.{None, Some, Option}
 use mathlib.Core.Path.{◌≡◌, refl, sym}
 use mathlib.Core.List.{List, [], ◌∷◌, ◌++◌}
 use mathlib.Core.Bool.{Bool, true, false, not, ◌&&◌, ◌||◌, or-true}
@@ -8,8 +9,8 @@ use lib.Dec.{eqb}
 use borrow.Author.Tests.{eqb-true, ne_eqb, not-true}
 use Rattle.model.specs.declared.Core.{Core}
 use Rattle.model.specs.declared.Answer.TheVariants.{Refused}
-use Rattle.model.specs.declared.Fault.{Fault}
-use Rattle.model.specs.declared.Fault.TheVariants.{NoFault, BadRecord}
+use Rattle.model.specs.declared.BadRecord.{BadRecord}
+use Rattle.model.specs.Record.{bad_record}
 use Rattle.model.specs.Below.{within}
 use Rattle.model.specs.declared.Sizes.{Sizes}
 use Rattle.model.specs.Sizes.{total}
@@ -39,7 +40,7 @@ record RowReturns (k : Call) (c : Core) (w : World) (r : Row) : Type 0 where
   number : (within 1 15 r.number || within 17 19 r.number) ≡ true
   zeros : within 6 7 r.number ≡ false → within 17 19 r.number ≡ false → (r.first ≡ 0) × (r.second ≡ 0)
   tail : r.number ≡ 6 → (r.first ≡ wrong_tail (sizes_on w.anchor) (start_on w.anchor) w.logs) × (r.second ≡ 0)
-  fault : r.number ≡ 7 → r.applies ≡ true → fault_of k c w ≡ BadRecord r.first r.second
+  fault : r.number ≡ 7 → r.applies ≡ true → fault_of k c w ≡ bad_record r.first r.second
   classes : within 17 19 r.number ≡ true → ReturnsClasses k c (Refused r.number r.first r.second)
 
 -- a number up to 15 is none of a table of classes
@@ -86,9 +87,9 @@ module _ (k : Call) (c : Core) (w : World) where
         classes = λ e. no_classes_lem 6 refl e;
       }
 
-  fault_returns : (f : Fault) → fault_of k c w ≡ f → RowReturns k c w (fault_row f)
+  fault_returns : (f : Option BadRecord) → fault_of k c w ≡ f → RowReturns k c w (fault_row f)
   unfolding within
-  fault_returns NoFault e =
+  fault_returns None e =
       record {
         number = refl;
         zeros = λ other p. (refl, refl);
@@ -96,7 +97,7 @@ module _ (k : Call) (c : Core) (w : World) where
         fault = λ seven applies. true_false applies refl;
         classes = λ e. no_classes_lem 7 refl e;
       }
-  fault_returns (BadRecord disk p) e =
+  fault_returns (Some bad) e =
       record {
         number = refl;
         zeros = λ other p. true_false refl other;
@@ -106,7 +107,7 @@ module _ (k : Call) (c : Core) (w : World) where
       }
 
   -- the call's rows, where one of them is row 7
-  with_fault : (before after : List Row) (f : Fault) → fault_of k c w ≡ f → Every (RowReturns k c w) before → all_plain after ≡ true
+  with_fault : (before after : List Row) (f : Option BadRecord) → fault_of k c w ≡ f → Every (RowReturns k c w) before → all_plain after ≡ true
       → Every (RowReturns k c w) (before ++ fault_row f ∷ after)
   with_fault before after f e b a =
       every_append (RowReturns k c w) before (fault_row f ∷ after) b

@@ -1,4 +1,5 @@
 -- A log read up to the tail and then on: what is found, and when it is the log read as one.
+use Rattle.std.specs.Prelude.{Some, None, Option}
 use Prim.Native.Nat.{ℕ, zero, suc, ◌+◌, ◌-◌, ◌≤◌, ◌<◌, max}
 use mathlib.Core.Path.{◌≡◌, refl, sym, ap, ◌∙◌}
 use mathlib.Core.List.Memᴰ
@@ -8,11 +9,9 @@ use native.Mathlib.Decide.{dec_lt}
 use lib.Dec.{ltb}
 use borrow.Author.Tests.{le-ltb, ltb-false}
 use Rattle.model.specs.declared.Sizes.{Sizes}
-use Rattle.model.specs.declared.RecordSize.{RecordSize}
-use Rattle.model.specs.declared.RecordSize.TheVariants.{Words, NoKind}
 use Rattle.model.specs.declared.Decoded.{Decoded}
 use Rattle.model.specs.declared.Decoded.TheVariants.{Change, Close, Malformed}
-use Rattle.model.specs.declared.Fault.{Fault}
+use Rattle.model.specs.declared.BadRecord.{BadRecord}
 use Rattle.model.specs.Record.{change, close, record_size}
 use Rattle.model.specs.Decode.{span, kind_field, width_field, decode_sized, decode_words, decode_at}
 use Rattle.model.specs.Scan.{Scan, end, bad, item, scan, and_then, ring_then_buffer, fault_in}
@@ -22,7 +21,7 @@ use Rattle.model.proofs.Scan.{scan_end, scan_change, scan_close, scan_bad}
 use Rattle.model.proofs.Reading.{Item, items, ending, Rises, rises_sooner, scan_rises, scan_before}
 
 -- A scan behind another: its faults, how the first ends, its records and their positions.
-pub then_fault : (disk : ℕ) (a b : Scan) (rest : Fault) → fault_in disk (and_then a b) rest ≡ fault_in disk a (fault_in disk b rest)
+pub then_fault : (disk : ℕ) (a b : Scan) (rest : Option BadRecord) → fault_in disk (and_then a b) rest ≡ fault_in disk a (fault_in disk b rest)
 unfolding and_then fault_in
 then_fault disk end b rest = refl
 then_fault disk (bad p) b rest = refl
@@ -59,12 +58,12 @@ module _ (s : Sizes) (read : ℕ → ℕ) (tail stop : ℕ) (within : tail ≤ s
   unfolding decode_at decode_words
   decode_further p formed = go (record_size (kind_field (read p)) (width_field (read p))) formed
     where
-      at : ℕ → RecordSize → Decoded
+      at : ℕ → Option ℕ → Decoded
       at to z = decode_sized s to p (read p) (read (p + 1)) (read (p + 2)) z
 
-      go : (z : RecordSize) → (at tail z ≡ Malformed → ⊥) → at stop z ≡ at tail z
-      go NoKind h = refl
-      go (Words n) h = further (ltb tail (p + n)) (ltb stop (p + n)) _ h (λ e. le-ltb stop (p + n) (omega (arith, ltb-false tail (p + n) e)))
+      go : (z : Option ℕ) → (at tail z ≡ Malformed → ⊥) → at stop z ≡ at tail z
+      go None h = refl
+      go (Some n) h = further (ltb tail (p + n)) (ltb stop (p + n)) _ h (λ e. le-ltb stop (p + n) (omega (arith, ltb-false tail (p + n) e)))
 
   -- Where no record that begins before the tail is malformed, or none at all, the log is read as one.
   through : (n p : ℕ) → tail - p ≤ n → p ≤ tail → ending (scan s read tail p) ≡ end
@@ -136,7 +135,7 @@ module _ (s : Sizes) (read : ℕ → ℕ) (tail stop p : ℕ) where
   unfolding ring_then_buffer
   parts_items P h = then_items P (scan s read tail p) (scan s read stop (max tail p)) (h tail p) (h stop (max tail p))
 
-  pub parts_fault : (disk : ℕ) (rest : Fault)
+  pub parts_fault : (disk : ℕ) (rest : Option BadRecord)
       → fault_in disk (ring_then_buffer s read tail stop p) rest
       ≡ fault_in disk (scan s read tail p) (fault_in disk (scan s read stop (max tail p)) rest)
   unfolding ring_then_buffer

@@ -1,4 +1,5 @@
 -- A transaction's updates as an abort finds them: all of them, and the newest first.
+use Rattle.std.specs.Prelude.{None}
 use mathlib.Core.Path.{◌≡◌, refl, ap}
 use mathlib.Core.Logic.{◌⊎◌, inl, inr}
 use mathlib.Core.List.Memᴰ
@@ -10,7 +11,7 @@ use lib.ListN.{length}
 use lib.Dec.{eqb, ltb}
 use borrow.Author.Tests.{eqb-true, eq-eqb, ltb-false}
 use Rattle.model.specs.Causes.{fault_row}
-use Rattle.model.specs.declared.Fault.TheVariants.{NoFault, BadRecord}
+use Rattle.model.specs.Record.{bad_record}
 use Rattle.model.specs.declared.Core.{Core}
 use Rattle.model.specs.Below.{sum_over}
 use Rattle.model.specs.Record.{Record, change, close, words_of, update_kind}
@@ -189,7 +190,7 @@ unfolding abort_fault
 abort_words c w t h = go _ refl (fault_rest _ _ _ (no_fault (abort_fault c w t) h))
   where
     go : (b : Bool) → ltb (reserved_at c.table (place_of c.table t) - 2) (update_words (updates_left c w t)) ≡ b
-        → cond b (BadRecord (disk_of c t) (first_at c.table (place_of c.table t))) NoFault ≡ NoFault
+        → cond b (bad_record (disk_of c t) (first_at c.table (place_of c.table t))) None ≡ None
         → update_words (updates_left c w t) ≤ reserved_at c.table (place_of c.table t) - 2
     go true e k = let z : ◌≡◌ {A = ℕ} 0 1 = cc in absurd (omega arith)
     go false e k = ltb-false _ _ e

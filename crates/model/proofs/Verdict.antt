@@ -1,4 +1,5 @@
 -- "The lowest number that applies is given, and only then."
+use Rattle.std.specs.Prelude.{None, Some, Option}
 use mathlib.Core.Path.{◌≡◌, refl, sym, ap, subst}
 use mathlib.Core.List.Memᴰ
 use mathlib.Core.List.{List, [], ◌∷◌, ◌++◌, map, Memᴰ}
@@ -8,8 +9,7 @@ use native.Mathlib.Omega.{arith}
 use lib.Dec.{ltb}
 use borrow.Author.Tests.{ltb-true}
 use Rattle.model.specs.declared.Core.{Core}
-use Rattle.model.specs.declared.Fault.{Fault}
-use Rattle.model.specs.declared.Fault.TheVariants.{NoFault, BadRecord}
+use Rattle.model.specs.declared.BadRecord.{BadRecord}
 use Rattle.model.specs.declared.Answer.TheVariants.{Refused}
 use Rattle.model.specs.World.{World, finishes}
 use Rattle.model.specs.Refusal.{Row, Verdict, accepted, rejected, verdict, spend, conclude, stores_of}
@@ -119,9 +119,9 @@ ascending l = ascending_from 0 l
 abbrev pub numbers : List Row → List ℕ
 numbers rows = map (λ r. r.number) rows
 
-fault_number : (f : Fault) → (fault_row f).number ≡ 7
-fault_number NoFault = refl
-fault_number (BadRecord disk p) = refl
+fault_number : (f : Option BadRecord) → (fault_row f).number ≡ 7
+fault_number None = refl
+fault_number (Some bad) = refl
 
 pub rows_ascend : (k : Call) (c : Core) (w : World) → ascending (numbers (rows_of k c w)) ≡ true
 unfolding ascending ascending_from format_rows begin_rows update_rows read_rows commit_rows abort_rows set_classes_rows checkpoint_begin_rows checkpoint_step_rows checkpoint_end_rows image_rows list_rows restart_begin_rows restart_step_rows restart_end_rows

@@ -1,11 +1,11 @@
 -- 01, "Calls": abort: "for each update, newest first, a compensation record with the same difference and the page's present
 -- copy number, and the slot changed back; then the abort record; no flush after it; slots released."
-use Rattle.std.specs.Prelude.{ℕ, ◌-◌, List, [], ◌∷◌, ◌++◌, cond, ◌&&◌, ltb}
+use Rattle.std.specs.Prelude.{ℕ, ◌-◌, List, [], ◌∷◌, ◌++◌, cond, ◌&&◌, ltb, None, Option}
 use Rattle.model.specs.declared.Sizes.{Sizes}
 use Rattle.model.specs.declared.Logs.{Logs}
 use Rattle.model.specs.declared.Core.{Core}
-use Rattle.model.specs.declared.Fault.{Fault}
-use Rattle.model.specs.declared.Fault.TheVariants.{NoFault, BadRecord}
+use Rattle.model.specs.declared.BadRecord.{BadRecord}
+use Rattle.model.specs.Record.{bad_record}
 use Rattle.model.specs.Below.{sum_over}
 use Rattle.model.specs.Word.{xored, ones_over}
 use Rattle.model.specs.Sizes.{slot_base}
@@ -46,12 +46,12 @@ updates_left c w number = updates_in number (abort_scan c w number)
 
 -- "if the update records of that number found there have more words than are owed for them, it answers 7 with its disk and
 -- that first position"
-unfoldable pub abort_fault : Core → World → ℕ → Fault
+unfoldable pub abort_fault : Core → World → ℕ → Option BadRecord
 abort_fault c w number =
     fault_in (disk_of c number) (abort_scan c w number)
     (cond (ltb (reserved_at c.table place - 2) (update_words (updates_left c w number)))
-    (BadRecord (disk_of c number) (first_at c.table place))
-    NoFault)
+    (bad_record (disk_of c number) (first_at c.table place))
+    None)
   where
     place : ℕ
     place = place_of c.table number

@@ -1,13 +1,13 @@
 -- What is never refused, which states there are, and what an answer tells: 01's "Turned away" as statements over lists of calls, and
 -- over every call, state and lent slices; and the disk of a begin (02's S-2 and S-5).
-use Rattle.std.specs.Prelude.{◌≡◌, ℕ, ◌≤◌, ◌<◌, Bool, true, false, cond, not, ◌||◌, eqb}
+use Rattle.std.specs.Prelude.{◌≡◌, ℕ, ◌≤◌, ◌<◌, Bool, true, false, cond, not, ◌||◌, eqb, None, Option}
 use mathlib.Core.List.{List, Memᴰ}
 use Rattle.model.specs.declared.Stage.{Stage}
 use Rattle.model.specs.declared.Sizes.{Sizes}
 use Rattle.model.specs.declared.Core.{Core}
 use Rattle.model.specs.declared.Answer.{Answer}
-use Rattle.model.specs.declared.Fault.{Fault}
-use Rattle.model.specs.declared.Fault.TheVariants.{NoFault, BadRecord}
+use Rattle.model.specs.declared.BadRecord.{BadRecord}
+use Rattle.model.specs.Record.{bad_record}
 use Rattle.model.specs.Below.{within}
 use Rattle.model.specs.Anchor.{sizes_on, start_on}
 use Rattle.model.specs.World.{World, stores}
@@ -178,30 +178,30 @@ outcome_numbered n = cond (eqb n 0) taken (cond (eqb n 16) interrupted refused)
 
 -- what the calls that check row 7 find: "restart begin; log step and abort, in what they read"; a run, in what its first step reads; a
 -- listing, "as for restart begin"
-abbrev pub image_fault : World → Fault
+abbrev pub image_fault : World → Option BadRecord
 image_fault w = fault_from (sizes_on w.anchor) (start_on w.anchor) w.logs (sizes_on w.anchor).disks 0
 
-abbrev pub fault_of_look : Look → World → Fault
-fault_of_look (read reader page slot) w = NoFault
+abbrev pub fault_of_look : Look → World → Option BadRecord
+fault_of_look (read reader page slot) w = None
 fault_of_look (list_line number bytes) w = image_fault w
 fault_of_look (list_lines first bytes) w = image_fault w
 
-abbrev pub fault_of : Call → Core → World → Fault
+abbrev pub fault_of : Call → Core → World → Option BadRecord
 fault_of restart_begin c w = image_fault w
 fault_of (restart_step source) c w = step_fault c w source
 fault_of (restart_run source most) c w = step_fault c w source
 fault_of (abort number budget) c w = abort_fault c w number
-fault_of (format s budget) c w = NoFault
-fault_of (begin class) c w = NoFault
-fault_of (update number page slot value budget) c w = NoFault
+fault_of (format s budget) c w = None
+fault_of (begin class) c w = None
+fault_of (update number page slot value budget) c w = None
 fault_of (look q) c w = fault_of_look q w
-fault_of (commit number budget) c w = NoFault
-fault_of (set_classes lines) c w = NoFault
-fault_of checkpoint_begin c w = NoFault
-fault_of (checkpoint_step budget) c w = NoFault
-fault_of (checkpoint_end budget) c w = NoFault
-fault_of (restart_end budget) c w = NoFault
-fault_of new_state c w = NoFault
+fault_of (commit number budget) c w = None
+fault_of (set_classes lines) c w = None
+fault_of checkpoint_begin c w = None
+fault_of (checkpoint_step budget) c w = None
+fault_of (checkpoint_end budget) c w = None
+fault_of (restart_end budget) c w = None
+fault_of new_state c w = None
 
 -- what is told of a table of classes that is refused for its lines
 pub record ReturnsClasses (k : Call) (c : Core) (a : Answer) : Type 0 where
@@ -225,7 +225,7 @@ pub record Returns (k : Call) (c : Core) (w : World) (a : Answer) : Type 0 where
   -- 6: "lowest such disk"
   pub tail : number_of a ≡ 6 → (first_of a ≡ wrong_tail (sizes_on w.anchor) (start_on w.anchor) w.logs) × (second_of a ≡ 0)
   -- 7: "lowest disk, first position there"
-  pub fault : number_of a ≡ 7 → fault_of k c w ≡ BadRecord (first_of a) (second_of a)
+  pub fault : number_of a ≡ 7 → fault_of k c w ≡ bad_record (first_of a) (second_of a)
   -- 17: "first such line returned, from 0"; 18, 19: a class, "lowest returned"; only of a table of classes
   pub classes : within 17 19 (number_of a) ≡ true → ReturnsClasses k c a
   -- 16: "stores made", as many as the budget

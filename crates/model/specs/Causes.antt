@@ -1,13 +1,12 @@
 -- 01, "Turned away": one definition for the cause of each row, shared by all the calls that check it. Row 14, "no log room (begin: on
 -- no disk)", is `has_room` and `idlest` (specs/Room.antt), of its class's set by 02; row 15, "an end call while items remain, or a step where none remain",
 -- `lowest_to_copy` and `remaining` (specs/Checkpoint.antt, specs/Restart.antt); row 16, "list longer than the allowance", `finishes`.
-use Rattle.std.specs.Prelude.{ℕ, zero, suc, ◌+◌, List, [], ◌∷◌, Bool, true, false, not, ◌&&◌, ◌||◌, length, get_or, leb, ltb, eqb}
+use Rattle.std.specs.Prelude.{ℕ, zero, suc, ◌+◌, List, [], ◌∷◌, Bool, true, false, not, ◌&&◌, ◌||◌, length, get_or, leb, ltb, eqb, Some, None, Option}
 use Rattle.model.specs.declared.Stage.{Stage}
 use Rattle.model.specs.declared.Stage.TheVariants.{Shut, Replaying, Open, Copying}
 use Rattle.model.specs.declared.Sizes.{Sizes}
 use Rattle.model.specs.declared.Core.{Core}
-use Rattle.model.specs.declared.Fault.{Fault}
-use Rattle.model.specs.declared.Fault.TheVariants.{NoFault, BadRecord}
+use Rattle.model.specs.declared.BadRecord.{BadRecord}
 use Rattle.model.specs.Below.{first_below}
 use Rattle.model.specs.Sizes.{slots_in, width_in, ring_of, tail_word, sizes_in_bounds}
 use Rattle.model.specs.Anchor.{anchor_words, epoch_on, start_on}
@@ -96,8 +95,8 @@ retained_from s start logs disk =
     scan s (read_log s logs disk tail []) tail (start disk)
 
 -- of n disks from `disk` on: "lowest disk, first position there" (fault_lowest, fault_none in proofs/Faults.antt)
-unfoldable pub fault_from : Sizes → (start : ℕ → ℕ) → (logs : List ℕ) → ℕ → ℕ → Fault
-fault_from s start logs zero disk = NoFault
+unfoldable pub fault_from : Sizes → (start : ℕ → ℕ) → (logs : List ℕ) → ℕ → ℕ → Option BadRecord
+fault_from s start logs zero disk = None
 fault_from s start logs (suc n) disk = fault_in disk (retained_from s start logs disk) (fault_from s start logs n (disk + 1))
 
 -- the tail and the retained log of a world
@@ -107,9 +106,9 @@ tail_on s w = tail_in s w.logs
 abbrev pub retained : Sizes → World → ℕ → Scan
 retained s w = retained_from s (start_on w.anchor) w.logs
 
-abbrev pub fault_row : Fault → Row
-fault_row NoFault = record { number = 7; applies = false; first = 0; second = 0 }
-fault_row (BadRecord disk p) = record { number = 7; applies = true; first = disk; second = p }
+abbrev pub fault_row : Option BadRecord → Row
+fault_row None = record { number = 7; applies = false; first = 0; second = 0 }
+fault_row (Some bad) = record { number = 7; applies = true; first = bad.disk; second = bad.position }
 
 -- rows 6 and 7 of all disks
 abbrev pub log_rows : Sizes → (start : ℕ → ℕ) → (logs : List ℕ) → List Row

@@ -1,8 +1,6 @@
 -- What stands at a position of a log, with every malformed cause of No. 7.
-use Rattle.std.specs.Prelude.{ℕ, zero, suc, ◌+◌, ◌-◌, ◌/◌, ◌%◌, List, [], ◌∷◌, Bool, cond, not, ◌||◌, length, get_or, leb, ltb, eqb}
+use Rattle.std.specs.Prelude.{ℕ, zero, suc, ◌+◌, ◌-◌, ◌/◌, ◌%◌, List, [], ◌∷◌, Bool, cond, not, ◌||◌, length, get_or, leb, ltb, eqb, Some, None, Option}
 use Rattle.model.specs.declared.Sizes.{Sizes}
-use Rattle.model.specs.declared.RecordSize.{RecordSize}
-use Rattle.model.specs.declared.RecordSize.TheVariants.{Words, NoKind}
 use Rattle.model.specs.declared.Decoded.{Decoded}
 use Rattle.model.specs.declared.Decoded.TheVariants.{Change, Close, Malformed}
 use Rattle.model.specs.Sizes.{slots_in, width_in, ring_word}
@@ -47,10 +45,10 @@ abbrev pub decoded_close : ℕ → ℕ → ℕ → Decoded
 decoded_close w number next = cond (eqb (w / 8) 0) (Close (kind_field w) number next) Malformed
 
 -- a record of this size, whose first three words are w, number and copy, at position p of a log that ends at `end`
-abbrev pub decode_sized : Sizes → ℕ → ℕ → ℕ → ℕ → ℕ → RecordSize → Decoded
+abbrev pub decode_sized : Sizes → ℕ → ℕ → ℕ → ℕ → ℕ → Option ℕ → Decoded
 -- "kind above 3"
-decode_sized s end p w number copy NoKind = Malformed
-decode_sized s end p w number copy (Words n) =
+decode_sized s end p w number copy None = Malformed
+decode_sized s end p w number copy (Some n) =
     -- "end past the tail"
     cond (ltb end (p + n)) Malformed
     -- "number 0"

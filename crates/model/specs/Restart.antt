@@ -1,13 +1,13 @@
 -- 01, "Calls": restart begin, step and end.
-use Rattle.std.specs.Prelude.{ℕ, zero, suc, ◌+◌, ◌-◌, List, [], ◌∷◌, ◌++◌, Bool, true, false, cond, not, ◌&&◌, get_or, set, replicate, ltb, eqb}
+use Rattle.std.specs.Prelude.{ℕ, zero, suc, ◌+◌, ◌-◌, List, [], ◌∷◌, ◌++◌, Bool, true, false, cond, not, ◌&&◌, get_or, set, replicate, ltb, eqb, None, Option}
 use Rattle.model.specs.declared.Sizes.{Sizes}
 use Rattle.model.specs.declared.Core.{Core}
 use Rattle.model.specs.declared.Decoded.{Decoded}
 use Rattle.model.specs.declared.Decoded.TheVariants.{Change, Close, Malformed}
 use Rattle.model.specs.declared.Fate.{Fate}
 use Rattle.model.specs.declared.Fate.TheVariants.{Closed, Unclosed, Unreadable}
-use Rattle.model.specs.declared.Fault.{Fault}
-use Rattle.model.specs.declared.Fault.TheVariants.{NoFault, BadRecord}
+use Rattle.model.specs.declared.BadRecord.{BadRecord}
+use Rattle.model.specs.Record.{bad_record}
 use Rattle.model.specs.Below.{all_below, list_below}
 use Rattle.model.specs.Word.{part}
 use Rattle.model.specs.Sizes.{total, page_base, page_words, slot_base}
@@ -74,19 +74,19 @@ unfoldable pub next_record : Core → World → ℕ → Decoded
 next_record c w disk = decode_at c.sizes (read_disk c w disk) (tail_of c.logs disk) (position_of c disk)
 
 -- "A log step reads from its record to its transaction's next close, or to the tail."; a closing record is its own next close.
-abbrev pub fate_fault : ℕ → Fate → Fault
-fate_fault disk Closed = NoFault
-fate_fault disk Unclosed = NoFault
-fate_fault disk (Unreadable p) = BadRecord disk p
+abbrev pub fate_fault : ℕ → Fate → Option BadRecord
+fate_fault disk Closed = None
+fate_fault disk Unclosed = None
+fate_fault disk (Unreadable p) = bad_record disk p
 
-abbrev pub record_fault : Core → World → ℕ → Decoded → Fault
+abbrev pub record_fault : Core → World → ℕ → Decoded → Option BadRecord
 record_fault c w disk (Change kind page slot number copy width next) = fate_fault disk (fate_from c w disk number next)
-record_fault c w disk (Close kind number next) = NoFault
-record_fault c w disk Malformed = BadRecord disk (position_of c disk)
+record_fault c w disk (Close kind number next) = None
+record_fault c w disk Malformed = bad_record disk (position_of c disk)
 
-unfoldable pub step_fault : Core → World → ℕ → Fault
+unfoldable pub step_fault : Core → World → ℕ → Option BadRecord
 step_fault c w source =
-    cond (ltb source c.sizes.disks && ltb 0 (remaining c source)) (record_fault c w source (next_record c w source)) NoFault
+    cond (ltb source c.sizes.disks && ltb 0 (remaining c source)) (record_fault c w source (next_record c w source)) None
 
 unfoldable pub restart_step_rows : Core → World → ℕ → List Row
 restart_step_rows c w source =

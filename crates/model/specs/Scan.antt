@@ -1,14 +1,13 @@
 -- The records of a log in order, the search ahead for a closing record, and a transaction's updates.
-use Rattle.std.specs.Prelude.{ℕ, zero, suc, ◌+◌, ◌-◌, max, List, [], ◌∷◌, ◌++◌, cond, ◌&&◌, length, ltb, eqb}
+use Rattle.std.specs.Prelude.{ℕ, zero, suc, ◌+◌, ◌-◌, max, List, [], ◌∷◌, ◌++◌, cond, ◌&&◌, length, ltb, eqb, Option}
 use Rattle.model.specs.declared.Sizes.{Sizes}
 use Rattle.model.specs.declared.Decoded.{Decoded}
 use Rattle.model.specs.declared.Decoded.TheVariants.{Change, Close, Malformed}
 use Rattle.model.specs.declared.Fate.{Fate}
 use Rattle.model.specs.declared.Fate.TheVariants.{Closed, Unclosed, Unreadable}
-use Rattle.model.specs.declared.Fault.{Fault}
-use Rattle.model.specs.declared.Fault.TheVariants.{BadRecord}
+use Rattle.model.specs.declared.BadRecord.{BadRecord}
 use Rattle.model.specs.Below.{sum_over}
-use Rattle.model.specs.Record.{Record, change, close, encode, words_of, update_kind}
+use Rattle.model.specs.Record.{Record, change, close, encode, words_of, update_kind, bad_record}
 use Rattle.model.specs.Decode.{decode_at, span}
 
 -- A log as it is read: each record with its position, up to the end or to the first malformed one.
@@ -60,9 +59,9 @@ fate_in number (item p (change kind page slot n copy diff) rest) = fate_in numbe
 fate_in number (item p (close kind n) rest) = cond (eqb n number) Closed (fate_in number rest)
 
 -- the first malformed record of a disk's scan, and else what `rest` says
-unfoldable pub fault_in : ℕ → Scan → Fault → Fault
+unfoldable pub fault_in : ℕ → Scan → Option BadRecord → Option BadRecord
 fault_in disk end rest = rest
-fault_in disk (bad p) rest = BadRecord disk p
+fault_in disk (bad p) rest = bad_record disk p
 fault_in disk (item p r more) rest = fault_in disk more rest
 
 -- An update as an abort reads it.

@@ -11,6 +11,7 @@ pub enum Stage {
 }
 
 // 01's P, D and W, the slots in each page and the words in each slot of that page.
+// Two arrays and no array of pairs: the anchor and the head have each list whole (specs/View.antt), and a loop over one takes many entries at once.
 #[derive(Clone, Copy)]
 pub struct Sizes {
     pub pages: u64,
@@ -28,6 +29,7 @@ pub struct Bases {
 }
 
 // For each disk: where the retained log starts, its tail, and how many words are buffered.
+// An array for each number: the fills lie in the head and the others are carried by value (specs/View.antt).
 #[derive(Clone, Copy)]
 pub struct Logs {
     pub starts: [u64; 8],
@@ -37,6 +39,7 @@ pub struct Logs {
 
 // The open transactions, by place: number (0: the place is free), disk, position of the first update record, reserved words; and the
 // reserved words by disk.
+// An array for each number, as the head has them, one list behind the other (specs/View.antt).
 #[derive(Clone, Copy)]
 pub struct Table {
     pub numbers: [u64; 16],
@@ -61,6 +64,7 @@ pub struct Replay {
 }
 
 // Which disks serve which class of transactions, by line: lowest class, highest class, set of disks; zeros where there is no line.
+// An array for each of the three: the search for a class reads two of them, and not the sets.
 #[derive(Clone, Copy)]
 pub struct Classes {
     pub lows: [u8; 16],
@@ -101,13 +105,6 @@ pub enum Answer {
     },
 }
 
-// How many words a record of a kind has, or that there is no such kind.
-#[derive(Clone, Copy)]
-pub enum RecordSize {
-    Words { n: u64 },
-    NoKind,
-}
-
 // What stands at a position of a log.
 #[derive(Clone, Copy)]
 pub enum Decoded {
@@ -136,11 +133,11 @@ pub enum Fate {
     Unreadable { position: u64 },
 }
 
-// What a check of log records finds.
+// A malformed record that a check of log records finds.
 #[derive(Clone, Copy)]
-pub enum Fault {
-    NoFault,
-    BadRecord { disk: u64, position: u64 },
+pub struct BadRecord {
+    pub disk: u64,
+    pub position: u64,
 }
 
 // What a call hands back beside the lent slices and the budget.
@@ -151,7 +148,7 @@ pub struct Reply {
 }
 
 // A state in two parts: what goes from call to call by value, 304 bytes; the rest of Core lies in the head of the lent work memory
-// (specs/View.antt). `total` is 01's T, `copied` how many pages the checkpoint under way has copied, `ends` its ends.
+// (specs/View.antt). `total` is 01's T, `copied` how many pages the checkpoint under way has copied, `ends` its ends. Arrays as Logs has them.
 #[derive(Clone, Copy)]
 pub struct Carried {
     pub stage: Stage,

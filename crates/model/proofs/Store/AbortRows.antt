@@ -1,4 +1,5 @@
 -- An abort finds no fault in a store that serves: the log that it reads is well formed, and its updates have the words reserved for them.
+use Rattle.std.specs.Prelude.{None, Option}
 use mathlib.Core.Path.{◌≡◌, refl, sym, ap, ◌∙◌}
 use mathlib.Core.List.{List, [], ◌∷◌, ◌++◌, append-nil}
 use mathlib.Core.Bool.{Bool, true, false, cond, ◌&&◌, and-false}
@@ -8,8 +9,7 @@ use native.Mathlib.Nat.{zero-add}
 use lib.Dec.{eqb}
 use borrow.Author.Tests.{le-ltb, eqb-true, eq-eqb}
 use Rattle.model.specs.declared.Core.{Core}
-use Rattle.model.specs.declared.Fault.{Fault}
-use Rattle.model.specs.declared.Fault.TheVariants.{NoFault}
+use Rattle.model.specs.declared.BadRecord.{BadRecord}
 use Rattle.model.specs.Record.{encode}
 use Rattle.model.specs.Scan.{Scan, Update, fault_in, updates_in, update_words}
 use Rattle.model.specs.World.{World}
@@ -46,19 +46,19 @@ update_words_lem t (q ∷ l) h = go (is_close q) refl (eqb q.number t) refl (upd
     go false e false x ih = rw (e, x, and-false, append-nil) (ih ∙ sym (zero-add (words_for t l)))
 
 -- no entry is malformed
-fault_entries : (disk : ℕ) (l : List Entry) (rest : Fault) → fault_in disk (entries_scan l) rest ≡ rest
+fault_entries : (disk : ℕ) (l : List Entry) (rest : Option BadRecord) → fault_in disk (entries_scan l) rest ≡ rest
 unfolding fault_in entries_scan
 fault_entries disk [] rest = refl
 fault_entries disk (q ∷ l) rest = fault_entries disk l rest
 
 -- a scan without a fault, and updates of no more words than are reserved for them
-none_bad : (c : Core) (w : World) (t : ℕ) → ((rest : Fault) → fault_in (disk_of c t) (abort_scan c w t) rest ≡ rest)
-    → update_words (updates_left c w t) ≤ reserved_at c.table (place_of c.table t) - 2 → abort_fault c w t ≡ NoFault
+none_bad : (c : Core) (w : World) (t : ℕ) → ((rest : Option BadRecord) → fault_in (disk_of c t) (abort_scan c w t) rest ≡ rest)
+    → update_words (updates_left c w t) ≤ reserved_at c.table (place_of c.table t) - 2 → abort_fault c w t ≡ None
 unfolding abort_fault
 none_bad c w t clean fits = clean _ ∙ rw (le-ltb _ _ fits)
 
 -- a transaction that is not open, or has no update: nothing is read
-pub nothing_bad : (c : Core) (w : World) (t : ℕ) → is_open c.table t && has_update c.table (place_of c.table t) ≡ false → abort_fault c w t ≡ NoFault
+pub nothing_bad : (c : Core) (w : World) (t : ℕ) → is_open c.table t && has_update c.table (place_of c.table t) ≡ false → abort_fault c w t ≡ None
 unfolding abort_scan updates_left updates_in fault_in
 nothing_bad c w t none = none_bad c w t (λ rest. rw none) (rw (none, update_words_none) (omega arith))
 
@@ -76,17 +76,17 @@ module _ {home : ℕ → ℕ} {puts : Told} {c : Core} {w : World} {r : Referenc
       ∙ ap (words_for t) (sym (on_append (disk_of c t) F B))
       ∙ words_for_picked t _ (F ++ B) (away g t opened below)
 
-  updates_fine : abort_fault c w t ≡ NoFault
+  updates_fine : abort_fault c w t ≡ None
   updates_fine =
       none_bad c w t
       (λ rest. rw (scanned g t opened (g.accounts.disks t opened) has) (fault_entries (disk_of c t) _ rest))
       (omega (arith, words_left, g.accounts.reserved t opened (open_place c.table t opened).0))
 
 -- Whatever transaction is asked for, an abort of a store that serves finds no fault.
-pub abort_never_bad : {puts : Told} {c : Core} {w : World} {r : Reference} → Served puts c w r → (number : ℕ) → abort_fault c w number ≡ NoFault
+pub abort_never_bad : {puts : Told} {c : Core} {w : World} {r : Reference} → Served puts c w r → (number : ℕ) → abort_fault c w number ≡ None
 abort_never_bad {c = c} {w = w} g number = go (is_open c.table number) refl (has_update c.table (place_of c.table number)) refl
   where
-    go : (o : Bool) → is_open c.table number ≡ o → (h : Bool) → has_update c.table (place_of c.table number) ≡ h → abort_fault c w number ≡ NoFault
+    go : (o : Bool) → is_open c.table number ≡ o → (h : Bool) → has_update c.table (place_of c.table number) ≡ h → abort_fault c w number ≡ None
     go true opened true has = updates_fine g.serving number opened has
     go true opened false none = nothing_bad c w number (rw (opened, none))
     go false shut h x = nothing_bad c w number (rw shut)

@@ -1,4 +1,5 @@
 -- What the checks of a sound store find: a restart can begin, and no call comes upon a malformed record.
+use Rattle.std.specs.Prelude.{None}
 use mathlib.Core.Path.{◌≡◌, refl, sym, ap, ◌∙◌}
 use mathlib.Core.List.{List, [], ◌∷◌}
 use mathlib.Core.Bool.{Bool, true, false, true≢false, and-eq-true_iff, cond, ◌&&◌, ◌||◌}
@@ -12,7 +13,6 @@ use Rattle.model.specs.declared.Core.{Core}
 use Rattle.model.specs.declared.Decoded.{Decoded}
 use Rattle.model.specs.declared.Decoded.TheVariants.{Change, Close, Malformed}
 use Rattle.model.specs.declared.Fate.TheVariants.{Closed}
-use Rattle.model.specs.declared.Fault.TheVariants.{NoFault}
 use Rattle.model.specs.Sizes.{total}
 use Rattle.model.specs.Anchor.{epoch_on, sizes_on, start_on}
 use Rattle.model.specs.Record.{change, close}
@@ -60,20 +60,20 @@ restart_begin_answers c w e h =
     only false number first second f = let z : ◌≡◌ {A = ℕ} 0 1 = cc in absurd (omega arith)
 
 -- A restart step: the record that it takes is well formed, and so is all that it reads to learn its transaction's fate.
-fate_well : (disk number : ℕ) (sc : Scan) → ending sc ≡ end → fate_fault disk (fate_in number sc) ≡ NoFault
+fate_well : (disk number : ℕ) (sc : Scan) → ending sc ≡ end → fate_fault disk (fate_in number sc) ≡ None
 unfolding ending fate_in
 fate_well disk number end e = refl
 fate_well disk number (bad p) e = let z : ◌≡◌ {A = ℕ} 0 1 = cc in absurd (omega arith)
 fate_well disk number (item p (change kind page slot n copy diff) rest) e = fate_well disk number rest e
 fate_well disk number (item p (close kind n) rest) e = go (eqb n number) (fate_well disk number rest e)
   where
-    go : (b : Bool) → fate_fault disk (fate_in number rest) ≡ NoFault → fate_fault disk (cond b Closed (fate_in number rest)) ≡ NoFault
+    go : (b : Bool) → fate_fault disk (fate_in number rest) ≡ None → fate_fault disk (cond b Closed (fate_in number rest)) ≡ None
     go true f = refl
     go false f = f
 
 module _ (c : Core) (w : World) (m : Progress c w) where
   pub record_well : (d : ℕ) → d < c.sizes.disks → position_of c d < tail_of c.logs d → (r : Decoded) → next_record c w d ≡ r
-      → record_fault c w d r ≡ NoFault
+      → record_fault c w d r ≡ None
   unfolding next_record fate_from log_left ending
   record_well d h k (Change kind page slot number copy width next) e =
       fate_well d number (scan c.sizes (read_disk c w d) (tail_of c.logs d) next) (change_well c w m d h k e)
@@ -83,12 +83,12 @@ module _ (c : Core) (w : World) (m : Progress c w) where
       let z : ◌≡◌ {A = ℕ} 0 1 = cc in
       absurd (omega arith)
 
-  pub step_never_bad : (source : ℕ) → step_fault c w source ≡ NoFault
+  pub step_never_bad : (source : ℕ) → step_fault c w source ≡ None
   unfolding step_fault
   step_never_bad source = go (ltb source c.sizes.disks && ltb 0 (remaining c source)) refl
     where
       go : (b : Bool) → ltb source c.sizes.disks && ltb 0 (remaining c source) ≡ b
-          → cond b (record_fault c w source (next_record c w source)) NoFault ≡ NoFault
+          → cond b (record_fault c w source (next_record c w source)) None ≡ None
       go true e =
           let both = (and-eq-true_iff (ltb source c.sizes.disks) (ltb 0 (remaining c source))).0 e in
           let l = ltb-true source c.sizes.disks both.0 in
@@ -162,14 +162,14 @@ replaying_stage Copying e = absurd (true≢false (sym e))
 
 -- what a restart begin and a listing read is well formed
 shut_records : (c : Core) (w : World) → (c.stage ≡ Shut → Restartable w) → when_shut c.stage ≡ true
-    → fault_from (sizes_on w.anchor) (start_on w.anchor) w.logs (sizes_on w.anchor).disks 0 ≡ NoFault
+    → fault_from (sizes_on w.anchor) (start_on w.anchor) w.logs (sizes_on w.anchor).disks 0 ≡ None
 shut_records c w shut s =
     whole_records (sizes_on w.anchor) (start_on w.anchor) w.logs (shut (shut_stage c.stage s)).image.whole
 
 -- No call finds a malformed record where, in its stage, the devices can be restarted from, the restart goes on as it began, and
 -- aborts find what was put there.
 pub never_seven : (k : Call) (c : Core) (w : World) → (c.stage ≡ Shut → Restartable w) → (c.stage ≡ Replaying → Progress c w)
-    → (when_serving c.stage ≡ true → (number : ℕ) → abort_fault c w number ≡ NoFault) → number_of (result_of k c w).answer ≡ 7 → ⊥
+    → (when_serving c.stage ≡ true → (number : ℕ) → abort_fault c w number ≡ None) → number_of (result_of k c w).answer ≡ 7 → ⊥
 unfolding finds stage_forbids format_rows begin_rows update_rows read_rows commit_rows abort_rows set_classes_rows checkpoint_begin_rows checkpoint_step_rows checkpoint_end_rows image_rows list_rows restart_begin_rows restart_step_rows restart_end_rows
 never_seven (format s budget) c w shut replaying serving e = true≢false (sym (seven_row (format s budget) c w e))
 never_seven (begin class) c w shut replaying serving e = true≢false (sym (seven_row (begin class) c w e))
