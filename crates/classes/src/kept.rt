@@ -1,5 +1,5 @@
 // A table as it is kept by value, and what it says of a class.
-ghost use Rattle.std.specs.Prelude.{◌≡◌, ℕ, ◌+◌, ◌*◌, ◌<◌, ◌≤◌, get_or};
+ghost use Rattle.std.specs.Prelude.{◌≡◌, MatchOption, ℕ, ◌+◌, ◌*◌, ◌<◌, ◌≤◌, get_or};
 ghost use Rattle.model.specs.Below.{within, list_below, first_below};
 ghost use Rattle.model.specs.Classes.{max_lines, in_set, classes_of, set_for};
 
@@ -11,7 +11,7 @@ fn byte_at(lines: &[u64], at: usize) -> u8
     requires { get_or lines.now at 0 < 256 }
     ensures { result ≡ get_or lines.now at 0 }
 {
-    if at < lines.len() { lines[at] as u8 } else { 0 }
+    lines.get(at).copied().unwrap_or(0) as u8
 }
 
 // The same word of each line.
@@ -20,10 +20,8 @@ fn column(lines: &[u64], word: usize) -> [u8; 16]
     ensures { result ≡ list_below (λ i. get_or lines.now (3 * i + word) 0) max_lines }
 {
     let mut out = [0u8; 16];
-    let mut i: usize = 0;
-    while i < 16 {
+    for i in 0..16 {
         out[i] = byte_at(lines, 3 * i + word);
-        i += 1;
     }
     out
 }
@@ -38,18 +36,17 @@ pub fn classes_of(lines: &[u64]) -> Classes
     Classes { lows, highs, sets }
 }
 
-// The first line that covers a class, or 16.
-fn line_for(lows: [u8; 16], highs: [u8; 16], class: u8) -> usize
-    ensures { result ≡ first_below (λ i. within (get_or lows i 0) (get_or highs i 0) class) max_lines }
+// The first line that covers a class.
+fn line_for(lows: [u8; 16], highs: [u8; 16], class: u8) -> Option<usize>
+    ensures { MatchOption result (first_below (λ i. within (get_or lows i 0) (get_or highs i 0) class) max_lines ≡ max_lines)
+        (λ line. (line ≡ first_below (λ i. within (get_or lows i 0) (get_or highs i 0) class) max_lines) × (line < max_lines)) }
 {
-    let mut i: usize = 0;
-    while i < 16 {
+    for i in 0..16 {
         if covers(lows[i] as u64, highs[i] as u64, class as u64) {
-            return i;
+            return Some(i);
         }
-        i += 1;
     }
-    16
+    None
 }
 
 // The disks that serve a class: all of them where no table is set.
@@ -62,8 +59,10 @@ pub fn set_for(classes: Classes, class: u8) -> u64
     }
     let lows = classes.lows;
     let highs = classes.highs;
-    let line = line_for(lows, highs, class);
-    if line < 16 { sets[line] as u64 } else { 0 }
+    match line_for(lows, highs, class) {
+        Some(line) => sets[line] as u64,
+        None => 0,
+    }
 }
 
 pub fn in_set(set: u64, disk: usize) -> bool

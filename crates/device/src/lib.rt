@@ -43,12 +43,10 @@ pub fn store_copy(
     requires n_in_bounds_2 { from + n ≤ length source.now }
     ensures { Stored budget.old budget.new at (part from n source.now) device.old device.new result }
 {
-    let mut i = 0;
-    while i < n {
+    for i in 0..n {
         if !store_word(device, at + i, source[from + i], budget) {
             return false;
         }
-        i += 1;
     }
     true
 }
@@ -58,12 +56,10 @@ pub fn store_fill(device: &mut [u64], at: usize, n: usize, value: u64, budget: &
     requires { at + n ≤ length device.old }
     ensures { Stored budget.old budget.new at (replicate n value) device.old device.new result }
 {
-    let mut i = 0;
-    while i < n {
+    for i in 0..n {
         if !store_word(device, at + i, value, budget) {
             return false;
         }
-        i += 1;
     }
     true
 }

@@ -1,12 +1,13 @@
 -- The search for a place of the table among the words of the head; and what words put there make of the state.
+use Rattle.std.specs.Prelude.{Option, None, Some, IfSome, MatchOption, is_some}
 use mathlib.Core.Path.{◌≡◌, refl, sym, ◌∙◌}
 use mathlib.Core.List.{List}
 use mathlib.Core.Bool.{true}
 use Prim.Native.Nat.{ℕ, ◌+◌, ◌<◌}
 use native.Mathlib.Omega.{arith}
-use lib.Dec.{eqb}
+use lib.Dec.{eqb, ltb}
 use lib.ListN.{get_or}
-use borrow.Author.Tests.{eq-eqb, ne_eqb}
+use borrow.Author.Tests.{eq-eqb, ne_eqb, lt-ltb, le-ltb}
 use Rattle.model.specs.declared.Core.{Core}
 use Rattle.model.specs.declared.Carried.{Carried}
 use Rattle.model.specs.State.{number_at, place_of, with_place, with_reserved, with_fill, serving_with}
@@ -37,6 +38,12 @@ module _ (h : Carried) (work : List ℕ) (own : own_work h work ≡ true) (n : �
       sym
       (first_none (λ k. eqb (get_or (core_of h work).table.numbers k 0) n) 16
       (λ k l. ne_eqb _ _ (λ q. none k l (sym (there k l) ∙ q))))
+
+-- a place that is found is one of the 16
+pub found_low : (found : Option ℕ) (place : ℕ) → IfSome found (λ p. p < 16) → MatchOption found (place ≡ 16) (λ p. p ≡ place)
+    → is_some found ≡ ltb place 16
+found_low None place low same = sym (le-ltb place 16 (omega (arith, same)))
+found_low (Some p) place low same = sym (lt-ltb place 16 (omega (arith, low, same)))
 
 -- The lists of a state with a place filled, with a place freed, with another fill: for `head_put` of model's proofs/View/Fields.antt.
 module _ (c : Core) (next : ℕ) where

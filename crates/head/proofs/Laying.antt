@@ -4,17 +4,11 @@ use mathlib.Core.List.{List, [], ◌∷◌, ◌++◌, flatten, append_assoc, app
 use Prim.Native.Nat.{ℕ, ◌+◌, ◌≤◌}
 use native.Mathlib.Omega.{arith}
 use lib.ListN.{length, get_or, drop, length-append, get_or-map}
-use lib.Seq.{sets, sets-eq, take-length}
+use lib.Seq.{sets, sets-eq}
 use Rattle.model.specs.declared.Core.{Core}
-use Rattle.model.specs.Word.{part}
 use Rattle.model.specs.View.{head_fills, head_numbers, head_words, head_lists, head_of}
 use Rattle.model.proofs.View.Head.{head_lengths, HeadSized, length_head}
 use Rattle.words.proofs.Laws.{sets_append}
-
--- a list that was copied whole
-pub copied : (l : List ℕ) {after : List ℕ} (at n : ℕ) (a : List ℕ) → length a ≡ n → after ≡ sets l at (part 0 n a) → after ≡ sets l at a
-unfolding part
-copied l at n a long e = e ∙ rw (← long, take-length)
 
 -- one run more
 pub two_runs : (l : List ℕ) {first after : List ℕ} (at n : ℕ) (a b : List ℕ) → length a ≡ n → first ≡ sets l at a → after ≡ sets first (at + n) b

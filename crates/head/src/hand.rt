@@ -10,11 +10,7 @@ use model::{Answer, Handed, Reply, Stage};
 fn is_saved(answer: Answer, stage: Stage) -> bool
     ensures { result ≡ saves answer stage }
 {
-    match answer {
-        Answer::Finished { .. } => !is_shut(stage),
-        Answer::Refused { .. } => false,
-        Answer::Interrupted { .. } => false,
-    }
+    matches!(answer, Answer::Finished { .. }) && !is_shut(stage)
 }
 
 pub fn hand_back(reply: Reply, work: &mut [u64]) -> Handed

@@ -1,21 +1,18 @@
 // Lists of the head, from the work memory and into it.
-ghost use Rattle.std.specs.Prelude.{◌≡◌, ◌+◌, ◌≤◌, min, length};
+ghost use Rattle.std.specs.Prelude.{◌≡◌, ℕ, ◌+◌, ◌^◌, ◌≤◌, ◌<◌, length, map};
 ghost use Rattle.std.proofs.lemmas.List.Edits.{sets};
 ghost use Rattle.model.specs.Word.{part};
 ghost use Rattle.head.specs.Narrow.{capped, byte_most, base_most};
 
-use words::copy_words;
-
-fn byte_of(word: u64) -> u8
-    ensures { result ≡ min byte_most word }
+// Words made narrower, one by one.
+fn narrow<T: Copy, F: Fn(u64) -> T>(out: &mut [T], words: &[u64], narrowed: F)
+    requires long { length out.old ≡ length words.now }
+    requires callable { F.IsAlwaysCallable narrowed }
+    ensures { (number : ℕ → T) → ((x : ℕ) (y : T) → x < 2 ^ 64 → F.post narrowed x y → y ≡ number x) → out.new ≡ map number words.now }
 {
-    if word > 255 { 255 } else { word as u8 }
-}
-
-fn two_bytes_of(word: u64) -> u16
-    ensures { result ≡ min base_most word }
-{
-    if word > 65535 { 65535 } else { word as u16 }
+    for i in 0..words.len() {
+        out[i] = narrowed(words[i]);
+    }
 }
 
 pub fn bytes_at(work: &[u64], at: usize) -> [u8; 64]
@@ -23,11 +20,7 @@ pub fn bytes_at(work: &[u64], at: usize) -> [u8; 64]
     ensures { result ≡ capped byte_most (part at 64 work.now) }
 {
     let mut out = [0u8; 64];
-    let mut i: usize = 0;
-    while i < 64 {
-        out[i] = byte_of(work[at + i]);
-        i += 1;
-    }
+    narrow(&mut out, &work[at..at + 64], |word| word.min(255) as u8);
     out
 }
 
@@ -36,52 +29,26 @@ pub fn bases_at(work: &[u64], at: usize) -> [u16; 64]
     ensures { result ≡ capped base_most (part at 64 work.now) }
 {
     let mut out = [0u16; 64];
-    let mut i: usize = 0;
-    while i < 64 {
-        out[i] = two_bytes_of(work[at + i]);
-        i += 1;
-    }
+    narrow(&mut out, &work[at..at + 64], |word| word.min(65535) as u16);
     out
 }
 
-pub fn eight_at(work: &[u64], at: usize) -> [u64; 8]
-    requires { at + 8 ≤ length work.now }
-    ensures { result ≡ part at 8 work.now }
+// As many words as the caller's list has.
+pub fn words_at<const N: usize>(work: &[u64], at: usize) -> [u64; N]
+    requires { at + N ≤ length work.now }
+    ensures { result ≡ part at N work.now }
 {
-    let mut out = [0u64; 8];
-    copy_words(&mut out, 0, work, at, 8);
+    let mut out = [0u64; N];
+    out.copy_from_slice(&work[at..at + N]);
     out
 }
 
-pub fn sixteen_at(work: &[u64], at: usize) -> [u64; 16]
-    requires { at + 16 ≤ length work.now }
-    ensures { result ≡ part at 16 work.now }
+// Numbers of any width go into whole words.
+pub fn put_numbers<T: Copy + Into<u64>>(work: &mut [u64], at: usize, numbers: &[T])
+    requires { at + length numbers.now ≤ length work.old }
+    ensures { (word : T → ℕ) → ((x : T) (y : ℕ) → T.converts x y → y ≡ word x) → work.new ≡ sets work.old at (map word numbers.now) }
 {
-    let mut out = [0u64; 16];
-    copy_words(&mut out, 0, work, at, 16);
-    out
-}
-
-pub fn put_bytes(work: &mut [u64], at: usize, bytes: &[u8])
-    requires { at + length bytes.now ≤ length work.old }
-    ensures { work.new ≡ sets work.old at bytes.now }
-{
-    let n = bytes.len();
-    let mut i: usize = 0;
-    while i < n {
-        work[at + i] = bytes[i] as u64;
-        i += 1;
-    }
-}
-
-pub fn put_bases(work: &mut [u64], at: usize, bases: &[u16])
-    requires { at + length bases.now ≤ length work.old }
-    ensures { work.new ≡ sets work.old at bases.now }
-{
-    let n = bases.len();
-    let mut i: usize = 0;
-    while i < n {
-        work[at + i] = bases[i] as u64;
-        i += 1;
+    for i in 0..numbers.len() {
+        work[at + i] = numbers[i].into();
     }
 }

@@ -4,7 +4,7 @@ ghost use Rattle.model.specs.declared.Carried.{Carried};
 ghost use Rattle.model.specs.View.{head_words, core_in, core_of};
 ghost use Rattle.head.specs.Narrow.{narrowed};
 
-use crate::lists::{bases_at, bytes_at, eight_at, sixteen_at};
+use crate::lists::{bases_at, bytes_at, words_at};
 use crate::own::is_own;
 use crate::places::{
     BASES_AT, DISKS_AT, FILLS_AT, FIRSTS_AT, HEAD_WORDS, NUMBERS_AT, PAGE_AT, POSITIONS_AT,
@@ -17,11 +17,11 @@ fn table_in(work: &[u64]) -> Table
     ensures { (h : Carried) → result ≡ (core_in h work.now).table }
 {
     Table {
-        numbers: sixteen_at(work, NUMBERS_AT),
-        disks: sixteen_at(work, DISKS_AT),
-        firsts: sixteen_at(work, FIRSTS_AT),
-        reserved: sixteen_at(work, RESERVED_AT),
-        sums: eight_at(work, SUMS_AT),
+        numbers: words_at(work, NUMBERS_AT),
+        disks: words_at(work, DISKS_AT),
+        firsts: words_at(work, FIRSTS_AT),
+        reserved: words_at(work, RESERVED_AT),
+        sums: words_at(work, SUMS_AT),
     }
 }
 
@@ -32,8 +32,8 @@ fn core_in(carried: Carried, work: &[u64]) -> Core
     let slots = bytes_at(work, SLOTS_AT);
     let widths = bytes_at(work, WIDTHS_AT);
     let bases = bases_at(work, BASES_AT);
-    let fills = eight_at(work, FILLS_AT);
-    let positions = eight_at(work, POSITIONS_AT);
+    let fills = words_at(work, FILLS_AT);
+    let positions = words_at(work, POSITIONS_AT);
     let table = table_in(work);
     let stage = carried.stage;
     let starts = carried.starts;

@@ -15,12 +15,7 @@ const COPY_WORDS: usize = 64;
 pub fn is_shut(stage: Stage) -> bool
     ensures { result ≡ when_shut stage }
 {
-    match stage {
-        Stage::Shut => true,
-        Stage::Replaying => false,
-        Stage::Open => false,
-        Stage::Copying => false,
-    }
+    matches!(stage, Stage::Shut)
 }
 
 // Of any numbers, so that no sum is made of them: what the head, the copy numbers and the T owners leave is the buffers.
@@ -49,9 +44,5 @@ pub fn is_own(stage: Stage, disks: u64, total: u64, words: usize) -> bool
 pub fn body_start(words: usize) -> usize
     ensures { result ≡ min head_words words }
 {
-    if words < HEAD_WORDS {
-        words
-    } else {
-        HEAD_WORDS
-    }
+    HEAD_WORDS.min(words)
 }

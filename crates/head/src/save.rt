@@ -3,13 +3,12 @@ ghost use Rattle.std.specs.Prelude.{◌≡◌, [], ◌∷◌, ◌++◌, ◌≤�
 ghost use Rattle.std.proofs.lemmas.List.Edits.{sets};
 ghost use Rattle.model.specs.View.{head_slots, head_fills, head_numbers, head_words, carried_of, head_of};
 
-use crate::lists::{put_bases, put_bytes};
+use crate::lists::put_numbers;
 use crate::places::{
     BASES_AT, DISKS_AT, FILLS_AT, FIRSTS_AT, NUMBERS_AT, PAGE_AT, POSITIONS_AT, RESERVED_AT,
     SLOTS_AT, SUMS_AT, WIDTHS_AT,
 };
 use model::{Bases, Carried, Core, Replay, Sizes, Table};
-use words::copy_words;
 
 fn save_pages(work: &mut [u64], sizes: Sizes, bases: Bases)
     requires { head_words ≤ length work.old }
@@ -18,9 +17,9 @@ fn save_pages(work: &mut [u64], sizes: Sizes, bases: Bases)
     let slots = sizes.slots;
     let widths = sizes.widths;
     let pages = bases.pages;
-    put_bytes(work, SLOTS_AT, &slots);
-    put_bytes(work, WIDTHS_AT, &widths);
-    put_bases(work, BASES_AT, &pages);
+    put_numbers(work, SLOTS_AT, &slots);
+    put_numbers(work, WIDTHS_AT, &widths);
+    put_numbers(work, BASES_AT, &pages);
 }
 
 fn save_disks(work: &mut [u64], fills: [u64; 8], sums: [u64; 8], replay: Replay)
@@ -28,9 +27,9 @@ fn save_disks(work: &mut [u64], fills: [u64; 8], sums: [u64; 8], replay: Replay)
     ensures { work.new ≡ sets work.old head_fills (fills ++ (sums ++ (replay.positions ++ (replay.page ∷ [])))) }
 {
     let positions = replay.positions;
-    copy_words(work, FILLS_AT, &fills, 0, 8);
-    copy_words(work, SUMS_AT, &sums, 0, 8);
-    copy_words(work, POSITIONS_AT, &positions, 0, 8);
+    put_numbers(work, FILLS_AT, &fills);
+    put_numbers(work, SUMS_AT, &sums);
+    put_numbers(work, POSITIONS_AT, &positions);
     work[PAGE_AT] = replay.page;
 }
 
@@ -42,10 +41,10 @@ fn save_table(work: &mut [u64], table: Table)
     let disks = table.disks;
     let firsts = table.firsts;
     let reserved = table.reserved;
-    copy_words(work, NUMBERS_AT, &numbers, 0, 16);
-    copy_words(work, DISKS_AT, &disks, 0, 16);
-    copy_words(work, FIRSTS_AT, &firsts, 0, 16);
-    copy_words(work, RESERVED_AT, &reserved, 0, 16);
+    put_numbers(work, NUMBERS_AT, &numbers);
+    put_numbers(work, DISKS_AT, &disks);
+    put_numbers(work, FIRSTS_AT, &firsts);
+    put_numbers(work, RESERVED_AT, &reserved);
 }
 
 pub fn save(core: Core, work: &mut [u64])

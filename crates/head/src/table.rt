@@ -1,5 +1,5 @@
 // The table of open transactions and the logs' fills in the head.
-ghost use Rattle.std.specs.Prelude.{◌≡◌, true, ◌≤◌, ◌<◌, length};
+ghost use Rattle.std.specs.Prelude.{◌≡◌, MatchOption, IfSome, true, ◌≤◌, ◌<◌, length};
 ghost use Rattle.model.specs.declared.Carried.{Carried};
 ghost use Rattle.model.specs.State.{places, place_of, is_open};
 ghost use Rattle.model.specs.View.{head_words, own_work, core_of};
@@ -7,29 +7,26 @@ ghost use Rattle.model.specs.Fields.{put_words, entering, leaving, filling};
 
 use crate::places::{DISKS_AT, FILLS_AT, FIRSTS_AT, NUMBERS_AT, RESERVED_AT, SUMS_AT};
 
-// The place of a transaction; for 0, the lowest free place; 16 where there is none.
-pub fn place_of(work: &[u64], number: u64) -> usize
+// The place of a transaction; for 0, the lowest free place.
+pub fn place_of(work: &[u64], number: u64) -> Option<usize>
     requires { head_words ≤ length work.now }
-    ensures { (h : Carried) → own_work h work.now ≡ true → result ≡ place_of (core_of h work.now).table number }
+    ensures low { IfSome result (λ place. place < places) }
+    ensures found { (h : Carried) → own_work h work.now ≡ true
+        → MatchOption result (place_of (core_of h work.now).table number ≡ places) (λ place. place ≡ place_of (core_of h work.now).table number) }
 {
-    let mut i: usize = 0;
-    while i < 16 {
+    for i in 0..16 {
         if work[NUMBERS_AT + i] == number {
-            return i;
+            return Some(i);
         }
-        i += 1;
     }
-    16
+    None
 }
 
 pub fn is_open(work: &[u64], number: u64) -> bool
     requires { head_words ≤ length work.now }
     ensures { (h : Carried) → own_work h work.now ≡ true → result ≡ is_open (core_of h work.now).table number }
 {
-    if number == 0 {
-        return false;
-    }
-    place_of(work, number) < 16
+    number != 0 && place_of(work, number).is_some()
 }
 
 // Fills a place of the table; `sum` words are reserved on its disk.

@@ -17,7 +17,7 @@ pub const WIDTHS_AT: usize = 68;
 
 pub const ROWS_AT: usize = 132;
 
-// The sizes as an anchor has them, or a caller: words that may be out of bounds.
+// The sizes as an anchor has them, or a caller: words that may be out of bounds, in two arrays, as `store::formats::format` is given them.
 #[derive(Clone, Copy)]
 pub struct RawSizes {
     pub pages: u64,

@@ -16,11 +16,9 @@ pub fn bases_of(sizes: Sizes) -> Bases
     let widths = sizes.widths;
     let mut pages = [0u16; 64];
     let mut sum: u16 = 0;
-    let mut i: usize = 0;
-    while i < 64 {
+    for i in 0..64 {
         pages[i] = sum;
         sum += words_in_slots(slots[i], widths[i]);
-        i += 1;
     }
     Bases {
         pages,
@@ -37,13 +35,11 @@ pub fn bases_right(sizes: Sizes, bases: Bases) -> bool
     let widths = sizes.widths;
     let pages = bases.pages;
     let mut sum: u16 = 0;
-    let mut i: usize = 0;
-    while i < 64 {
+    for i in 0..64 {
         if pages[i] != sum {
             return false;
         }
         sum += words_in_slots(slots[i], widths[i]);
-        i += 1;
     }
     bases.total == sum as u64
 }

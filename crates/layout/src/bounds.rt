@@ -39,22 +39,13 @@ pub fn lengths_right(
 fn is_within(low: u64, high: u64, n: u64) -> bool
     ensures { result ≡ within low high n }
 {
-    if n < low {
-        return false;
-    }
-    n <= high
+    (low..=high).contains(&n)
 }
 
 pub fn counts_in_bounds(pages: u64, disks: u64, ring: u64) -> bool
     ensures { result ≡ counts_in_bounds (counts_of pages disks ring) }
 {
-    if !is_within(1, 64, pages) {
-        return false;
-    }
-    if !is_within(1, 8, disks) {
-        return false;
-    }
-    is_within(128, 65536, ring)
+    is_within(1, 64, pages) && is_within(1, 8, disks) && is_within(128, 65536, ring)
 }
 
 // 0 for a used page's entry in bounds, else 1. A product of 1 to 128 has both its factors within that.
@@ -108,12 +99,10 @@ pub fn in_bounds(raw: RawSizes) -> bool
     let end = raw.pages as usize;
     let slots = raw.slots;
     let widths = raw.widths;
-    let mut i: usize = 0;
-    while i < 64 {
+    for i in 0..64 {
         if !entry_in_bounds(i < end, slots[i], widths[i]) {
             return false;
         }
-        i += 1;
     }
     true
 }
@@ -124,10 +113,8 @@ fn used_faults<'a>(slots: &'a [u8; 64], widths: &'a [u8; 64], end: usize) -> u8
     ensures { (result ≤ end) × (eqb result 0 ≡ all_below (entry_in_bounds (record { pages = end; disks = 0; ring = 0; slots = slots.now; widths = widths.now })) end) }
 {
     let mut faults: u8 = 0;
-    let mut i: usize = 0;
-    while i < end {
+    for i in 0..end {
         faults += used_fault(slots[i], widths[i]);
-        i += 1;
     }
     faults
 }
@@ -138,10 +125,8 @@ fn all_faults<'a>(slots: &'a [u8; 64], widths: &'a [u8; 64], from: usize, before
     ensures { eqb result 0 ≡ all_below (entry_in_bounds (record { pages = from; disks = 0; ring = 0; slots = slots.now; widths = widths.now })) 64 }
 {
     let mut faults = before;
-    let mut i = from;
-    while i < 64 {
+    for i in from..64 {
         faults += unused_fault(slots[i], widths[i]);
-        i += 1;
     }
     faults
 }
@@ -165,10 +150,8 @@ fn bytes_of(words: [u64; 64]) -> [u8; 64]
     ensures { result ≡ words }
 {
     let mut bytes = [0u8; 64];
-    let mut i: usize = 0;
-    while i < 64 {
+    for i in 0..64 {
         bytes[i] = words[i] as u8;
-        i += 1;
     }
     bytes
 }

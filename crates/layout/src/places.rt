@@ -38,11 +38,9 @@ pub fn page_base(sizes: Sizes, page: u64) -> u64
     let widths = sizes.widths;
     let end = page as usize;
     let mut sum: u32 = 0;
-    let mut i: usize = 0;
-    while i < end {
+    for i in 0..end {
         let words = words_in_slots(slots[i], widths[i]);
         sum += words as u32;
-        i += 1;
     }
     sum as u64
 }

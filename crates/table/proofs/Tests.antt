@@ -1,16 +1,15 @@
 -- Tests of every disk and every place, and the parts of a state that they read.
 use mathlib.Core.Path.{◌≡◌, refl, sym, ap, ◌∙◌}
-use mathlib.Core.Bool.{Bool, true, false, ◌&&◌, and_assoc}
+use mathlib.Core.Bool.{Bool, ◌&&◌, and_assoc}
 use mathlib.Core.List.{List}
 use Prim.Native.Nat.{ℕ, ◌+◌, ◌-◌, ◌≤◌, ◌<◌, min}
 use native.Mathlib.Omega.{arith}
 use lib.Dec.{leb, ltb, eqb}
 use lib.ListN.{get_or}
-use borrow.Author.Tests.{leb-true, leb-false, le-leb, lt-leb}
 use Rattle.model.specs.declared.Core.{Core}
 use Rattle.model.specs.declared.Logs.{Logs}
 use Rattle.model.specs.declared.Table.{Table}
-use Rattle.model.specs.Below.{within, all_below}
+use Rattle.model.specs.Below.{all_below}
 use Rattle.model.specs.Sizes.{ring_of, sizes_in_bounds}
 use Rattle.model.specs.State.{limit, places, start_of, kept_of, tail_of, fill_of, end_of, number_at, disk_at_place, first_at, reserved_at, has_update, reserved_for, reserved_on, bases_right, disk_sound, place_sound, serving_sound, checkpoint_sound, replay_sound}
 use Rattle.model.proofs.Below.{all_cong}
@@ -18,19 +17,6 @@ use Rattle.table.specs.Parts.{cap, entries_of, core_of, room_for, log_sound, ent
 use Rattle.table.proofs.Places.{reserved_parts}
 use Rattle.table.proofs.HasRoom.{room_none, counted_capped}
 use Rattle.table.proofs.Sums.{SumsOf}
-
--- A position in a log: at or below the tail, or in the buffer.
-pub within_tail : (start tail fill p : ℕ) → start ≤ p → p ≤ tail → true ≡ within start (tail + fill) p
-unfolding within
-within_tail start tail fill p low high = rw (le-leb start p low, le-leb p (tail + fill) (omega arith))
-
-pub within_buffer : (start tail fill p : ℕ) → start ≤ p → tail < p → leb (p - tail) fill ≡ within start (tail + fill) p
-unfolding within
-within_buffer start tail fill p low past = rw (le-leb start p low) (go (leb (p - tail) fill) refl)
-  where
-    go : (b : Bool) → leb (p - tail) fill ≡ b → b ≡ leb p (tail + fill)
-    go true e = sym (le-leb p (tail + fill) (omega (arith, leb-true (p - tail) fill e)))
-    go false e = sym (lt-leb p (tail + fill) (omega (arith, leb-false (p - tail) fill e)))
 
 -- a disk is sound when its log is, by the sums of the table
 module _ (c : Core) (sums : List ℕ) (all : SumsOf sums c.table) where

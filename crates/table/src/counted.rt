@@ -7,10 +7,9 @@ const CAP: u64 = 9223372036854775808;
 
 // The sum, at most CAP.
 fn capped(a: u64, b: u64) -> u64
-    requires { a ≤ cap }
     ensures { result ≡ min cap (a + b) }
 {
-    if b <= CAP - a { a + b } else { CAP }
+    a.saturating_add(b).min(CAP)
 }
 
 // Adds what one place reserves to the sum of its disk.

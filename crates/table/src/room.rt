@@ -1,5 +1,5 @@
 // The room rule: whether a need fits on a disk, and the idlest disk with room.
-ghost use Rattle.std.specs.Prelude.{◌≡◌, ◌&&◌, ◌||◌, ◌+◌, ◌≤◌, ◌<◌, ltb, eqb, length, get_or};
+ghost use Rattle.std.specs.Prelude.{◌≡◌, MatchOption, IfSome, ◌&&◌, ◌||◌, ◌+◌, ◌≤◌, ◌<◌, ltb, eqb, length, get_or};
 ghost use Rattle.model.specs.State.{limit};
 ghost use Rattle.model.specs.Classes.{in_set};
 ghost use Rattle.model.specs.Room.{started_blocks, no_disk, better};
@@ -7,7 +7,6 @@ ghost use Rattle.table.specs.Parts.{logs_of, sums_of, core_of, room_for, idlest_
 
 use crate::place::CLOSE_WORDS;
 use classes::kept::in_set;
-use words::saturating_sub;
 
 // The bound of positions: 2^62.
 pub const LIMIT: u64 = 4611686018427387904;
@@ -20,7 +19,7 @@ pub fn fits_ring(start: u64, end: u64, reserved: u64, ring: u64, need: u64) -> b
     if LIMIT < end + reserved + need {
         return false;
     }
-    let used = saturating_sub(end, start);
+    let used = end.saturating_sub(start);
     used + reserved + need <= ring
 }
 
@@ -49,14 +48,11 @@ pub fn has_room(start: u64, tail: u64, fill: u64, reserved: u64, ring: u64, need
 fn started_blocks(words: u64) -> u64
     ensures { result ≡ started_blocks words }
 {
-    let whole = words / 16;
-    if words % 16 == 0 {
-        return whole;
-    }
-    whole + 1
+    words.div_ceil(16)
 }
 
 // A disk with fewer started blocks than the best so far, or the first.
+// `best` is 8 for none, as in the definition it is proved against: an Option would be turned back into that number in each contract.
 fn is_idler(fills: &[u64], disk: usize, best: usize) -> bool
     requires { (disk < 8) × (best ≤ 8) × (length fills.now ≡ 8) }
     ensures { result ≡ (eqb best no_disk || ltb (started_blocks (get_or fills.now disk 0)) (started_blocks (get_or fills.now best 0))) }
@@ -94,8 +90,8 @@ fn better_disk(
     }
 }
 
-// The disk of a new transaction, one of the set that has room for what a begin reserves; 8 where there is none. `fills` are the words
-// buffered, `sums` those reserved on each disk.
+// The disk of a new transaction, one of the set that has room for what a begin reserves. `fills` are the words buffered, `sums` those
+// reserved on each disk.
 pub fn idlest<'a>(
     disks: u64,
     ring: u64,
@@ -104,16 +100,16 @@ pub fn idlest<'a>(
     fills: &'a [u64],
     sums: &'a [u64],
     set: u64,
-) -> usize
+) -> Option<usize>
     requires { (disks ≤ 8) × (length fills.now ≡ 8) × (length sums.now ≡ 8) }
-    ensures { (result ≤ 8) × (result ≡ idlest_in set (core_of disks ring (logs_of starts.now tails.now fills.now) (sums_of sums.now))) }
+    ensures low { IfSome result (λ disk. disk < no_disk) }
+    ensures chosen { MatchOption result (idlest_in set (core_of disks ring (logs_of starts.now tails.now fills.now) (sums_of sums.now)) ≡ no_disk)
+        (λ disk. disk ≡ idlest_in set (core_of disks ring (logs_of starts.now tails.now fills.now) (sums_of sums.now))) }
 {
     let count = disks as usize;
     let mut best: usize = 8;
-    let mut d: usize = 0;
-    while d < count {
+    for d in 0..count {
         best = better_disk(fills, d, best, set, starts[d], tails[d], sums[d], ring);
-        d += 1;
     }
-    best
+    if best < 8 { Some(best) } else { None }
 }

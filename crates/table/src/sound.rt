@@ -13,13 +13,7 @@ use model::{Core, Logs};
 fn covers(start: u64, tail: u64, fill: u64, position: u64) -> bool
     ensures { result ≡ within start (tail + fill) position }
 {
-    if position < start {
-        return false;
-    }
-    if position <= tail {
-        return true;
-    }
-    position - tail <= fill
+    start <= position && position.saturating_sub(tail) <= fill
 }
 
 // The bounds of one disk's log, and that the words reserved on it are kept right: they are these, at most the cap.
@@ -51,12 +45,10 @@ fn disks_sound<'a>(
     requires { disks ≤ 8 }
     ensures { result ≡ all_below (log_sound ring (logs_of starts.now tails.now fills.now) kept.now sums.now) disks }
 {
-    let mut d: usize = 0;
-    while d < disks {
+    for d in 0..disks {
         if !disk_sound(starts[d], tails[d], fills[d], kept[d], sums[d], ring) {
             return false;
         }
-        d += 1;
     }
     true
 }
@@ -107,8 +99,7 @@ fn places_sound<'a>(
     ensures d_after { result ≡ true → (d : ℕ) → d < 8 → get_or sums.new d 0 ≡ min cap (reserved_for (table_of numbers.now homes.now reserved.now) d) }
     ensures value { result ≡ all_below (place_sound (core_of disks 0 (logs_of starts.now tails.now fills.now) (entries_of numbers.now homes.now firsts.now reserved.now))) places }
 {
-    let mut i: usize = 0;
-    while i < 16 {
+    for i in 0..16 {
         if !entry_sound(
             disks,
             starts,
@@ -122,7 +113,6 @@ fn places_sound<'a>(
             return false;
         }
         add_place(sums, numbers[i], homes[i], reserved[i]);
-        i += 1;
     }
     true
 }
@@ -163,12 +153,10 @@ fn ends_sound(disks: usize, logs: Logs, ends: [u64; 8]) -> bool
     requires { disks ≤ 8 }
     ensures { result ≡ all_below (end_within logs ends) disks }
 {
-    let mut d: usize = 0;
-    while d < disks {
+    for d in 0..disks {
         if !covers(logs.starts[d], logs.tails[d], logs.fills[d], ends[d]) {
             return false;
         }
-        d += 1;
     }
     true
 }
@@ -195,22 +183,17 @@ pub fn checkpoint_bounds(core: Core) -> bool
 fn position_sound(tail: u64, position: u64) -> bool
     ensures { result ≡ (leb tail limit && leb position tail) }
 {
-    if LIMIT < tail {
-        return false;
-    }
-    position <= tail
+    tail <= LIMIT && position <= tail
 }
 
 fn positions_sound(disks: usize, tails: [u64; 8], positions: [u64; 8]) -> bool
     requires { disks ≤ 8 }
     ensures { result ≡ all_below (position_within tails positions) disks }
 {
-    let mut d: usize = 0;
-    while d < disks {
+    for d in 0..disks {
         if !position_sound(tails[d], positions[d]) {
             return false;
         }
-        d += 1;
     }
     true
 }

@@ -1,10 +1,10 @@
--- Bytes put in front of what is there: one, the digits of a number, a text, spaces.
+-- Bytes put in front of what is there: one, and the digits of a number.
 use Prim.Native.Nat.{ℕ, suc, ◌+◌, ◌-◌, ◌/◌, ◌%◌, ◌<◌, ◌≤◌}
-use mathlib.Core.Path.{◌≡◌, sym, ap, ◌∙◌}
+use mathlib.Core.Path.{◌≡◌, ap, ◌∙◌}
 use mathlib.Core.List.{List, ◌∷◌, ◌++◌, append_assoc}
 use native.Mathlib.Numerals.{add-one}
 use native.Mathlib.Omega.{arith}
-use lib.ListN.{length, drop, set, get_or, replicate, length-set, length-append, length-drop}
+use lib.ListN.{length, drop, set, length-set, length-append, length-drop}
 use lib.Seq.{drop-cons, drop-set-lt, get_or-set_same}
 use borrow.Author.Tests.{lt-ltb, le-ltb}
 use Rattle.model.specs.Text.{last_digits}
@@ -45,21 +45,3 @@ module _ (l : List ℕ) (i least rest : ℕ) (above : least < i) (inside : i ≤
 pub digits_none : (l : List ℕ) (i least rest : ℕ) → i ≤ least → last_digits (i - least) rest ++ drop i l ≡ drop i l
 unfolding last_digits
 digits_none l i least rest h = let e : i - least ≡ 0 = omega arith in rw e
-
--- a byte of a text
-pub text_more : (l text behind : List ℕ) (start left : ℕ) → 1 ≤ left → left ≤ length text → start + left ≤ length l →
-    drop (start + left) l ≡ drop left text ++ behind →
-    drop (start + (left - 1)) (set l (start + (left - 1)) (get_or text (left - 1) 0)) ≡ drop (left - 1) text ++ behind
-text_more l text behind start left pos h inside e =
-    let k : left ≡ suc (left - 1) = omega arith in
-    let s : start + (left - 1) + 1 ≡ start + left = omega arith in
-    let d : drop (left - 1) text ≡ get_or text (left - 1) 0 ∷ drop left text =
-    drop-cons text (left - 1) 0 (omega arith) ∙ ap (λ (n : ℕ). get_or text (left - 1) 0 ∷ drop n text) (sym k) in
-    rw (byte_put l (start + (left - 1)) (get_or text (left - 1) 0) (omega arith), s, e, d)
-
--- one more of a run
-pub run_more : (l behind : List ℕ) (i end x : ℕ) → 1 ≤ i → i ≤ end → i ≤ length l → drop i l ≡ replicate (end - i) x ++ behind →
-    drop (i - 1) (set l (i - 1) x) ≡ replicate (end - (i - 1)) x ++ behind
-run_more l behind i end x pos h inside e =
-    let k : end - (i - 1) ≡ suc (end - i) = omega arith in
-    rw (k, byte_before l i x pos inside, e)

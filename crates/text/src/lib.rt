@@ -11,17 +11,15 @@ pub fn put_number(out: &mut [u8], end: usize, most: usize, n: u64) -> usize
     ensures out_after { drop result out.new ≡ last_digits most n ++ drop end out.old }
 {
     let least = end - most;
-    let mut i = end;
     let mut rest = n;
-    while least < i {
-        i -= 1;
-        out[i] = 48 + (rest % 10) as u8;
+    for i in (least..end).rev() {
+        out[i] = b'0' + (rest % 10) as u8;
         if rest < 10 {
             return i;
         }
-        rest = rest / 10;
+        rest /= 10;
     }
-    i
+    least
 }
 
 // Bytes.
@@ -31,11 +29,7 @@ pub fn put_text(out: &mut [u8], end: usize, text: &[u8]) -> usize
     ensures out_after { drop result out.new ≡ text.now ++ drop end out.old }
 {
     let start = end - text.len();
-    let mut left = text.len();
-    while 0 < left {
-        left -= 1;
-        out[start + left] = text[left];
-    }
+    out[start..end].copy_from_slice(text);
     start
 }
 
@@ -44,9 +38,5 @@ pub fn put_run(out: &mut [u8], from: usize, end: usize, byte: u8)
     requires { (from ≤ end) × (end ≤ length out.old) }
     ensures { drop from out.new ≡ replicate (end - from) byte ++ drop end out.old }
 {
-    let mut i = end;
-    while from < i {
-        i -= 1;
-        out[i] = byte;
-    }
+    out[from..end].fill(byte);
 }

@@ -8,6 +8,8 @@ use native.Mathlib.Omega.{arith}
 use lib.ListN.{length, get_or, set, take, drop, replicate, length-drop, length-replicate, drop_of_length-le}
 use lib.Bits.{bit_xor}
 use lib.Count.{ones, ones-le}
+use Rattle.std.proofs.Common.{append_assoc}
+use borrow.Rule.Slice.PartMut.{put_mid}
 use lib.Seq.{sets, sets-eq, take-suc, take-add, take-length, get_or-drop, drop-drop}
 use Rattle.model.specs.Below.{sum_over}
 use Rattle.model.specs.Word.{◌⊕◌, xors, ones_over, part}
@@ -25,6 +27,13 @@ sets_snoc l at (x ∷ vs) v = rw (add-suc, ← suc-add) (sets_snoc (set l at x) 
 -- the same where the run's length is known by an equation
 pub sets_more : (l : List ℕ) (at : ℕ) (vs : List ℕ) (v n : ℕ) → length vs ≡ n → set (sets l at vs) (at + n) v ≡ sets l at (vs ++ (v ∷ []))
 sets_more l at vs v n e = rw (← e) (sym (sets_snoc l at vs v))
+
+-- a part of a list that is written anew is one run of stores
+pub put_part : (l : List ℕ) (at k : ℕ) (now vs : List ℕ) → now ≡ vs → length vs ≡ k → at + k ≤ length l → put_mid at k l now ≡ sets l at vs
+put_part l at k now vs same long fits =
+    let rest : drop k (drop at l) ≡ drop (at + length vs) l = drop-drop k at l ∙ ap (λ (m : ℕ). drop (at + m) l) (sym long) in
+    let laid : sets l at vs ≡ take at l ++ (vs ++ drop (at + length vs) l) = sets-eq vs l at (omega arith) ∙ append_assoc (take at l) vs _ in
+    rw (same, rest) (sym laid)
 
 -- two runs, one behind the other
 pub sets_append : (l : List ℕ) (at : ℕ) (a b : List ℕ) → sets l at (a ++ b) ≡ sets (sets l at a) (at + length a) b

@@ -1,17 +1,10 @@
-// Leaf functions on words: a difference that stops at 0; and on slices, exclusive or, copy, fill, and the difference of a slot, one loop each.
+// Leaf functions on slices of words: exclusive or, copy, fill, and the difference of a slot.
 #![tactic(auto)]
 
-ghost use Rattle.std.specs.Prelude.{◌≡◌, ◌+◌, ◌-◌, ◌≤◌, length, replicate};
+ghost use Rattle.std.specs.Prelude.{◌≡◌, ◌+◌, ◌≤◌, length, replicate};
 ghost use Rattle.std.proofs.lemmas.List.Edits.{sets};
 ghost use Rattle.model.specs.Word.{xors, ones_over, part};
 ghost use Rattle.model.specs.Image.{xor_at};
-
-// a less b, and 0 where b is more.
-pub fn saturating_sub(a: u64, b: u64) -> u64
-    ensures { result ≡ a - b }
-{
-    if a < b { 0 } else { a - b }
-}
 
 // XORs the n words of source that start at `from` into target at `at`.
 // XOR is its own inverse, so this both redoes a difference and takes it back (a compensation).
@@ -20,10 +13,8 @@ pub fn xor_in(target: &mut [u64], at: usize, source: &[u64], from: usize, n: usi
     requires n_in_bounds_2 { from + n ≤ length source.now }
     ensures { target.new ≡ xor_at at (part from n source.now) target.old }
 {
-    let mut i = 0;
-    while i < n {
+    for i in 0..n {
         target[at + i] ^= source[from + i];
-        i += 1;
     }
 }
 
@@ -33,11 +24,7 @@ pub fn copy_words(target: &mut [u64], at: usize, source: &[u64], from: usize, n:
     requires n_in_bounds_2 { from + n ≤ length source.now }
     ensures { target.new ≡ sets target.old at (part from n source.now) }
 {
-    let mut i = 0;
-    while i < n {
-        target[at + i] = source[from + i];
-        i += 1;
-    }
+    target[at..at + n].copy_from_slice(&source[from..from + n]);
 }
 
 // Sets the n words of target that start at `at` to value.
@@ -45,11 +32,7 @@ pub fn fill_words(target: &mut [u64], at: usize, n: usize, value: u64)
     requires { at + n ≤ length target.old }
     ensures { target.new ≡ sets target.old at (replicate n value) }
 {
-    let mut i = 0;
-    while i < n {
-        target[at + i] = value;
-        i += 1;
-    }
+    target[at..at + n].fill(value);
 }
 
 // Writes a slot's difference, before XOR after, into out at `at`, and hands back how many of its bits are 1 over all its words.
@@ -63,11 +46,9 @@ pub fn difference(out: &mut [u64], at: usize, pages: &[u64], from: usize, value:
 {
     let n = value.len();
     let mut ones = 0;
-    let mut i = 0;
-    while i < n {
+    for i in 0..n {
         out[at + i] = pages[from + i] ^ value[i];
         ones += u64::count_ones(out[at + i]) as u64;
-        i += 1;
     }
     ones
 }

@@ -1,28 +1,14 @@
--- `words::copy_words` meets its contract: after i turns the first i words are copied. Assumes nothing.
-use mathlib.Core.Path.{◌≡◌, refl}
-use native.Mathlib.Omega.{arith}
-use lib.Seq.{length-sets}
+-- `words::copy_words` meets its contract: a part of the target becomes a part of the source. Assumes nothing.
+use Rattle.std.proofs.Common.{arith, ◌≡◌, ◌+◌, ◌-◌}
 use Rattle.model.specs.Word.{part}
-use Rattle.words.proofs.Laws.{copy_more}
+use Rattle.model.proofs.Parts.{length_part}
+use Rattle.words.proofs.Laws.{put_part}
 use Rattle.words.proofs.copy_words.Goals as goal
 
-pub loop-i-init : goal.loop-i-init
-unfolding part
-loop-i-init c = (omega arith, refl)
-
-pub bounds-target-at : goal.bounds-target-at
-bounds-target-at c = rw (c.loop-i.invariant.1, length-sets) (omega arith)
-
-pub loop-i-preserved : goal.loop-i-preserved
-loop-i-preserved c =
-    let s = c.args in
-    let l = c.loop-i in
-    (omega arith, rw l.invariant.1 (copy_more s.target.now s.at s.source.now s.from l.i (omega arith)))
-
-pub shape_of-target : goal.shape_of-target
-shape_of-target c = rw (c.loop-i.invariant.1, length-sets)
-
 pub returns : goal.returns
+unfolding part
 returns c =
-    let e : c.loop-i.i ≡ c.args.n = omega arith in
-    rw (← e) c.loop-i.invariant.1
+    let s = c.args in
+    let written : s.at + s.n - s.at ≡ s.n = omega arith in
+    let read : s.from + s.n - s.from ≡ s.n = omega arith in
+    rw written (put_part _ s.at s.n _ _ (rw read at c.copy_from_slice.ensures.after) (length_part s.from s.n s.source.now (omega arith)) (omega arith))

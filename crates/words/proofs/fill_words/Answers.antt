@@ -1,26 +1,15 @@
--- `words::fill_words` meets its contract: after i turns the first i words are the value. Assumes nothing.
-use mathlib.Core.Path.{◌≡◌, refl}
-use native.Mathlib.Omega.{arith}
-use lib.Seq.{length-sets}
-use Rattle.words.proofs.Laws.{fill_more}
+-- `words::fill_words` meets its contract: a part of the target becomes n times the value. Assumes nothing.
+use Rattle.std.proofs.Common.{arith, ◌≡◌, ◌+◌, ◌-◌}
+use lib.ListN.{length-replicate}
+use Rattle.model.specs.Word.{part}
+use Rattle.model.proofs.Parts.{length_part}
+use Rattle.words.proofs.Laws.{put_part}
 use Rattle.words.proofs.fill_words.Goals as goal
 
-pub loop-i-init : goal.loop-i-init
-loop-i-init c = (omega arith, refl)
-
-pub bounds-target-at : goal.bounds-target-at
-bounds-target-at c = rw (c.loop-i.invariant.1, length-sets) (omega arith)
-
-pub loop-i-preserved : goal.loop-i-preserved
-loop-i-preserved c =
-    let s = c.args in
-    let l = c.loop-i in
-    (omega arith, rw l.invariant.1 (fill_more s.target.now s.at s.value l.i))
-
-pub shape_of-target : goal.shape_of-target
-shape_of-target c = rw (c.loop-i.invariant.1, length-sets)
-
 pub returns : goal.returns
+unfolding part
 returns c =
-    let e : c.loop-i.i ≡ c.args.n = omega arith in
-    rw (← e) c.loop-i.invariant.1
+    let s = c.args in
+    let written : s.at + s.n - s.at ≡ s.n = omega arith in
+    let filled = rw (written, length_part s.at s.n s.target.now (omega arith)) at (c.fill.ensures.after (λ y same. same)) in
+    rw written (put_part _ s.at s.n _ _ filled (length-replicate s.n s.value) (omega arith))

@@ -13,13 +13,12 @@ byte_at-requires c = c.requires.1 _
 pub loop-i-preserved : goal.loop-i-preserved
 loop-i-preserved c =
     let l = c.loop-i in (
-      omega arith,
-      simp length-set l.invariant.1,
-      below_more _ _ (λ k h. get_or-set_other l.out l.i k _ 0 (λ e. omega arith) ∙ l.invariant.2 k h)
+      simp length-set l.invariant.0,
+      below_more _ _ (λ k h. get_or-set_other l.out l.i k _ 0 (λ e. omega arith) ∙ l.invariant.1 k h)
           (get_or-set_same l.out l.i _ 0 (omega arith) ∙ c.byte_at.ensures),
     )
 
 pub returns : goal.returns
 returns c =
     let l = c.loop-i in
-    ext_get_or 0 l.out _ (l.invariant.1 ∙ sym (length_list _ 16)) (λ k h. l.invariant.2 k (omega arith) ∙ sym (get_or_list _ 16 k 0 (omega arith)))
+    ext_get_or 0 l.out _ (l.invariant.0 ∙ sym (length_list _ 16)) (λ k h. l.invariant.1 k (omega arith) ∙ sym (get_or_list _ 16 k 0 (omega arith)))

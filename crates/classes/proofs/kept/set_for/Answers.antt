@@ -14,17 +14,17 @@ pub returns-then-sets-eq0 : goal.returns-then-sets-eq0
 unfolding set_for
 returns-then-sets-eq0 c = (search rules, rw (eq-eqb _ _ c.if-sets-eq0.true))
 
-pub returns-then-line-lt16 : goal.returns-then-line-lt16
+pub returns-in-Some : goal.returns-in-Some
 unfolding set_for line_for
-returns-then-line-lt16 c =
+returns-in-Some c =
     let t = c.args.classes in
-    let small : Fits w8 (get_or t.sets c.line_for-line.result 0) = search rules in
-    (omega (arith, small.fits), rw (ne_eqb _ _ c.if-sets-eq0.false) (ap (λ (i : ℕ). get_or t.sets i 0) c.line_for-line.ensures))
+    let small : Fits w8 (get_or t.sets c.in-Some.line 0) = search rules in
+    (omega (arith, small.fits), rw (ne_eqb _ _ c.if-sets-eq0.false) (ap (λ (i : ℕ). get_or t.sets i 0) c.in-Some.ensures.0))
 
-pub returns-else-line-lt16 : goal.returns-else-line-lt16
+pub returns-in-None : goal.returns-in-None
 unfolding set_for line_for
-returns-else-line-lt16 c =
+returns-in-None c =
     let t = c.args.classes in
     let long : length t.sets ≡ 16 = search rules in
-    let none : get_or t.sets c.line_for-line.result 0 ≡ 0 = get_or-eq_default t.sets 0 {n = c.line_for-line.result} (omega arith) in
-    (search rules, rw (ne_eqb _ _ c.if-sets-eq0.false) (sym none ∙ ap (λ (i : ℕ). get_or t.sets i 0) c.line_for-line.ensures))
+    let none : get_or t.sets 16 0 ≡ 0 = get_or-eq_default t.sets 0 {n = 16} (omega arith) in
+    (search rules, rw (ne_eqb _ _ c.if-sets-eq0.false) (sym (ap (λ (i : ℕ). get_or t.sets i 0) c.in-None.ensures ∙ none)))

@@ -1,13 +1,11 @@
--- `classes::lines::covers` meets its contract: by cases on the tests. Assumes nothing.
-use mathlib.Core.Path.{refl}
-use borrow.Author.Tests.{le-leb, lt-leb}
+-- `classes::lines::covers` meets its contract: the library's test of a range, in numbers. Assumes nothing.
+use Rattle.std.proofs.Common.{arith}
+use Rattle.std.proofs.lemmas.Bool.Decides.{nat_tests}
 use Rattle.model.specs.Below.{within}
 use Rattle.classes.proofs.lines.covers.Goals as goal
 
-pub returns-then-class-low : goal.returns-then-class-low
-unfolding within
-returns-then-class-low c = rw (lt-leb _ _ c.if-class-low.true)
-
 pub returns : goal.returns
 unfolding within
-returns c = rw (le-leb _ _ c.if-class-low.false) refl
+returns c =
+    let told = rw (c.new.ensures.start, c.new.ensures.end, c.new.ensures.exhausted) at c.contains.ensures.value in
+    grind (arith, nat_tests, told)

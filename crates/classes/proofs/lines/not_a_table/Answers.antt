@@ -1,17 +1,14 @@
--- `classes::lines::not_a_table` meets its contract: by cases on the tests. Assumes nothing.
-use mathlib.Core.Path.{refl}
-use borrow.Author.Tests.{eq-eqb, ne_eqb}
+-- `classes::lines::not_a_table` meets its contract: by definition. Assumes nothing.
+use Rattle.std.proofs.Common.{arith}
+use Rattle.std.proofs.lemmas.Bool.Decides.{nat_tests}
 use Rattle.model.specs.Classes.{not_a_table}
 use Rattle.classes.proofs.lines.not_a_table.Goals as goal
-
-pub returns-then-len-ne0 : goal.returns-then-len-ne0
-unfolding not_a_table
-returns-then-len-ne0 c = rw (ne_eqb _ _ c.if-len-ne0.true)
+use Rattle.classes.proofs.lines.not_a_table.Goals.{then-len-ne0, else-len-ne0}
 
 pub returns-then-len-eq0 : goal.returns-then-len-eq0
 unfolding not_a_table
-returns-then-len-eq0 c = rw (eq-eqb _ _ c.if-len-ne0.false, eq-eqb _ _ c.if-len-eq0.true)
+returns-then-len-eq0 c = elim c.if-len-ne0.branch [ then-len-ne0 w ↦ grind (arith, nat_tests, w) | else-len-ne0 w ↦ grind (arith, nat_tests, w) ]
 
-pub returns : goal.returns
+pub returns-else-len-eq0 : goal.returns-else-len-eq0
 unfolding not_a_table
-returns c = rw (eq-eqb _ _ c.if-len-ne0.false, ne_eqb _ _ c.if-len-eq0.false) refl
+returns-else-len-eq0 c = grind (arith, nat_tests, c.if-len-eq0.false)

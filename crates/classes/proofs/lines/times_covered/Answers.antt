@@ -13,7 +13,7 @@ use Rattle.classes.proofs.lines.times_covered.Goals.{then-covers, else-covers}
 
 pub loop-i-init : goal.loop-i-init
 unfolding sum_below
-loop-i-init c = (search rules, search rules, refl)
+loop-i-init c = (search rules, refl)
 
 pub loop-i-preserved : goal.loop-i-preserved
 unfolding low_at high_at
@@ -22,9 +22,8 @@ loop-i-preserved c =
     let l = c.loop-i in
     let grown : c.if-covers.times ≡ l.times + cond c.covers.result 1 0 =
     elim c.if-covers.branch [ then-covers w ↦ rw w.if-covers.true w.times-is | else-covers w ↦ rw w.if-covers.false (omega arith) ] in (
-      omega arith,
       elim c.if-covers.branch [ then-covers w ↦ omega arith | else-covers w ↦ omega arith ],
-      grown ∙ covered_more s.lines.now s.class l.i l.times l.invariant.2 c.covers.ensures,
+      grown ∙ covered_more s.lines.now s.class l.i l.times l.invariant.1 c.covers.ensures,
     )
 
 pub returns : goal.returns
@@ -32,4 +31,4 @@ unfolding times_covered line_count
 returns c =
     let l = c.loop-i in
     let last : l.i ≡ length c.args.lines.now / 3 = omega arith in
-    rw last at l.invariant.2
+    rw last at l.invariant.1

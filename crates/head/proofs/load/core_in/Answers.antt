@@ -9,7 +9,7 @@ returns c =
       c.bytes_at-slots.ensures,
       c.bytes_at-widths.ensures,
       c.bases_at-bases.ensures,
-      c.eight_at-fills.ensures,
-      c.eight_at-positions.ensures,
+      c.words_at-fills.ensures,
+      c.words_at-positions.ensures,
       c.table_in-table.ensures c.args.carried,
     )

@@ -4,9 +4,9 @@ use Rattle.head.proofs.load.table_in.Goals as goal
 pub returns : goal.returns
 returns c h =
     rw (
-      c.sixteen_at.ensures,
-      c.sixteen_at-2.ensures,
-      c.sixteen_at-3.ensures,
-      c.sixteen_at-4.ensures,
-      c.eight_at.ensures,
+      c.words_at.ensures,
+      c.words_at-2.ensures,
+      c.words_at-3.ensures,
+      c.words_at-4.ensures,
+      c.words_at-5.ensures,
     )

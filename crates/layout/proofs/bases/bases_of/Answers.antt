@@ -12,7 +12,7 @@ use Rattle.layout.proofs.bases.bases_of.Goals as goal
 
 pub loop-i-init : goal.loop-i-init
 unfolding sum_below
-loop-i-init c = (omega arith, refl, omega arith, refl, λ page h. absurd (omega arith))
+loop-i-init c = (refl, omega arith, refl, λ page h. absurd (omega arith))
 
 pub overflow_add-sum : goal.overflow_add-sum
 unfolding page_words slots_in width_in
@@ -25,11 +25,10 @@ loop-i-preserved c =
     let inv = c.loop-i.invariant in
     let s = c.args.sizes in
     let small = page_small s c.requires c.loop-i.i (omega arith) in (
-      omega arith,
-      simp length-set inv.1,
+      simp length-set inv.0,
       omega (arith, c.words_in_slots-sum.ensures, small),
-      rw (sum_step, c.words_in_slots-sum.ensures, inv.3),
-      sums_more (λ p. get_or s.slots p 0 * get_or s.widths p 0) c.loop-i.pages c.loop-i.i c.loop-i.sum (omega arith) inv.3 inv.4,
+      rw (sum_step, c.words_in_slots-sum.ensures, inv.2),
+      sums_more (λ p. get_or s.slots p 0 * get_or s.widths p 0) c.loop-i.pages c.loop-i.i c.loop-i.sum (omega arith) inv.2 inv.3,
     )
 
 pub returns : goal.returns
@@ -37,5 +36,5 @@ unfolding page_base page_words slots_in width_in
 returns c =
     let inv = c.loop-i.invariant in
     let last : c.loop-i.i ≡ 64 = omega arith in
-    let sum : c.loop-i.sum ≡ page_base c.args.sizes 64 = rw last at inv.3 in
-    (bases_filled c.args.sizes c.requires sum _ inv.1 (λ page h. inv.4 page (omega arith)), omega arith)
+    let sum : c.loop-i.sum ≡ page_base c.args.sizes 64 = rw last at inv.2 in
+    (bases_filled c.args.sizes c.requires sum _ inv.0 (λ page h. inv.3 page (omega arith)), omega arith)

@@ -11,13 +11,13 @@ use Rattle.layout.proofs.bases.bases_right.Goals as goal
 
 pub loop-i-init : goal.loop-i-init
 unfolding sum_below
-loop-i-init c = (omega arith, omega arith, refl, all_none _)
+loop-i-init c = (omega arith, refl, all_none _)
 
 pub returns-then-pages-i : goal.returns-then-pages-i
 unfolding page_base page_words slots_in width_in
 returns-then-pages-i c =
     let x = c.args in
-    base_wrong x.bases.pages (page_base x.sizes) c.loop-i.i c.loop-i.invariant.2 (eqb x.bases.total (total x.sizes)) (omega arith) c.if-pages-i.true
+    base_wrong x.bases.pages (page_base x.sizes) c.loop-i.i c.loop-i.invariant.1 (eqb x.bases.total (total x.sizes)) (omega arith) c.if-pages-i.true
 
 pub overflow_add-sum : goal.overflow_add-sum
 unfolding page_words slots_in width_in
@@ -29,10 +29,9 @@ unfolding page_base page_words slots_in width_in
 loop-i-preserved c =
     let inv = c.loop-i.invariant in
     let small = page_small c.args.sizes c.requires c.loop-i.i (omega arith) in (
-      omega arith,
       omega (arith, c.words_in_slots-sum.ensures, small),
-      rw (sum_step, c.words_in_slots-sum.ensures, inv.2),
-      base_more c.args.bases.pages (page_base c.args.sizes) c.loop-i.i inv.2 inv.3 c.if-pages-i.false,
+      rw (sum_step, c.words_in_slots-sum.ensures, inv.1),
+      base_more c.args.bases.pages (page_base c.args.sizes) c.loop-i.i inv.1 inv.2 c.if-pages-i.false,
     )
 
 pub returns : goal.returns
@@ -40,5 +39,5 @@ unfolding page_base page_words slots_in width_in
 returns c =
     let inv = c.loop-i.invariant in
     let last : c.loop-i.i ≡ 64 = omega arith in
-    let sum : c.loop-i.sum ≡ page_base c.args.sizes 64 = rw last at inv.2 in
-    bases_tested c.args.sizes c.requires sum _ _ (all_done _ 64 c.loop-i.i (omega arith) (omega arith) inv.3)
+    let sum : c.loop-i.sum ≡ page_base c.args.sizes 64 = rw last at inv.1 in
+    bases_tested c.args.sizes c.requires sum _ _ (all_done _ 64 c.loop-i.i (omega arith) (omega arith) inv.2)

@@ -19,9 +19,9 @@ loop-i-preserved c =
     let i = c.loop-i.i in
     let given = c.args in
     let entry = entry_in_bounds (entries_of given.from given.slots.now given.widths.now) in
-    (omega arith, omega arith, omega arith, count_more entry i c.loop-i.faults c.unused_fault-faults.result (rw (le-ltb i given.from (omega arith)) c.unused_fault-faults.ensures.1) c.loop-i.invariant.3)
+    (omega arith, count_more entry i c.loop-i.faults c.unused_fault-faults.result (rw (le-ltb i given.from (omega arith)) c.unused_fault-faults.ensures.1) c.loop-i.invariant.1)
 
 pub returns : goal.returns
 returns c =
     let last : c.loop-i.i ≡ 64 = omega arith in
-    rw last at c.loop-i.invariant.3
+    rw last at c.loop-i.invariant.1

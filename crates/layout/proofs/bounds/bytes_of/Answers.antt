@@ -13,14 +13,11 @@ pub loop-i-preserved : goal.loop-i-preserved
 loop-i-preserved c =
     let words = c.args.words in
     let inv = c.loop-i.invariant in
-    let long : length words ≡ 64 = search rules in (
-      omega arith,
-      simp length-set inv.1,
-      fill_more c.loop-i.bytes words c.loop-i.i _ (omega arith) (omega arith) refl inv.2,
-    )
+    let long : length words ≡ 64 = search rules in
+    (simp length-set inv.0, fill_more c.loop-i.bytes words c.loop-i.i _ (omega arith) (omega arith) refl inv.1)
 
 pub returns : goal.returns
 returns c =
     let words = c.args.words in
     let inv = c.loop-i.invariant in
-    fill_end c.loop-i.bytes words 64 c.loop-i.i (omega arith) inv.1 (search rules) inv.2
+    fill_end c.loop-i.bytes words 64 c.loop-i.i (omega arith) inv.0 (search rules) inv.1

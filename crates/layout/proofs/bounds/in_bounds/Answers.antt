@@ -11,7 +11,7 @@ pub returns-then-not-counts_in_bounds : goal.returns-then-not-counts_in_bounds
 returns-then-not-counts_in_bounds c = counts_out _ (sym c.counts_in_bounds.ensures ∙ c.if-not-counts_in_bounds.true)
 
 pub loop-i-init : goal.loop-i-init
-loop-i-init c = (omega arith, all_none _)
+loop-i-init c = all_none _
 
 pub returns-then-not-entry_in_bounds : goal.returns-then-not-entry_in_bounds
 unfolding entry_in_bounds used_entry unused_entry page_words slots_in width_in
@@ -23,10 +23,10 @@ pub loop-i-preserved : goal.loop-i-preserved
 unfolding entry_in_bounds used_entry unused_entry page_words slots_in width_in
 loop-i-preserved c =
     let test = c.entry_in_bounds.ensures in
-    (omega arith, all_more _ _ c.loop-i.invariant.1 (sym test ∙ c.if-not-entry_in_bounds.false))
+    all_more _ _ c.loop-i.invariant (sym test ∙ c.if-not-entry_in_bounds.false)
 
 pub returns : goal.returns
 returns c =
     let last : c.loop-i.i ≡ 64 = omega arith in
     all_in _ (sym c.counts_in_bounds.ensures ∙ c.if-not-counts_in_bounds.false) (search rules) (search rules)
-    (rw last at c.loop-i.invariant.1)
+    (rw last at c.loop-i.invariant)

@@ -1,5 +1,4 @@
 -- The loop's invariant: the entries passed are in bounds.
-use Prim.Native.Nat.{◌-◌, ◌≤◌}
 use mathlib.Core.Path.{◌≡◌}
 use mathlib.Core.Bool.{true}
 use Rattle.model.specs.Below.{all_below}
@@ -8,7 +7,4 @@ use Rattle.layout.proofs.Laws.{entries_of}
 use Rattle.layout.proofs.bounds.in_bounds.Given as goal
 
 abbrev pub invariant-loop-i : goal.invariant-loop-i
-invariant-loop-i l = (l.i ≤ 64) × (all_below (entry_in_bounds (entries_of l.end l.slots l.widths)) l.i ≡ true)
-
-abbrev pub decreases-loop-i : goal.decreases-loop-i
-decreases-loop-i l = 64 - l.i
+invariant-loop-i l = all_below (entry_in_bounds (entries_of l.end l.slots l.widths)) l.i ≡ true

@@ -1,11 +1,11 @@
-use borrow.Author.Tests.{lt-leb, le-leb}
+-- `layout::bounds::is_within` meets its contract: the library's test of a range, in numbers. Assumes nothing.
+use Rattle.std.proofs.Common.{arith}
+use Rattle.std.proofs.lemmas.Bool.Decides.{nat_tests}
 use Rattle.model.specs.Below.{within}
 use Rattle.layout.proofs.bounds.is_within.Goals as goal
 
-pub returns-then-n-low : goal.returns-then-n-low
-unfolding within
-returns-then-n-low c = rw (lt-leb _ _ c.if-n-low.true)
-
 pub returns : goal.returns
 unfolding within
-returns c = rw (le-leb _ _ c.if-n-low.false)
+returns c =
+    let told = rw (c.new.ensures.start, c.new.ensures.end, c.new.ensures.exhausted) at c.contains.ensures.value in
+    grind (arith, nat_tests, told)

@@ -19,9 +19,9 @@ loop-i-preserved c =
     let i = c.loop-i.i in
     let given = c.args in
     let entry = entry_in_bounds (entries_of given.end given.slots.now given.widths.now) in
-    (omega arith, omega arith, count_more entry i c.loop-i.faults c.used_fault-faults.result (rw (lt-ltb i given.end (omega arith)) c.used_fault-faults.ensures.1) c.loop-i.invariant.2)
+    (omega arith, count_more entry i c.loop-i.faults c.used_fault-faults.result (rw (lt-ltb i given.end (omega arith)) c.used_fault-faults.ensures.1) c.loop-i.invariant.1)
 
 pub returns : goal.returns
 returns c =
     let last : c.loop-i.i ≡ c.args.end = omega arith in
-    (omega arith, rw last at c.loop-i.invariant.2)
+    (omega arith, rw last at c.loop-i.invariant.1)

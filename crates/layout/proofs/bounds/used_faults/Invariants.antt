@@ -1,5 +1,5 @@
 -- The loop's invariant: the count is 0 exactly where the entries passed are in bounds.
-use Prim.Native.Nat.{◌-◌, ◌≤◌}
+use Prim.Native.Nat.{◌≤◌}
 use mathlib.Core.Path.{◌≡◌}
 use lib.Dec.{eqb}
 use Rattle.model.specs.Below.{all_below}
@@ -8,7 +8,4 @@ use Rattle.layout.proofs.Laws.{entries_of}
 use Rattle.layout.proofs.bounds.used_faults.Given as goal
 
 abbrev pub invariant-loop-i : goal.invariant-loop-i
-invariant-loop-i l = (l.i ≤ l.end) × (l.faults ≤ l.i) × (eqb l.faults 0 ≡ all_below (entry_in_bounds (entries_of l.end l.slots l.widths)) l.i)
-
-abbrev pub decreases-loop-i : goal.decreases-loop-i
-decreases-loop-i l = l.end - l.i
+invariant-loop-i l = (l.faults ≤ l.i) × (eqb l.faults 0 ≡ all_below (entry_in_bounds (entries_of l.end l.slots l.widths)) l.i)

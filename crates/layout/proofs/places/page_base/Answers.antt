@@ -13,10 +13,10 @@ loop-i-init c = search rules
 
 pub loop-i-preserved : goal.loop-i-preserved
 loop-i-preserved c =
-    (omega arith, omega arith, rw (sum_step, c.words_in_slots-words.ensures, c.loop-i.invariant.2))
+    (omega arith, rw (sum_step, c.words_in_slots-words.ensures, c.loop-i.invariant.1))
 
 pub returns : goal.returns
 unfolding page_base page_words slots_in width_in
 returns c =
     let last : c.loop-i.i ≡ c.args.page = omega arith in
-    (rw (← last) c.loop-i.invariant.2, omega arith)
+    (rw (← last) c.loop-i.invariant.1, omega arith)

@@ -13,11 +13,6 @@ returns-then-disk-ge8 c d h =
     let a = c.args in
     away_adds a.sums.now a.number a.disk a.words d (omega (arith, h, c.if-disk-ge8.true)) (c.requires.1 d h)
 
-pub capped-requires : goal.capped-requires
-capped-requires c =
-    let a = c.args in
-    c.requires.1 a.disk (omega (arith, c.if-disk-ge8.false))
-
 pub returns : goal.returns
 returns c d h =
     let a = c.args in

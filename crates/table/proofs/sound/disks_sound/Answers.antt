@@ -10,7 +10,7 @@ use Rattle.table.proofs.sound.disks_sound.Goals as goal
 
 pub loop-d-init : goal.loop-d-init
 unfolding all_below
-loop-d-init c = (search rules, refl)
+loop-d-init c = refl
 
 pub returns-then-not-disk_sound : goal.returns-then-not-disk_sound
 unfolding log_sound start_of tail_of fill_of end_of
@@ -18,7 +18,7 @@ returns-then-not-disk_sound c = all_stop _ _ c.loop-d.d (omega arith) (sym c.dis
 
 pub loop-d-preserved : goal.loop-d-preserved
 unfolding log_sound start_of tail_of fill_of end_of
-loop-d-preserved c = (search rules, all_more _ _ c.loop-d.invariant.1 (sym c.disk_sound.ensures ∙ c.if-not-disk_sound.false))
+loop-d-preserved c = all_more _ _ c.loop-d.invariant (sym c.disk_sound.ensures ∙ c.if-not-disk_sound.false)
 
 pub returns : goal.returns
-returns c = all_done _ _ _ c.loop-d.invariant.0 (omega arith) c.loop-d.invariant.1
+returns c = all_done _ _ _ (search rules) (omega arith) c.loop-d.invariant

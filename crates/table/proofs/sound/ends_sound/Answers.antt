@@ -10,7 +10,7 @@ use Rattle.table.proofs.sound.ends_sound.Goals as goal
 
 pub loop-d-init : goal.loop-d-init
 unfolding all_below
-loop-d-init c = (search rules, refl)
+loop-d-init c = refl
 
 pub returns-then-not-covers : goal.returns-then-not-covers
 unfolding end_within start_of tail_of fill_of end_of
@@ -18,7 +18,7 @@ returns-then-not-covers c = all_stop _ _ c.loop-d.d (omega arith) (sym c.covers.
 
 pub loop-d-preserved : goal.loop-d-preserved
 unfolding end_within start_of tail_of fill_of end_of
-loop-d-preserved c = (search rules, all_more _ _ c.loop-d.invariant.1 (sym c.covers.ensures ∙ c.if-not-covers.false))
+loop-d-preserved c = all_more _ _ c.loop-d.invariant (sym c.covers.ensures ∙ c.if-not-covers.false)
 
 pub returns : goal.returns
-returns c = all_done _ _ _ c.loop-d.invariant.0 (omega arith) c.loop-d.invariant.1
+returns c = all_done _ _ _ (search rules) (omega arith) c.loop-d.invariant

@@ -1,6 +1,7 @@
 -- `table::sound::places_sound` meets its contract: the places passed are sound, and the sums are over them. Assumes nothing.
 use Prim.Native.Nat.{min}
 use mathlib.Core.Bool.{true≢false}
+use lib.ListN.{length}
 use mathlib.Core.Path.{◌≡◌, refl, sym, ap, ◌∙◌}
 use native.Mathlib.Omega.{arith}
 use borrow.Author.Rules.{rules}
@@ -14,10 +15,7 @@ use Rattle.table.proofs.sound.places_sound.Goals as goal
 
 pub loop-i-init : goal.loop-i-init
 unfolding all_below sum_below
-loop-i-init c = (search rules, refl, rw c.requires.1 refl, λ d h. rw c.requires.1 (get_or-replicate 8 d 0 0 h))
-
-pub shape_of-sums-then-not-entry_sound : goal.shape_of-sums-then-not-entry_sound
-shape_of-sums-then-not-entry_sound c = rw c.requires.1 c.loop-i.invariant.2
+loop-i-init c = (refl, λ d h. rw c.requires.1 (get_or-replicate 8 d 0 0 h))
 
 pub returns-then-not-entry_sound : goal.returns-then-not-entry_sound
 returns-then-not-entry_sound c =
@@ -27,24 +25,19 @@ returns-then-not-entry_sound c =
     }
 
 pub add_place-requires : goal.add_place-requires
-add_place-requires c = (c.loop-i.invariant.2, λ d h. omega (arith, c.loop-i.invariant.3 d h))
+add_place-requires c = (c.loop-i.auto.sums ∙ ap length c.requires.1, λ d h. omega (arith, c.loop-i.invariant.1 d h))
 
 pub loop-i-preserved : goal.loop-i-preserved
 loop-i-preserved c = (
-  search rules,
-  all_more _ _ c.loop-i.invariant.1 (place_computed _ _ _ _ _ ∙ sym c.entry_sound.ensures ∙ c.if-not-entry_sound.false),
-  search rules,
-  λ d h. reserved_more _ _ _ d _ _ _ _ _ (c.loop-i.invariant.3 d h) refl (c.add_place.ensures d h),
+  all_more _ _ c.loop-i.invariant.0 (place_computed _ _ _ _ _ ∙ sym c.entry_sound.ensures ∙ c.if-not-entry_sound.false),
+  λ d h. reserved_more _ _ _ d _ _ _ _ _ (c.loop-i.invariant.1 d h) refl (c.add_place.ensures d h),
 )
-
-pub shape_of-sums : goal.shape_of-sums
-shape_of-sums c = rw c.requires.1 c.loop-i.invariant.2
 
 pub returns : goal.returns
 returns c =
     let a = c.args in
     let last : c.loop-i.i ≡ 16 = omega arith in
     record {
-      d_after = λ e d h. rw last at (c.loop-i.invariant.3 d h) ∙ ap (min cap) (reserved_all a.numbers.now a.homes.now a.reserved.now d);
-      value = all_done _ _ _ c.loop-i.invariant.0 (omega arith) c.loop-i.invariant.1;
+      d_after = λ e d h. rw last at (c.loop-i.invariant.1 d h) ∙ ap (min cap) (reserved_all a.numbers.now a.homes.now a.reserved.now d);
+      value = all_done _ _ _ (search rules) (omega arith) c.loop-i.invariant.0;
     }

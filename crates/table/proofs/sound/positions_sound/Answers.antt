@@ -9,7 +9,7 @@ use Rattle.table.proofs.sound.positions_sound.Goals as goal
 
 pub loop-d-init : goal.loop-d-init
 unfolding all_below
-loop-d-init c = (search rules, refl)
+loop-d-init c = refl
 
 pub returns-then-not-position_sound : goal.returns-then-not-position_sound
 unfolding position_within
@@ -17,7 +17,7 @@ returns-then-not-position_sound c = all_stop _ _ c.loop-d.d (omega arith) (sym c
 
 pub loop-d-preserved : goal.loop-d-preserved
 unfolding position_within
-loop-d-preserved c = (search rules, all_more _ _ c.loop-d.invariant.1 (sym c.position_sound.ensures ∙ c.if-not-position_sound.false))
+loop-d-preserved c = all_more _ _ c.loop-d.invariant (sym c.position_sound.ensures ∙ c.if-not-position_sound.false)
 
 pub returns : goal.returns
-returns c = all_done _ _ _ c.loop-d.invariant.0 (omega arith) c.loop-d.invariant.1
+returns c = all_done _ _ _ (search rules) (omega arith) c.loop-d.invariant
