@@ -1,4 +1,5 @@
 -- An append: the words go behind those that the buffer has, or the buffer is flushed first.
+use Rattle.std.specs.Prelude.{None, Some}
 use mathlib.Core.Path.{◌≡◌, refl, sym}
 use mathlib.Core.List.{List, ◌++◌}
 use mathlib.Core.Bool.{Bool, true, false}
@@ -16,7 +17,7 @@ use Rattle.model.specs.Append.{flush, buffered, append}
 use Rattle.model.proofs.Run.{covered_all, stores_written, perform_work}
 use Rattle.device.specs.Ran.{Ran, with_slices}
 use Rattle.disk_log.specs.declared.write.Home.{Home}
-use Rattle.disk_log.specs.Write.{Lent, Ends, Appends}
+use Rattle.disk_log.specs.Write.{Lent, Appends}
 use Rattle.device.proofs.Ran.{ran_then, ran_cut}
 
 -- words put into a buffer: no store
@@ -43,13 +44,13 @@ module _ {s : Sizes} {l : Logs} {w : World} {h : Home} {before memory : List ℕ
 
     pub put_fits : (budget : ℕ) (after : List ℕ) → after ≡ sets memory (h.buffer + h.fill) words
         → Appends budget budget s l h.disk words w (with_slices w before after)
-        (record { finished = true; tail = h.tail; fill = h.fill + length words })
+        (Some (record { tail = h.tail; fill = h.fill + length words }))
     unfolding with_fill tail_of
     put_fits budget after put =
         let ran = ran_buffered budget s h.disk h.fill words w in
         record {
           ran = rw (fitting, put, ← lent.same_buffer, ← lent.same_logs, ← lent.same_work) ran;
-          state = λ _. rw (fitting, ← lent.same_tail, set-get_or l.tails h.disk 0);
+          state = rw (fitting, ← lent.same_tail, set-get_or l.tails h.disk 0);
         }
 
   -- they do not: the flush comes first
@@ -65,42 +66,22 @@ module _ {s : Sizes} {l : Logs} {w : World} {h : Home} {before memory : List ℕ
 
     -- it is cut
     pub put_cut : whole ≡ false
-        → Appends budget rest s l h.disk words w (with_slices w after memory) (record { finished = false; tail = h.tail; fill = h.fill })
+        → Appends budget rest s l h.disk words w (with_slices w after memory) None
     put_cut e =
         record {
           ran = rw flushing (ran_cut ran (buffered s h.disk 0 words) e);
-          state = λ f. absurd (let z : ◌≡◌ {A = ℕ} 0 1 = cc in omega arith);
+          state = tt;
         }
 
     -- it is whole
     pub put_flushed : (full : List ℕ) → whole ≡ true → full ≡ sets memory h.buffer words
         → Appends budget rest s l h.disk words w (with_slices w after full)
-        (record { finished = true; tail = h.tail + h.fill; fill = length words })
+        (Some (record { tail = h.tail + h.fill; fill = length words }))
     unfolding with_fill after_flush end_of
     put_flushed full e put =
         let next = ran_buffered rest s h.disk 0 words (with_slices w after memory) in
         let at : buffer_at h.disk + 0 ≡ h.buffer = omega (arith, lent.same_buffer) in
         record {
           ran = rw (flushing, put, ← at) (ran_then ran (buffered s h.disk 0 words) e next);
-          state = λ _. rw (flushing, lent.same_tail, lent.same_fill, set-set l.fills h.disk 0);
+          state = rw (flushing, lent.same_tail, lent.same_fill, set-set l.fills h.disk 0);
         }
-
--- the answer of each
-pub ends_whole : (tail fill n tail' fill' : ℕ) → fill' ≤ 64 → tail' + fill' ≡ tail + fill + n
-    → Ends tail fill n (record { finished = true; tail = tail'; fill = fill' })
-ends_whole tail fill n tail' fill' small further =
-    record {
-      fill_small = small;
-      further = λ _. further;
-      same_tail = λ e. absurd (let z : ◌≡◌ {A = ℕ} 0 1 = cc in omega arith);
-      same_fill = λ e. absurd (let z : ◌≡◌ {A = ℕ} 0 1 = cc in omega arith);
-    }
-
-pub ends_cut : (tail fill n : ℕ) → fill ≤ 64 → Ends tail fill n (record { finished = false; tail = tail; fill = fill })
-ends_cut tail fill n small =
-    record {
-      fill_small = small;
-      further = λ e. absurd (let z : ◌≡◌ {A = ℕ} 0 1 = cc in omega arith);
-      same_tail = λ _. refl;
-      same_fill = λ _. refl;
-    }

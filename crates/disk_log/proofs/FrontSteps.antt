@@ -1,4 +1,5 @@
 -- A record of a log by its first two words: what is found from its position on, and what is from the next.
+use Rattle.std.specs.Prelude.{Option}
 use Prim.Native.Nat.{ℕ, ◌+◌, ◌/◌, ◌%◌, ◌≤◌, ◌<◌, max}
 use mathlib.Core.Path.{◌≡◌, refl, ap, subst, ◌∙◌}
 use mathlib.Core.List.{[], ◌∷◌}
@@ -11,7 +12,7 @@ use borrow.Author.Tests.{lt-ltb, le-ltb, ne_eqb}
 use Rattle.model.specs.declared.Sizes.{Sizes}
 use Rattle.model.specs.declared.Decoded.{Decoded}
 use Rattle.model.specs.declared.Decoded.TheVariants.{Change, Close, Malformed}
-use Rattle.model.specs.declared.Fault.{Fault}
+use Rattle.model.specs.declared.BadRecord.{BadRecord}
 use Rattle.model.specs.Sizes.{sizes_in_bounds}
 use Rattle.model.specs.Record.{Record, change, close, update_kind, words_of}
 use Rattle.model.specs.Decode.{span, kind_field, width_field, decode_words, decode_at}
@@ -32,7 +33,7 @@ use Rattle.disk_log.proofs.Fronts.{front_measures, Told, told}
 pub record Step (s : Sizes) (t : ℕ) (here : Scan) (p size : ℕ) (b : Bool) (rest : Scan) : Type 0 where
   pub positions : positions_in t here ≡ cond b (p ∷ positions_in t rest) (positions_in t rest)
   pub words : update_words (updates_in t here) ≡ update_words (updates_in t rest) + cond b size 0
-  pub faults : (disk : ℕ) (f : Fault) → fault_in disk here f ≡ fault_in disk rest f
+  pub faults : (disk : ℕ) (f : Option BadRecord) → fault_in disk here f ≡ fault_in disk rest f
   pub four : sizes_in_bounds s ≡ true → b ≡ true → 4 ≤ size
 
 -- a change, and a closing record

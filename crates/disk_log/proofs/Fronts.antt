@@ -1,4 +1,5 @@
 -- A record by its first two words: a position within a turn of the ring, and what is decoded by the two words.
+use Rattle.std.specs.Prelude.{Some, None}
 use Prim.Native.Nat.{ℕ, ◌+◌, ◌-◌, ◌*◌, ◌/◌, ◌%◌, ◌≤◌, ◌<◌}
 use mathlib.Core.Path.{◌≡◌, refl, sym, ap, subst, ◌∙◌}
 use mathlib.Core.List.{List}
@@ -9,7 +10,6 @@ use native.Mathlib.Decide.{dec_lt}
 use lib.ListN.{get_or}
 use borrow.Author.Tests.{lt-ltb, eq-eqb}
 use Rattle.model.specs.declared.Sizes.{Sizes}
-use Rattle.model.specs.declared.RecordSize.TheVariants.{Words, NoKind}
 use Rattle.model.specs.declared.Decoded.{Decoded}
 use Rattle.model.specs.declared.Decoded.TheVariants.{Change, Close, Malformed}
 use Rattle.model.specs.Sizes.{ring_word}
@@ -70,7 +70,7 @@ module _ (s : Sizes) (stop p w n copy : ℕ) where
   pub measured_zero : n ≡ 0 → Measured here stop p 0
   measured_zero z = no_words (malformed (λ k f m. f.numbered z) (λ k l f y. f.numbered z))
 
-  pub measured_none : record_size (w % 8) (w / 65536) ≡ NoKind → Measured here stop p 0
+  pub measured_none : record_size (w % 8) (w / 65536) ≡ None → Measured here stop p 0
   measured_none e = no_words (sym (decode_none s stop p w n copy e))
 
   pub measured_outside : w % 8 < 2 → misplaced s w ≡ true → Measured here stop p 0
@@ -79,7 +79,7 @@ module _ (s : Sizes) (stop p w n copy : ℕ) where
   pub measured_set : 2 ≤ w % 8 → (w / 8 ≡ 0 → ⊥) → Measured here stop p 0
   measured_set k set = no_words (malformed (λ h f m. absurd (omega arith)) (λ h l f z. set z))
 
-  module _ (pos : n ≡ 0 → ⊥) (size : ℕ) (is : record_size (w % 8) (w / 65536) ≡ Words size) where
+  module _ (pos : n ≡ 0 → ⊥) (size : ℕ) (is : record_size (w % 8) (w / 65536) ≡ Some size) where
     measured_whole : (p + size ≤ stop → EndsAt (p + size) here) → Measured here stop p size
     measured_whole ends =
         record {

@@ -1,7 +1,7 @@
 -- What an append leaves, as it is lent to the next call; and that the premises of the contracts can be met.
+use Rattle.std.specs.Prelude.{Some}
 use mathlib.Core.Path.{◌≡◌, refl}
 use mathlib.Core.List.{List, [], ◌∷◌, ◌++◌}
-use mathlib.Core.Bool.{true}
 use Prim.Native.Nat.{ℕ, ◌+◌, ◌*◌, ◌≤◌, ◌<◌, ◌^◌}
 use native.Mathlib.Omega.{arith}
 use lib.ListN.{length, replicate, length-replicate}
@@ -14,43 +14,43 @@ use Rattle.model.specs.Memory.{buffer_at}
 use Rattle.model.specs.State.{tail_of, fill_of}
 use Rattle.model.specs.Append.{append}
 use Rattle.disk_log.specs.declared.write.Home.{Home}
-use Rattle.disk_log.specs.declared.write.Logged.{Logged}
+use Rattle.disk_log.specs.declared.write.Tip.{Tip}
 use Rattle.device.specs.Ran.{with_slices}
 use Rattle.disk_log.specs.Write.{Within, Lent, Ends, Appends}
 
 -- a disk after an append
-abbrev pub moved_on : Home → Logged → Home
-moved_on h r =
-    record { disk = h.disk; place = h.place; ring = h.ring; buffer = h.buffer; tail = r.tail; fill = r.fill }
+abbrev pub moved_on : Home → Tip → Home
+moved_on h t =
+    record { disk = h.disk; place = h.place; ring = h.ring; buffer = h.buffer; tail = t.tail; fill = t.fill }
 
--- a finished append: the answer's tail and fill are those of the state after it
+-- an append that was not cut: the answer's tail and fill are those of the state after it
 pub appended_lent : {s : Sizes} {l : Logs} {w : World} {h : Home} {before memory after full : List ℕ}
-    {budget rest : ℕ} {words : List ℕ} {r : Logged} → Lent s l w h before memory
-    → Appends budget rest s l h.disk words w (with_slices w after full) r → r.finished ≡ true
+    {budget rest : ℕ} {words : List ℕ} {t : Tip} → Lent s l w h before memory
+    → Appends budget rest s l h.disk words w (with_slices w after full) (Some t)
     → h.disk < length l.tails → h.disk < length l.fills
-    → Lent s (append s l w.work h.disk words).logs (with_slices w after full) (moved_on h r) after full
+    → Lent s (append s l w.work h.disk words).logs (with_slices w after full) (moved_on h t) after full
 unfolding tail_of fill_of
-appended_lent {l} {h} {r} lent did finished tails fills =
+appended_lent {l} {h} {t} lent did tails fills =
     record {
       lies = lent.lies;
       same_buffer = lent.same_buffer;
-      same_tail = rw (did.state finished) (get_or-set_same l.tails h.disk r.tail 0 tails);
-      same_fill = rw (did.state finished) (get_or-set_same l.fills h.disk r.fill 0 fills);
+      same_tail = rw did.state (get_or-set_same l.tails h.disk t.tail 0 tails);
+      same_fill = rw did.state (get_or-set_same l.fills h.disk t.fill 0 fills);
       same_logs = refl;
       same_work = refl;
     }
 
 -- and they lie within the bounds, if the log's new end does
-pub appended_within : {h : Home} {n : ℕ} {before memory after full : List ℕ} {r : Logged}
-    → Within h before memory → Ends h.tail h.fill n r → r.finished ≡ true → h.tail + h.fill + n ≤ 2 ^ 62
-    → length after ≡ length before → length full ≡ length memory → Within (moved_on h r) after full
-appended_within within ends finished end logs work =
+pub appended_within : {h : Home} (n : ℕ) {before memory after full : List ℕ} {t : Tip}
+    → Within h before memory → Ends h.tail h.fill n (Some t) → h.tail + h.fill + n ≤ 2 ^ 62
+    → length after ≡ length before → length full ≡ length memory → Within (moved_on h t) after full
+appended_within n within ends end logs work =
     record {
       some_ring = within.some_ring;
       ring_within = omega (arith, within.ring_within);
       buffer_within = omega (arith, within.buffer_within);
-      fill_small = ends.fill_small;
-      end_small = omega (arith, ends.further finished);
+      fill_small = ends.0;
+      end_small = omega (arith, ends.1);
     }
 
 -- Any numbers and slices are those of some state and world, if the place is that of the disk behind rings of this size, and the buffer

@@ -7,7 +7,7 @@ use native.Mathlib.Omega.{arith}
 use native.Mathlib.Nat.{mod-lt, mod-add-mod, mod-eq_of_lt, mod-eq-sub-mod}
 use lib.Dec.{leb, eqb}
 use lib.ListN.{length, get_or, length-append}
-use borrow.Author.Tests.{le-leb, lt-leb, leb-true}
+use borrow.Author.Tests.{le-leb, leb-true}
 use Rattle.model.specs.declared.Sizes.{Sizes}
 use Rattle.model.specs.Sizes.{slots_in, width_in, ring_of, disk_at, tail_word, ring_word, sizes_in_bounds}
 use Rattle.model.specs.Word.{part}
@@ -137,25 +137,19 @@ module _ (ring : List ℕ) where
           let start : 0 ≡ (p + (length ring - at)) % length ring = omega (arith, zero) in
           rw one (run_holds (p + (length ring - at)) 0 (n - (length ring - at)) start (omega arith))
 
-or_middle : (a b : Bool) → true ≡ (a || true || b)
-or_middle true b = refl
-or_middle false b = refl
-
 -- entries from P on are 0, so a page with a slot is one of the pages
 module _ (s : Sizes) {slots widths : List ℕ} (e : EntriesOf s slots widths) (w : ℕ) where
-  pub outside_slot : get_or slots (page_field w) 0 ≤ slot_field w → true ≡ misplaced s w
-  unfolding misplaced slots_in
-  outside_slot h = rw (e.same_slots, le-leb _ _ h) (or_middle (leb s.pages (page_field w)) _)
-
-  pub outside_width : slot_field w < get_or slots (page_field w) 0 → not (eqb (width_field w) (get_or widths (page_field w) 0)) ≡ misplaced s w
+  pub outside : (leb (get_or slots (page_field w) 0) (slot_field w) || not (eqb (width_field w) (get_or widths (page_field w) 0))) ≡ misplaced s w
   unfolding misplaced slots_in width_in
-  outside_width h = rw (there (leb s.pages (page_field w)) refl, e.same_slots, e.same_widths, lt-leb _ _ h)
+  outside = rw (e.same_slots, e.same_widths) (go (leb s.pages (page_field w)) refl)
     where
-      there : (b : Bool) → leb s.pages (page_field w) ≡ b → b ≡ false
-      there false t = refl
-      there true t =
+      go : (b : Bool) → leb s.pages (page_field w) ≡ b
+          → (leb (get_or slots (page_field w) 0) (slot_field w) || not (eqb (width_field w) (get_or widths (page_field w) 0)))
+          ≡ (b || leb (get_or slots (page_field w) 0) (slot_field w) || not (eqb (width_field w) (get_or widths (page_field w) 0)))
+      go false t = refl
+      go true t =
           let none = ((bounded s e.bounds).unused (page_field w) (leb-true s.pages (page_field w) t) (omega arith)).0 in
-          absurd (omega (arith, rw e.same_slots at none))
+          rw (le-leb (get_or slots (page_field w) 0) (slot_field w) (omega (arith, rw e.same_slots at none))) refl
 
 -- a disk's ring in logs that can be checked
 module _ (s : Sizes) (logs : List ℕ) (ok : Checkable s logs) (d : ℕ) (h : d < s.disks) where

@@ -1,4 +1,5 @@
 -- A loop over a log, by what is decoded at its position: the answer from there is the answer from the next position.
+use Rattle.std.specs.Prelude.{None, Option}
 use Prim.Native.Nat.{ℕ, suc, ◌+◌, ◌-◌, ◌≤◌, ◌<◌}
 use mathlib.Core.Path.{◌≡◌, sym, ap, ◌∙◌}
 use mathlib.Core.List.{List, []}
@@ -8,8 +9,8 @@ use Rattle.model.specs.declared.Sizes.{Sizes}
 use Rattle.model.specs.declared.Decoded.{Decoded}
 use Rattle.model.specs.declared.Decoded.TheVariants.{Change, Close, Malformed}
 use Rattle.model.specs.declared.Fate.TheVariants.{Closed, Unclosed, Unreadable}
-use Rattle.model.specs.declared.Fault.{Fault}
-use Rattle.model.specs.declared.Fault.TheVariants.{NoFault, BadRecord}
+use Rattle.model.specs.declared.BadRecord.{BadRecord}
+use Rattle.model.specs.Record.{bad_record}
 use Rattle.model.specs.Decode.{read_log, decode_at}
 use Rattle.model.specs.Scan.{Scan, scan, fate_in, fault_in}
 use Rattle.model.specs.Causes.{tail_in, retained_from, fault_from}
@@ -52,11 +53,11 @@ module _ (s : Sizes) (read : ℕ → ℕ) (stop : ℕ) where
     fate_bad e = sym (ap (fate_in t) (scan_bad s read stop h (sym is ∙ e)))
 
   -- the check of a disk
-  pub fault_end : (disk p : ℕ) (rest : Fault) → stop ≤ p → fault_in disk (scan s read stop p) rest ≡ rest
+  pub fault_end : (disk p : ℕ) (rest : Option BadRecord) → stop ≤ p → fault_in disk (scan s read stop p) rest ≡ rest
   unfolding fault_in
   fault_end disk p rest h = ap (λ (x : Scan). fault_in disk x rest) (scan_end s read stop p h)
 
-  module _ {p : ℕ} {r : Decoded} (is : r ≡ decode_at s read stop p) (h : p < stop) (disk : ℕ) (rest : Fault) where
+  module _ {p : ℕ} {r : Decoded} (is : r ≡ decode_at s read stop p) (h : p < stop) (disk : ℕ) (rest : Option BadRecord) where
     pub fault_change : {kind page slot number copy width next : ℕ} → r ≡ Change kind page slot number copy width next
         → fault_in disk (scan s read stop next) rest ≡ fault_in disk (scan s read stop p) rest
     unfolding fault_in
@@ -67,7 +68,7 @@ module _ (s : Sizes) (read : ℕ → ℕ) (stop : ℕ) where
     unfolding fault_in
     fault_close e = sym (ap (λ (x : Scan). fault_in disk x rest) (scan_close s read stop h (sym is ∙ e)))
 
-    pub fault_bad : r ≡ Malformed → BadRecord disk p ≡ fault_in disk (scan s read stop p) rest
+    pub fault_bad : r ≡ Malformed → bad_record disk p ≡ fault_in disk (scan s read stop p) rest
     unfolding fault_in
     fault_bad e = sym (ap (λ (x : Scan). fault_in disk x rest) (scan_bad s read stop h (sym is ∙ e)))
 
@@ -81,7 +82,7 @@ module _ (s : Sizes) (start : ℕ → ℕ) (logs : List ℕ) where
       let e : disks - d ≡ suc (disks - (d + 1)) = omega arith in
       ap (λ (n : ℕ). fault_from s start logs n d) e
 
-  pub faults_done : (disks d : ℕ) → disks ≤ d → fault_from s start logs (disks - d) d ≡ NoFault
+  pub faults_done : (disks d : ℕ) → disks ≤ d → fault_from s start logs (disks - d) d ≡ None
   unfolding fault_from
   faults_done disks d h =
       let e : disks - d ≡ 0 = omega arith in

@@ -1,4 +1,5 @@
 -- A loop over a log: a survey of a transaction's updates, and the positions of some of them gathered.
+use Rattle.std.specs.Prelude.{None, Option}
 use Prim.Native.Nat.{ℕ, ◌+◌, ◌*◌, ◌/◌, ◌%◌, ◌≤◌, ◌<◌}
 use mathlib.Core.Path.{◌≡◌, refl, sym, ap, ◌∙◌}
 use mathlib.Core.List.{List, [], ◌∷◌, ◌++◌}
@@ -11,8 +12,8 @@ use lib.ListN.{length, get_or, set, take, drop, length-set, length-append}
 use lib.Seq.{get_or-set_same, get_or-set_other, drop-drop, take-suc-set, append_snoc, take_at, length-take-le}
 use borrow.Author.Tests.{eq-eqb, ne_eqb}
 use Rattle.model.specs.declared.Sizes.{Sizes}
-use Rattle.model.specs.declared.Fault.{Fault}
-use Rattle.model.specs.declared.Fault.TheVariants.{NoFault, BadRecord}
+use Rattle.model.specs.declared.BadRecord.{BadRecord}
+use Rattle.model.specs.Record.{bad_record}
 use Rattle.model.specs.Scan.{Scan, end, bad, fault_in, updates_in, update_words}
 use Rattle.model.proofs.Booleans.{cond_all}
 use Rattle.model.proofs.Updates.{update_words_none}
@@ -34,7 +35,7 @@ module _ (t : ℕ) (log : ℕ → Scan) (from : ℕ) where
     pub left : on p ≡ drop count (on from)
     pub all : count + length (on p) ≡ length (on from)
     pub sum : words + update_words (updates_in t (log p)) ≡ update_words (updates_in t (log from))
-    pub faults : (disk : ℕ) (f : Fault) → fault_in disk (log p) f ≡ fault_in disk (log from) f
+    pub faults : (disk : ℕ) (f : Option BadRecord) → fault_in disk (log p) f ≡ fault_in disk (log from) f
     pub each : (k : ℕ) → 128 * k < count → NotedAt t log from k (get_or notes k 0)
 
   pub surveying_start : (notes : List ℕ) → Surveying from 0 0 notes
@@ -85,22 +86,22 @@ module _ (t : ℕ) (log : ℕ → Scan) (from : ℕ) where
         go k h (no x) (no z) = rw (is, ne_eqb (count % 128) 0 z) (so.each k (omega arith))
 
     -- no update is left
-    surveyed : (disk : ℕ) {f : Fault} → on p ≡ [] → update_words (updates_in t (log p)) ≡ 0 → fault_in disk (log p) NoFault ≡ f
+    surveyed : (disk : ℕ) {f : Option BadRecord} → on p ≡ [] → update_words (updates_in t (log p)) ≡ 0 → fault_in disk (log p) None ≡ f
         → Surveyed disk t log from (record { fault = f; count = count; words = words }) notes
     surveyed disk none no_words found =
         record {
-          fault = sym found ∙ so.faults disk NoFault;
+          fault = sym found ∙ so.faults disk None;
           words = omega (arith, so.sum, no_words);
           all = omega (arith, so.all, ap length none);
           each = so.each;
         }
 
     -- at the end, and at a malformed record
-    pub surveyed_end : (disk : ℕ) → log p ≡ end → Surveyed disk t log from (record { fault = NoFault; count = count; words = words }) notes
+    pub surveyed_end : (disk : ℕ) → log p ≡ end → Surveyed disk t log from (record { fault = None; count = count; words = words }) notes
     unfolding positions_in updates_in fault_in
     surveyed_end disk e = surveyed disk (rw e refl) (rw e update_words_none) (rw e refl)
 
-    pub surveyed_bad : (disk : ℕ) → log p ≡ bad p → Surveyed disk t log from (record { fault = BadRecord disk p; count = count; words = words }) notes
+    pub surveyed_bad : (disk : ℕ) → log p ≡ bad p → Surveyed disk t log from (record { fault = bad_record disk p; count = count; words = words }) notes
     unfolding positions_in updates_in fault_in
     surveyed_bad disk e = surveyed disk (rw e refl) (rw e update_words_none) (rw e refl)
 

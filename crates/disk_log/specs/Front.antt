@@ -1,10 +1,9 @@
 -- A record by its first two words, and what a survey of a log finds of a transaction's updates.
-use Rattle.std.specs.Prelude.{◌≡◌, List, Bool, ◌&&◌, ℕ, ◌+◌, ◌*◌, ◌%◌, ◌≤◌, ◌<◌, eqb, length, get_or, take, drop}
+use Rattle.std.specs.Prelude.{◌≡◌, List, Bool, ◌&&◌, ℕ, ◌+◌, ◌*◌, ◌%◌, ◌≤◌, ◌<◌, eqb, length, get_or, take, drop, None, Option}
 use Rattle.model.specs.declared.Sizes.{Sizes}
 use Rattle.model.specs.declared.Decoded.{Decoded}
 use Rattle.model.specs.declared.Decoded.TheVariants.{Change, Close, Malformed}
-use Rattle.model.specs.declared.Fault.{Fault}
-use Rattle.model.specs.declared.Fault.TheVariants.{NoFault}
+use Rattle.model.specs.declared.BadRecord.{BadRecord}
 use Rattle.model.specs.Record.{update_kind}
 use Rattle.model.specs.Decode.{read_log, kind_field}
 use Rattle.model.specs.Scan.{Scan, scan, fault_in, updates_in, update_words}
@@ -47,12 +46,12 @@ pub record Measured (d : Decoded) (stop p words : ℕ) : Type 0 where
 pub record NotedAt (number : ℕ) (log : ℕ → Scan) (from k q : ℕ) : Type 0 where
   pub behind : from ≤ q
   pub left : positions_in number (log q) ≡ drop (128 * k) (positions_in number (log from))
-  pub faults : (disk : ℕ) (f : Fault) → fault_in disk (log q) f ≡ fault_in disk (log from) f
+  pub faults : (disk : ℕ) (f : Option BadRecord) → fault_in disk (log q) f ≡ fault_in disk (log from) f
 
 -- What a survey of a disk's log finds from a position on: the first malformed record, and a transaction's updates: their words, how
 -- many they are, and the position of every 128th.
 pub record Surveyed (disk number : ℕ) (log : ℕ → Scan) (from : ℕ) (r : Survey) (notes : List ℕ) : Type 0 where
-  pub fault : r.fault ≡ fault_in disk (log from) NoFault
+  pub fault : r.fault ≡ fault_in disk (log from) None
   pub words : r.words ≡ update_words (updates_in number (log from))
   pub all : r.count ≡ length (positions_in number (log from))
   pub each : (k : ℕ) → 128 * k < r.count → NotedAt number log from k (get_or notes k 0)

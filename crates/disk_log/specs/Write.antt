@@ -1,5 +1,5 @@
 -- What the functions that write a log are lent, and what they do with it.
-use Rattle.std.specs.Prelude.{◌≡◌, List, true, false, ℕ, ◌+◌, ◌≤◌, ◌<◌, ◌^◌, length, set}
+use Rattle.std.specs.Prelude.{◌≡◌, List, ℕ, ◌+◌, ◌≤◌, ◌<◌, ◌^◌, length, set, Option, None, Some, is_some}
 use Rattle.model.specs.declared.Sizes.{Sizes}
 use Rattle.model.specs.declared.Logs.{Logs}
 use Rattle.model.specs.Record.{Record, change}
@@ -10,7 +10,7 @@ use Rattle.model.specs.Append.{append}
 use Rattle.device.specs.Ran.{Ran}
 use Rattle.disk_log.specs.declared.write.Home.{Home}
 use Rattle.disk_log.specs.declared.write.Head.{Head}
-use Rattle.disk_log.specs.declared.write.Logged.{Logged}
+use Rattle.disk_log.specs.declared.write.Tip.{Tip}
 use Rattle.disk_log.specs.Reading.{LiesAt}
 
 -- The numbers lay every index within its slice, and the end of the log within the bound of positions.
@@ -40,16 +40,17 @@ pub record Lent (s : Sizes) (l : Logs) (w : World) (h : Home) (logs work : List 
   pub same_logs : w.logs ≡ logs
   pub same_work : w.work ≡ work
 
--- The answer of an append: on a cut the log ends as before; else n words further on.
-pub record Ends (tail fill n : ℕ) (r : Logged) : Type 0 where
-  pub fill_small : r.fill ≤ 64
-  pub further : r.finished ≡ true → r.tail + r.fill ≡ tail + fill + n
-  pub same_tail : r.finished ≡ false → r.tail ≡ tail
-  pub same_fill : r.finished ≡ false → r.fill ≡ fill
+-- The answer of an append; None: it was cut. Where it was not, the log ends n words further on.
+abbrev pub Ends : (tail fill n : ℕ) → Option Tip → Type 0
+Ends tail fill n None = Unit {0}
+Ends tail fill n (Some t) = (t.fill ≤ 64) × (t.tail + t.fill ≡ tail + fill + n)
+
+-- and the logs' part of the state after it
+abbrev pub LogsAfter : (disk : ℕ) → (before after : Logs) → Option Tip → Type 0
+LogsAfter disk l after None = Unit {0}
+LogsAfter disk l after (Some t) = after ≡ record { starts = l.starts; tails = set l.tails disk t.tail; fills = set l.fills disk t.fill }
 
 -- What an append does to the world, and the logs' part of the state after it.
-pub record Appends (budget rest : ℕ) (s : Sizes) (l : Logs) (disk : ℕ) (words : List ℕ) (before after : World) (r : Logged) : Type 0 where
-  pub ran : Ran budget rest (append s l before.work disk words).actions before after r.finished
-  pub state : r.finished ≡ true
-      → (append s l before.work disk words).logs
-      ≡ record { starts = l.starts; tails = set l.tails disk r.tail; fills = set l.fills disk r.fill }
+pub record Appends (budget rest : ℕ) (s : Sizes) (l : Logs) (disk : ℕ) (words : List ℕ) (before after : World) (r : Option Tip) : Type 0 where
+  pub ran : Ran budget rest (append s l before.work disk words).actions before after (is_some r)
+  pub state : LogsAfter disk l (append s l before.work disk words).logs r

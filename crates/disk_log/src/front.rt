@@ -1,16 +1,15 @@
 // A record by its first two words: what an abort looks at of those of other transactions. A position of the ring is not divided by
 // its size but where a turn of the ring begins.
-ghost use Rattle.std.specs.Prelude.{◌≡◌, cond, ℕ, ◌≤◌, ◌<◌, ◌^◌, ltb, length};
+ghost use Rattle.std.specs.Prelude.{◌≡◌, cond, ℕ, ◌≤◌, ◌<◌, ◌^◌, ltb, length, MatchOption};
 ghost use Rattle.model.specs.declared.Sizes.{Sizes};
 ghost use Rattle.model.specs.Decode.{read_log, decode_words};
 ghost use Rattle.disk_log.specs.Reading.{LiesAt, Readable};
 ghost use Rattle.disk_log.specs.Ring.{EntriesOf};
 ghost use Rattle.disk_log.specs.Front.{InTurn, FrontAt, Measured, is_update_of};
 
-use crate::kinds::record_size;
+use crate::kinds::{UPDATE, record_size};
 use crate::read::{Extent, read_word};
 use crate::ring::is_outside;
-use model::RecordSize;
 
 // The positions from `low` up to `near` lie one after the other in the ring, from its first word on.
 #[derive(Clone, Copy)]
@@ -66,37 +65,36 @@ pub fn front_at(logs: &[u64], extent: Extent, buffer: &[u64], turn: Turn, p: u64
     Front { first, number: 0 }
 }
 
-// The words of a record by its first two words, 0 where they are not those of a record.
-pub fn record_words(slots: &[u8], widths: &[u8], front: Front) -> u64
+// The words of a record by its first two words, if they are those of a record.
+pub fn record_words(slots: &[u8], widths: &[u8], front: Front) -> Option<u64>
     requires { (length slots.now ≡ 64) × (length widths.now ≡ 64) }
-    ensures { (result < 2 ^ 49) × ((s : Sizes) → EntriesOf s slots.now widths.now
-        → (stop p copy : ℕ) → Measured (decode_words s stop p front.first front.number copy) stop p result) }
+    ensures size { MatchOption result Unit (λ n. (0 < n) × (n < 2 ^ 49)) }
+    ensures words { (s : Sizes) → EntriesOf s slots.now widths.now → (stop p copy : ℕ)
+        → MatchOption result (Measured (decode_words s stop p front.first front.number copy) stop p 0)
+        (λ n. Measured (decode_words s stop p front.first front.number copy) stop p n) }
 {
     let w = front.first;
     let kind = w % 8;
     if front.number == 0 {
-        return 0;
+        return None;
     }
-    let RecordSize::Words { n } = record_size(kind, w / 65536) else {
-        return 0;
+    let Some(n) = record_size(kind, w / 65536) else {
+        return None;
     };
     if kind < 2 {
         if is_outside(slots, widths, w) {
-            return 0;
+            return None;
         }
-        return n;
+        return Some(n);
     }
-    if w / 8 == 0 { n } else { 0 }
+    if w / 8 == 0 { Some(n) } else { None }
 }
 
 // Is it an update record of the transaction?
 pub fn is_update_of(front: Front, number: u64) -> bool
     ensures { result ≡ is_update_of number front }
 {
-    if front.first % 8 != 0 {
-        return false;
-    }
-    front.number == number
+    front.first % 8 == UPDATE && front.number == number
 }
 
 // Where the part of a log that p lies in ends: the ring's part at the tail, the buffer's at the end.

@@ -2,8 +2,6 @@
 ghost use Rattle.std.specs.Prelude.{◌≡◌, ◌<◌, ◌^◌};
 ghost use Rattle.model.specs.Record.{record_size, words_of};
 
-use model::RecordSize;
-
 pub const UPDATE: u64 = 0;
 
 pub const COMPENSATION: u64 = 1;
@@ -14,17 +12,17 @@ pub const ABORT: u64 = 3;
 
 // 01's record table; width is that of the difference. A number above 3 is no kind. The sum stands before the match, so that it is compiled
 // to one test for the two kinds that have it.
-pub fn record_size(kind: u64, width: u64) -> RecordSize
+pub fn record_size(kind: u64, width: u64) -> Option<u64>
     requires { width < 2 ^ 48 }
     ensures { result ≡ record_size kind width }
 {
     let change = 3 + width;
     match kind {
-        UPDATE => RecordSize::Words { n: change },
-        COMPENSATION => RecordSize::Words { n: change },
-        COMMIT => RecordSize::Words { n: 2 },
-        ABORT => RecordSize::Words { n: 2 },
-        _ => RecordSize::NoKind,
+        UPDATE => Some(change),
+        COMPENSATION => Some(change),
+        COMMIT => Some(2),
+        ABORT => Some(2),
+        _ => None,
     }
 }
 
@@ -33,8 +31,5 @@ pub fn words_of(kind: u64, width: u64) -> u64
     requires { width < 2 ^ 48 }
     ensures { result ≡ words_of kind width }
 {
-    let RecordSize::Words { n } = record_size(kind, width) else {
-        return 0;
-    };
-    n
+    record_size(kind, width).unwrap_or(0)
 }

@@ -1,7 +1,6 @@
 // Reading a log on: the search ahead for a transaction's close, and the check of all disks.
 ghost use Rattle.std.specs.Prelude.{◌≡◌, ℕ, length, get_or};
 ghost use Rattle.model.specs.Decode.{read_log};
-ghost use Rattle.model.specs.declared.Fault.TheVariants.{NoFault};
 ghost use Rattle.model.specs.Scan.{scan, fate_in};
 ghost use Rattle.model.specs.Causes.{fault_from};
 ghost use Rattle.disk_log.specs.Reading.{PagesOf, LiesAt, OfLog, Readable, Checkable};
@@ -9,7 +8,7 @@ ghost use Rattle.disk_log.specs.Reading.{PagesOf, LiesAt, OfLog, Readable, Check
 use crate::read::{Extent, decode_at};
 use crate::ring::{decode_ring, ring_words};
 use layout::disks::{disk_at, ring_of};
-use model::{Decoded, Fate, Fault, Sizes};
+use model::{BadRecord, Decoded, Fate, Sizes};
 
 // The search ahead for a transaction's closing record.
 pub fn fate_from(
@@ -28,12 +27,8 @@ pub fn fate_from(
 {
     let end = extent.end;
     let mut p = from;
-    let fate = loop {
-        if end <= p {
-            break Fate::Unclosed;
-        }
-        let here = decode_at(pages, slots, widths, logs, extent, buffer, p);
-        match here {
+    while p < end {
+        match decode_at(pages, slots, widths, logs, extent, buffer, p) {
             Decoded::Change { next, .. } => p = next,
             Decoded::Close {
                 number: n,
@@ -41,27 +36,25 @@ pub fn fate_from(
                 ..
             } => {
                 if n == number {
-                    break Fate::Closed;
+                    return Fate::Closed;
                 }
                 p = next;
             }
-            Decoded::Malformed => break Fate::Unreadable { position: p },
+            Decoded::Malformed => return Fate::Unreadable { position: p },
         }
-    };
-    fate
+    }
+    Fate::Unclosed
 }
 
 // The check of every disk's log, read from its start: the first malformed record of the lowest disk that has one.
-pub fn check_disks(sizes: Sizes, logs: &[u64], starts: [u64; 8]) -> Fault
+pub fn check_disks(sizes: Sizes, logs: &[u64], starts: [u64; 8]) -> Option<BadRecord>
     requires { Checkable sizes logs.now }
     ensures { result ≡ fault_from sizes (λ d. get_or starts d 0) logs.now sizes.disks 0 }
 {
     let disks = sizes.disks;
     let slots = sizes.slots;
     let widths = sizes.widths;
-    let mut d: u64 = 0;
-    let mut fault = Fault::NoFault;
-    'disks: while d < disks {
+    for d in 0..disks {
         let place = disk_at(sizes.ring, d);
         let ring = ring_words(logs, place, ring_of(sizes, d));
         let size = ring.len() as u64;
@@ -71,15 +64,13 @@ pub fn check_disks(sizes: Sizes, logs: &[u64], starts: [u64; 8]) -> Fault
             let at = p % size;
             let here = decode_ring(&slots, &widths, ring, tail, p, at);
             let (Decoded::Change { next, .. } | Decoded::Close { next, .. }) = here else {
-                fault = Fault::BadRecord {
+                return Some(BadRecord {
                     disk: d,
                     position: p,
-                };
-                break 'disks;
+                });
             };
             p = next;
         }
-        d += 1;
     }
-    fault
+    None
 }

@@ -9,17 +9,17 @@ ghost use Rattle.disk_log.specs.Front.{Surveyed, Has, Gathered};
 use crate::front::{Turn, front_at, is_update_of, part_end, record_words, turn_at};
 use crate::kinds::words_of;
 use crate::read::Extent;
-use model::{Fault, Sizes};
+use model::{BadRecord, Sizes};
 
 // What a survey of a log finds: its first malformed record, and a transaction's updates up to there, counted and in words.
 #[derive(Clone, Copy)]
 pub struct Survey {
-    pub fault: Fault,
+    pub fault: Option<BadRecord>,
     pub count: u64,
     pub words: u64,
 }
 
-// Positions of a transaction's updates, oldest first.
+// Positions of a transaction's updates, oldest first: an array with its count beside it, since the store has no heap.
 #[derive(Clone, Copy)]
 pub struct Group {
     pub count: u64,
@@ -60,19 +60,18 @@ pub fn survey_log(
     while p < extent.end {
         turn = turn_at(turn, extent.ring, extent.tail, p);
         let front = front_at(logs, extent, buffer, turn, p);
-        let size = record_words(&slots, &widths, front);
         let stop = part_end(extent.tail, extent.end, p);
-        let next = p + size;
-        if size == 0 {
-            let fault = Fault::BadRecord { disk, position: p };
+        let Some(size) = record_words(&slots, &widths, front) else {
+            let fault = Some(BadRecord { disk, position: p });
             return Survey {
                 fault,
                 count,
                 words,
             };
-        }
+        };
+        let next = p + size;
         if stop < next {
-            let fault = Fault::BadRecord { disk, position: p };
+            let fault = Some(BadRecord { disk, position: p });
             return Survey {
                 fault,
                 count,
@@ -86,7 +85,7 @@ pub fn survey_log(
         }
         p = next;
     }
-    let fault = Fault::NoFault;
+    let fault = None;
     Survey {
         fault,
         count,

@@ -83,16 +83,22 @@ fn put_record(work: &mut [u64], at: u64, words: &[u64])
     copy_words(work, at as usize, words, 0, words.len());
 }
 
-// What an append answers: whether all its stores were made, and the disk's tail and fill after it.
+// Where a disk's log ends: `fill` buffered words behind its tail.
 #[derive(Clone, Copy)]
-pub struct Logged {
-    pub finished: bool,
+pub struct Tip {
     pub tail: u64,
     pub fill: u64,
 }
 
-// Puts a record's words behind those that the buffer has; it is flushed first where they do not fit its free words.
-fn append(logs: &mut [u64], work: &mut [u64], home: Home, words: &[u64], budget: &mut u64) -> Logged
+// Puts a record's words behind those that the buffer has; it is flushed first where they do not fit its free words. Hands back where
+// the log then ends; None: the budget ran out before all stores were made.
+fn append(
+    logs: &mut [u64],
+    work: &mut [u64],
+    home: Home,
+    words: &[u64],
+    budget: &mut u64,
+) -> Option<Tip>
     requires { Within home logs.old work.old × (length words.now ≤ 64) }
     ensures appends { (s : Sizes) (l : Logs) (w : World) → Lent s l w home logs.old work.old
         → Appends budget.old budget.new s l home.disk words.now w (with_slices w logs.new work.new) result }
@@ -104,25 +110,19 @@ fn append(logs: &mut [u64], work: &mut [u64], home: Home, words: &[u64], budget:
     let fill = home.fill;
     if fill + n <= 64 {
         put_record(work, buffer + fill, words);
-        return Logged {
-            finished: true,
+        return Some(Tip {
             tail,
             fill: fill + n,
-        };
+        });
     }
     if !flush_disk(logs, work, home, budget) {
-        return Logged {
-            finished: false,
-            tail,
-            fill,
-        };
+        return None;
     }
     put_record(work, buffer, words);
-    Logged {
-        finished: true,
+    Some(Tip {
         tail: tail + fill,
         fill: n,
-    }
+    })
 }
 
 // Appends a closing record.
@@ -133,7 +133,7 @@ pub fn append_close(
     kind: u64,
     number: u64,
     budget: &mut u64,
-) -> Logged
+) -> Option<Tip>
     requires { Within home logs.old work.old }
     ensures appends { (s : Sizes) (l : Logs) (w : World) → Lent s l w home logs.old work.old
         → Appends budget.old budget.new s l home.disk (encode (close kind number)) w (with_slices w logs.new work.new) result }
@@ -151,7 +151,7 @@ pub fn append_change(
     head: Head,
     difference: &[u64],
     budget: &mut u64,
-) -> Logged
+) -> Option<Tip>
     requires { Within home logs.old work.old × Encodable head (length difference.now) }
     ensures appends { (s : Sizes) (l : Logs) (w : World) → Lent s l w home logs.old work.old
         → Appends budget.old budget.new s l home.disk (encode (change_of head difference.now)) w (with_slices w logs.new work.new) result }

@@ -9,10 +9,7 @@ pub returns-then-pages-page : goal.returns-then-pages-page
 unfolding misplaced
 returns-then-pages-page c = λ s of. rw (of.same_pages, le-leb _ _ c.if-pages-page.true) refl
 
-pub returns-then-slots-at : goal.returns-then-slots-at
-unfolding misplaced slots_in
-returns-then-slots-at c = λ s of. rw (of.same_pages, of.same_slots, lt-leb _ _ c.if-pages-page.false, le-leb _ _ c.if-slots-at.true) refl
-
-pub returns : goal.returns
+pub returns-else-pages-page : goal.returns-else-pages-page
 unfolding misplaced slots_in width_in
-returns c = λ s of. rw (of.same_pages, of.same_slots, of.same_widths, lt-leb _ _ c.if-pages-page.false, lt-leb _ _ c.if-slots-at.false) refl
+returns-else-pages-page c =
+    λ s of. rw (c.is_unlike.ensures, of.same_pages, of.same_slots, of.same_widths, lt-leb _ _ c.if-pages-page.false) refl

@@ -18,18 +18,18 @@ use Rattle.disk_log.proofs.scan.check_disks.Goals as goal
 own : (s : Sizes) → sizes_in_bounds s ≡ true → EntriesOf s s.slots s.widths
 own s ok = record { bounds = ok; same_slots = refl; same_widths = refl }
 
-pub disks-init : goal.disks-init
-disks-init c = (omega arith, refl, simp sub-zero)
+pub loop-d-init : goal.loop-d-init
+loop-d-init c = simp sub-zero
 
 pub disk_at-place-requires : goal.disk_at-place-requires
 disk_at-place-requires c =
     let b = bounded _ c.requires.bounds in
-    (omega (arith, b.disks_max, c.disks-test.true), b.ring_max)
+    (omega (arith, b.disks_max, c.loop-d-test.true), b.ring_max)
 
 pub ring_words-ring-requires : goal.ring_words-ring-requires
 ring_words-ring-requires c =
     let a = c.args in
-    omega (arith, disk_fits a.sizes _ c.requires c.disks.d c.disks-test.true, c.disk_at-place.ensures.0 a.sizes refl, c.ring_of.ensures)
+    omega (arith, disk_fits a.sizes _ c.requires c.loop-d.d c.loop-d-test.true, c.disk_at-place.ensures.0 a.sizes refl, c.ring_of.ensures)
 
 pub offset_bounds-logs-place : goal.offset_bounds-logs-place
 offset_bounds-logs-place c = omega (arith, c.disk_at-place.ensures.1)
@@ -37,30 +37,27 @@ offset_bounds-logs-place c = omega (arith, c.disk_at-place.ensures.1)
 pub bounds-logs-place : goal.bounds-logs-place
 bounds-logs-place c =
     let a = c.args in
-    omega (arith, disk_fits a.sizes _ c.requires c.disks.d c.disks-test.true, c.disk_at-place.ensures.0 a.sizes refl)
+    omega (arith, disk_fits a.sizes _ c.requires c.loop-d.d c.loop-d-test.true, c.disk_at-place.ensures.0 a.sizes refl)
 
 pub offset_bounds-starts-d : goal.offset_bounds-starts-d
-offset_bounds-starts-d c = omega (arith, (bounded _ c.requires.bounds).disks_max, c.disks-test.true)
+offset_bounds-starts-d c = omega (arith, (bounded _ c.requires.bounds).disks_max, c.loop-d-test.true)
 
 pub bounds-starts-d : goal.bounds-starts-d
-bounds-starts-d c = omega (arith, (bounded _ c.requires.bounds).disks_max, c.disks-test.true)
+bounds-starts-d c = omega (arith, (bounded _ c.requires.bounds).disks_max, c.loop-d-test.true)
 
 pub loop-p-init : goal.loop-p-init
 loop-p-init c =
     let a = c.args in
-    let inv = c.disks.invariant in
-    let at = c.disk_at-place.ensures.0 a.sizes refl in (
-      inv.1,
-      rw (ring_is a.sizes a.logs.now c.disks.d at c.ring_of.ensures c.ring_words-ring.ensures)
-          (disk_begins a.sizes a.logs.now c.requires c.disks.d c.disks-test.true (λ e. get_or a.starts e 0) (ap (λ (i : ℕ). get_or a.logs.now i 0) at)
-          ∙ inv.2),
-    )
+    let at = c.disk_at-place.ensures.0 a.sizes refl in
+    rw (ring_is a.sizes a.logs.now c.loop-d.d at c.ring_of.ensures c.ring_words-ring.ensures)
+    (disk_begins a.sizes a.logs.now c.requires c.loop-d.d c.loop-d-test.true (λ e. get_or a.starts e 0) (ap (λ (i : ℕ). get_or a.logs.now i 0) at)
+    ∙ c.loop-d.invariant)
 
 pub nonzero_rem-at : goal.nonzero_rem-at
 nonzero_rem-at c =
     let a = c.args in
-    let ring = disk_ring a.sizes _ c.requires c.disks.d c.disks-test.true in
-    omega (arith, ap length (ring_is a.sizes _ c.disks.d (c.disk_at-place.ensures.0 a.sizes refl) c.ring_of.ensures c.ring_words-ring.ensures), ring.ring_min)
+    let ring = disk_ring a.sizes _ c.requires c.loop-d.d c.loop-d-test.true in
+    omega (arith, ap length (ring_is a.sizes _ c.loop-d.d (c.disk_at-place.ensures.0 a.sizes refl) c.ring_of.ensures c.ring_words-ring.ensures), ring.ring_min)
 
 pub decode_ring-here-requires : goal.decode_ring-here-requires
 decode_ring-here-requires c =
@@ -68,8 +65,8 @@ decode_ring-here-requires c =
     let b = bounded a.sizes c.requires.bounds in
     let at = c.disk_at-place.ensures.0 a.sizes refl in
     let ring : Ring c.ring_words-ring.result.now (get_or a.logs.now c.disk_at-place.result 0) =
-    rw (ring_is a.sizes a.logs.now c.disks.d at c.ring_of.ensures c.ring_words-ring.ensures, at)
-    (disk_ring a.sizes a.logs.now c.requires c.disks.d c.disks-test.true) in
+    rw (ring_is a.sizes a.logs.now c.loop-d.d at c.ring_of.ensures c.ring_words-ring.ensures, at)
+    (disk_ring a.sizes a.logs.now c.requires c.loop-d.d c.loop-d-test.true) in
     (b.slots_length, b.widths_length, ring, record { before_tail = c.loop-p-test.true; at_is = refl })
 
 pub loop-p-smaller-in-Change : goal.loop-p-smaller-in-Change
@@ -79,8 +76,7 @@ loop-p-smaller-in-Change c =
 
 pub loop-p-preserved-in-Change : goal.loop-p-preserved-in-Change
 loop-p-preserved-in-Change c =
-    let inv = c.loop-p.invariant in
-    (inv.0, fault_change _ _ _ (c.decode_ring-here.ensures _ (own _ c.requires.bounds)) c.loop-p-test.true _ _ c.in-Change.here-1-is ∙ inv.1)
+    fault_change _ _ _ (c.decode_ring-here.ensures _ (own _ c.requires.bounds)) c.loop-p-test.true _ _ c.in-Change.here-1-is ∙ c.loop-p.invariant
 
 pub loop-p-smaller : goal.loop-p-smaller
 loop-p-smaller c =
@@ -89,27 +85,17 @@ loop-p-smaller c =
 
 pub loop-p-preserved : goal.loop-p-preserved
 loop-p-preserved c =
-    let inv = c.loop-p.invariant in
-    (inv.0, fault_close _ _ _ (c.decode_ring-here.ensures _ (own _ c.requires.bounds)) c.loop-p-test.true _ _ c.in-Change.here-in-Close-1-is ∙ inv.1)
+    fault_close _ _ _ (c.decode_ring-here.ensures _ (own _ c.requires.bounds)) c.loop-p-test.true _ _ c.in-Change.here-in-Close-1-is ∙ c.loop-p.invariant
 
-pub overflow_add-d : goal.overflow_add-d
-overflow_add-d c = omega (arith, (bounded _ c.requires.bounds).disks_max, c.disks-test.true)
+pub loop-d-preserved : goal.loop-d-preserved
+loop-d-preserved c = sym (fault_end _ _ _ _ _ _ c.loop-p-test.false) ∙ c.loop-p.invariant
 
-pub disks-smaller : goal.disks-smaller
-disks-smaller c = omega (arith, c.disks-test.true)
-
-pub disks-preserved : goal.disks-preserved
-disks-preserved c =
-    let inv = c.loop-p.invariant in
-    (omega (arith, c.disks-test.true), inv.0, sym (fault_end _ _ _ _ _ _ c.loop-p-test.false) ∙ inv.1)
-
-pub returns-after-disks : goal.returns-after-disks
-returns-after-disks c =
+pub returns : goal.returns
+returns c =
     let a = c.args in
-    let inv = c.disks.invariant in
-    inv.1 ∙ sym (faults_done a.sizes (λ e. get_or a.starts e 0) a.logs.now a.sizes.disks _ c.disks-test.false) ∙ inv.2
+    sym (faults_done a.sizes (λ e. get_or a.starts e 0) a.logs.now a.sizes.disks _ c.loop-d-test.false) ∙ c.loop-d.invariant
 
 pub returns-in_default : goal.returns-in_default
 returns-in_default c =
     fault_bad _ _ _ (c.decode_ring-here.ensures _ (own _ c.requires.bounds)) c.loop-p-test.true _ _ c.in_default.is
-    ∙ c.loop-p.invariant.1
+    ∙ c.loop-p.invariant

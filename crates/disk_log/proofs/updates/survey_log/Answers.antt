@@ -24,17 +24,17 @@ pub front_at-front-requires : goal.front_at-front-requires
 front_at-front-requires c = (c.requires.readable.0, c.loop-p-test.true, c.turn_at-turn.ensures)
 
 pub overflow_add-next : goal.overflow_add-next
-overflow_add-next c = let low = c.requires.readable.0.end_low in omega (arith, low, c.loop-p-test.true, c.record_words-size.ensures.0)
+overflow_add-next c = let low = c.requires.readable.0.end_low in omega (arith, low, c.loop-p-test.true, c.in-Some.ensures.size.1)
 
-pub shape_of-notes-then-size-eq0 : goal.shape_of-notes-then-size-eq0
-shape_of-notes-then-size-eq0 c = c.loop-p.invariant.3 ∙ sym c.requires.ring_bound.3
+pub shape_of-notes-in_default : goal.shape_of-notes-in_default
+shape_of-notes-in_default c = c.loop-p.invariant.3 ∙ sym c.requires.ring_bound.3
 
-pub returns-then-size-eq0 : goal.returns-then-size-eq0
-returns-then-size-eq0 c =
+pub returns-in_default : goal.returns-in_default
+returns-in_default c =
     let s = c.args.sizes in
     let lies = c.requires.readable.1 in
     let e : EntriesOf s s.slots s.widths = record { bounds = c.requires.readable.2; same_slots = refl; same_widths = refl } in
-    surveyed_bad _ _ _ (c.loop-p.invariant.4 s lies e) _ (part_none s _ _ _ c.args.number c.requires.ring_bound.1 c.loop-p-test.true c.part_end-stop.ensures (c.front_at-front.ensures s _ lies) (λ copy. c.record_words-size.ensures.1 s e _ _ copy) c.if-size-eq0.true)
+    surveyed_bad _ _ _ (c.loop-p.invariant.4 s lies e) _ (part_none s _ _ _ c.args.number c.requires.ring_bound.1 c.loop-p-test.true c.part_end-stop.ensures (c.front_at-front.ensures s _ lies) (λ copy. c.in_default.ensures.words s e _ _ copy) refl)
 
 pub shape_of-notes-then-stop-next : goal.shape_of-notes-then-stop-next
 shape_of-notes-then-stop-next c = c.loop-p.invariant.3 ∙ sym c.requires.ring_bound.3
@@ -44,7 +44,7 @@ returns-then-stop-next c =
     let s = c.args.sizes in
     let lies = c.requires.readable.1 in
     let e : EntriesOf s s.slots s.widths = record { bounds = c.requires.readable.2; same_slots = refl; same_widths = refl } in
-    surveyed_bad _ _ _ (c.loop-p.invariant.4 s lies e) _ (part_past s _ _ _ c.args.number c.requires.ring_bound.1 c.loop-p-test.true c.part_end-stop.ensures (c.front_at-front.ensures s _ lies) (λ copy. c.record_words-size.ensures.1 s e _ _ copy) c.if-stop-next.true)
+    surveyed_bad _ _ _ (c.loop-p.invariant.4 s lies e) _ (part_past s _ _ _ c.args.number c.requires.ring_bound.1 c.loop-p-test.true c.part_end-stop.ensures (c.front_at-front.ensures s _ lies) (λ copy. c.in-Some.ensures.words s e _ _ copy) c.if-stop-next.true)
 
 pub note-requires : goal.note-requires
 note-requires c =
@@ -56,10 +56,10 @@ overflow_add-count c = omega (arith, c.loop-p.invariant.1, c.loop-p-test.true, c
 
 pub overflow_add-words : goal.overflow_add-words
 overflow_add-words c =
-    omega (arith, c.loop-p.invariant.2, c.loop-p-test.true, c.requires.readable.0.end_low, c.record_words-size.ensures.0)
+    omega (arith, c.loop-p.invariant.2, c.loop-p-test.true, c.requires.readable.0.end_low, c.in-Some.ensures.size.1)
 
 pub loop-p-smaller-then-is_update_of : goal.loop-p-smaller-then-is_update_of
-loop-p-smaller-then-is_update_of c = omega (arith, c.if-size-eq0.false, c.loop-p-test.true)
+loop-p-smaller-then-is_update_of c = omega (arith, c.in-Some.ensures.size.0, c.loop-p-test.true)
 
 pub loop-p-preserved-then-is_update_of : goal.loop-p-preserved-then-is_update_of
 loop-p-preserved-then-is_update_of c =
@@ -68,20 +68,20 @@ loop-p-preserved-then-is_update_of c =
     let lies = c.requires.readable.1 in
     let e : EntriesOf s s.slots s.widths = record { bounds = c.requires.readable.2; same_slots = refl; same_widths = refl } in
     let mine = sym c.is_update_of.ensures ∙ c.if-is_update_of.true in
-    let here = part_step s _ _ _ c.args.number c.requires.ring_bound.1 c.loop-p-test.true c.part_end-stop.ensures (c.front_at-front.ensures s _ lies) (λ copy. c.record_words-size.ensures.1 s e _ _ copy) c.if-size-eq0.false c.if-stop-next.false in
+    let here = part_step s _ _ _ c.args.number c.requires.ring_bound.1 c.loop-p-test.true c.part_end-stop.ensures (c.front_at-front.ensures s _ lies) (λ copy. c.in-Some.ensures.words s e _ _ copy) (λ z. omega (arith, c.in-Some.ensures.size.0, z)) c.if-stop-next.false in
     let four = here.four c.requires.readable.2 mine in (
       turn_later c.turn_at-turn.ensures _ (omega arith),
       omega (arith, turn.invariant.1, four),
       omega (arith, turn.invariant.2),
       noted_length turn.notes (turn.count / 128) turn.p (eqb (turn.count % 128) 0) c.note.ensures ∙ turn.invariant.3,
-      λ s lies e. surveying_update _ _ _ (turn.invariant.4 s lies e) (omega arith) (part_step s _ _ _ c.args.number c.requires.ring_bound.1 c.loop-p-test.true c.part_end-stop.ensures (c.front_at-front.ensures s _ lies) (λ copy. c.record_words-size.ensures.1 s e _ _ copy) c.if-size-eq0.false c.if-stop-next.false) mine
+      λ s lies e. surveying_update _ _ _ (turn.invariant.4 s lies e) (omega arith) (part_step s _ _ _ c.args.number c.requires.ring_bound.1 c.loop-p-test.true c.part_end-stop.ensures (c.front_at-front.ensures s _ lies) (λ copy. c.in-Some.ensures.words s e _ _ copy) (λ z. omega (arith, c.in-Some.ensures.size.0, z)) c.if-stop-next.false) mine
           (omega (arith, turn.invariant.1, turn.invariant.3, c.loop-p-test.true, c.requires.ring_bound.2)) c.note.ensures,
       turn.invariant.5,
       turn.invariant.6,
     )
 
 pub loop-p-smaller : goal.loop-p-smaller
-loop-p-smaller c = omega (arith, c.if-size-eq0.false, c.loop-p-test.true)
+loop-p-smaller c = omega (arith, c.in-Some.ensures.size.0, c.loop-p-test.true)
 
 pub loop-p-preserved : goal.loop-p-preserved
 loop-p-preserved c =
@@ -91,7 +91,7 @@ loop-p-preserved c =
       omega (arith, turn.invariant.1),
       omega (arith, turn.invariant.2),
       turn.invariant.3,
-      λ s lies e. surveying_pass _ _ _ (turn.invariant.4 s lies e) (omega arith) (part_step s _ _ _ c.args.number c.requires.ring_bound.1 c.loop-p-test.true c.part_end-stop.ensures (c.front_at-front.ensures s _ lies) (λ copy. c.record_words-size.ensures.1 s e _ _ copy) c.if-size-eq0.false c.if-stop-next.false) other,
+      λ s lies e. surveying_pass _ _ _ (turn.invariant.4 s lies e) (omega arith) (part_step s _ _ _ c.args.number c.requires.ring_bound.1 c.loop-p-test.true c.part_end-stop.ensures (c.front_at-front.ensures s _ lies) (λ copy. c.in-Some.ensures.words s e _ _ copy) (λ z. omega (arith, c.in-Some.ensures.size.0, z)) c.if-stop-next.false) other,
       turn.invariant.5,
       turn.invariant.6,
     )

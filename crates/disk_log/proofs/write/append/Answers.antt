@@ -1,13 +1,13 @@
 -- `append` meets its contract. Assumes nothing.
 use native.Mathlib.Omega.{arith}
-use Rattle.disk_log.proofs.Append.{put_fits, put_cut, put_flushed, ends_whole, ends_cut}
+use Rattle.disk_log.proofs.Append.{put_fits, put_cut, put_flushed}
 use Rattle.disk_log.proofs.write.append.Goals as goal
 
 pub returns-then-fill-n-le64 : goal.returns-then-fill-n-le64
 returns-then-fill-n-le64 c =
     record {
       appends = λ s l w lent. put_fits lent c.args.words.now (omega arith) c.args.budget.now _ c.put_record.ensures;
-      ends = ends_whole _ _ _ _ _ (omega arith) (omega arith);
+      ends = (omega arith, omega arith);
     }
 
 pub returns-then-not-flush_disk : goal.returns-then-not-flush_disk
@@ -16,7 +16,7 @@ returns-then-not-flush_disk c =
     record {
       appends = λ s l w lent.
           put_cut lent c.args.words.now (omega arith) (f.ensures s l w lent) (c.if-not-flush_disk.true);
-      ends = ends_cut _ _ _ c.requires.0.fill_small;
+      ends = tt;
     }
 
 pub returns : goal.returns
@@ -26,5 +26,5 @@ returns c =
       appends = λ s l w lent.
           put_flushed lent c.args.words.now (omega arith) (f.ensures s l w lent) _
           (c.if-not-flush_disk.false) c.put_record-2.ensures;
-      ends = ends_whole _ _ _ _ _ c.requires.1 (omega arith);
+      ends = (c.requires.1, omega arith);
     }
