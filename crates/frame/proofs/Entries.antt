@@ -1,5 +1,5 @@
 -- An open transaction by the words of the head: the tests of the code are those of the rows.
-use mathlib.Core.Path.{◌≡◌, refl, sym, ap, ◌∙◌}
+use mathlib.Core.Path.{subst, ◌≡◌, refl, sym, ap, ◌∙◌}
 use mathlib.Core.List.{List}
 use mathlib.Core.Bool.{Bool, true, false, cond}
 use Prim.Native.Nat.{ℕ, ◌+◌, ◌≤◌, ◌<◌}
@@ -16,16 +16,21 @@ use Rattle.model.proofs.View.Head.{carried_back}
 use Rattle.model.proofs.View.Fields.{field_read}
 use Rattle.frame.specs.Fits.{place_within}
 use Rattle.frame.specs.declared.entry.Entry.{Entry}
-use Rattle.frame.specs.Entry.{Entered}
+use Rattle.frame.specs.Entry.{EntryOf, Entered}
+use Rattle.frame.specs.declared.refusal.Refusal.{Refusal}
+use Rattle.frame.specs.declared.refusal.Refusal.TheVariants.{Stage, NotOpen}
+use Rattle.frame.specs.Refusal.{number_of}
+use Rattle.frame.proofs.Refusals.{ok_same}
+use Rattle.std.specs.Prelude.{Ok, Err}
 use Rattle.frame.proofs.Fitting.{place_here}
 
-refused_entry : {c : Core} {number : ℕ} (r : Entry) → 0 < r.refusal
-    → r.refusal ≡ cond (is_open c.table number) (cond (place_fits (place_of c.table number) c) 0 1) 9 → Entered c number r
-refused_entry r some e = record { refusal = e; ready = λ none. absurd (omega (arith, some, none)) }
+refused_entry : {c : Core} {number : ℕ} (r : Refusal)
+    → number_of r ≡ cond (is_open c.table number) (cond (place_fits (place_of c.table number) c) 0 1) 9 → Entered c number (Err r)
+refused_entry r e = record { refusal = e; ready = λ entry is. cc }
 
-pub entry_zero : (c : Core) (number : ℕ) → number ≡ 0 → (r : Entry) → r.refusal ≡ 9 → Entered c number r
+pub entry_zero : (c : Core) (number : ℕ) → number ≡ 0 → Entered c number (Err NotOpen)
 unfolding is_open in_table
-entry_zero c number zero r e = refused_entry r (omega (arith, e)) (e ∙ rw (eq-eqb number 0 zero) refl)
+entry_zero c number zero = refused_entry NotOpen (rw (eq-eqb number 0 zero) refl)
 
 -- The state that a work memory is the own one of.
 module _ (h : Carried) (work : List ℕ) (own : own_work h work ≡ true) (number : ℕ) (some : number ≡ 0 → ⊥) {place : ℕ}
@@ -33,10 +38,9 @@ module _ (h : Carried) (work : List ℕ) (own : own_work h work ≡ true) (numbe
   abbrev c : Core
   c = core_of h work
 
-  pub entry_none : 16 ≤ place → (r : Entry) → r.refusal ≡ 9 → Entered c number r
+  pub entry_none : 16 ≤ place → Entered c number (Err NotOpen)
   unfolding is_open in_table
-  entry_none high r e =
-      refused_entry r (omega (arith, e)) (e ∙ rw (ne_eqb number 0 some, ← there, le-ltb place 16 high) refl)
+  entry_none high = refused_entry NotOpen (rw (ne_eqb number 0 some, ← there, le-ltb place 16 high) refl)
 
   module _ (low : place < 16) {count : ℕ} {tails : List ℕ} (same_disks : h.disks ≡ count) (same_tails : h.tails ≡ tails) where
     abbrev disk_word : ℕ
@@ -60,11 +64,11 @@ module _ (h : Carried) (work : List ℕ) (own : own_work h work ≡ true) (numbe
     unfolding reserved_at
     reserved_here = field_read h work own reserved place low
 
-    pub entry_outside : count ≤ disk_word → (r : Entry) → r.refusal ≡ 1 → Entered c number r
+    pub entry_outside : count ≤ disk_word → Entered c number (Err Stage)
     unfolding place_within
-    entry_outside high r e =
-        refused_entry r (omega (arith, e))
-        (e ∙ rw (opened, ← there, ← place_here c place, disk_here, count_here, le-ltb disk_word count high) refl)
+    entry_outside high =
+        refused_entry Stage
+        (rw (opened, ← there, ← place_here c place, disk_here, count_here, le-ltb disk_word count high) refl)
 
     module _ (below : disk_word < count) (few : count ≤ 8) where
       abbrev tail_word_lem : ℕ
@@ -93,18 +97,19 @@ module _ (h : Carried) (work : List ℕ) (own : own_work h work ≡ true) (numbe
           rw (← there, ← place_here c place, disk_here, count_here, tail_here, fill_here, reserved_here, sum_here) refl
 
       pub entry_unfit : {b : Bool} → b ≡ place_within count disk_word tail_word_lem fill_word reserved_word sum_word → b ≡ false
-          → (r : Entry) → r.refusal ≡ 1 → Entered c number r
-      entry_unfit test fails r e = refused_entry r (omega (arith, e)) (e ∙ rw (opened, fits_here, ← test, fails) refl)
+          → Entered c number (Err Stage)
+      entry_unfit test fails = refused_entry Stage (rw (opened, fits_here, ← test, fails) refl)
 
       pub entry_found : {b : Bool} → b ≡ place_within count disk_word tail_word_lem fill_word reserved_word sum_word → b ≡ true
           → Entered c number
-          (record { refusal = 0; place = place; reserved = reserved_word; disk = disk_word; tail = tail_word_lem; fill = fill_word; sum = sum_word })
+          (Ok (record { place = place; reserved = reserved_word; disk = disk_word; tail = tail_word_lem; fill = fill_word; sum = sum_word }))
       entry_found test passes =
           record {
             refusal = rw (opened, fits_here, ← test, passes) refl;
             ready =
-                λ none.
-                record {
+                λ entry is.
+                subst (λ (e : Entry). EntryOf c number e) (ok_same is)
+                (record {
                   place = there;
                   low = low;
                   reserved = sym reserved_here;
@@ -113,5 +118,5 @@ module _ (h : Carried) (work : List ℕ) (own : own_work h work ≡ true) (numbe
                   fill = sym fill_here;
                   sum = sym sum_here;
                   fits = rw (count_here, ← test) passes;
-                };
+                });
           }

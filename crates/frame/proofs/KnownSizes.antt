@@ -1,24 +1,20 @@
 -- The sizes in the head: within their bounds they are bytes.
-use mathlib.Core.Path.{◌≡◌, refl, sym, ap, ◌∙◌}
+use mathlib.Core.Path.{◌≡◌, refl, sym, ap}
 use mathlib.Core.List.{List}
 use mathlib.Core.Bool.{Bool, true, false}
 use Prim.Native.Nat.{ℕ, ◌+◌, ◌-◌, ◌<◌}
 use native.Mathlib.Omega.{arith}
 use native.Mathlib.Decide.{dec_lt}
 use native.Mathlib.Nat.{zero-add}
-use lib.Dec.{eqb}
 use lib.ListN.{get_or}
-use Rattle.model.specs.declared.Sizes.{Sizes}
 use Rattle.model.specs.declared.Core.{Core}
 use Rattle.model.specs.declared.Carried.{Carried}
-use Rattle.model.specs.Sizes.{total, sizes_in_bounds}
+use Rattle.model.specs.Sizes.{sizes_in_bounds}
 use Rattle.model.specs.View.{head_slots, head_widths, own_work, core_of}
-use Rattle.model.proofs.Booleans.{true_false}
 use Rattle.model.proofs.Parts.{get_or_part}
 use Rattle.model.proofs.View.Head.{own_view}
 use Rattle.layout.proofs.Laws.{entry_bytes}
-use Rattle.frame.specs.Sizes.{sizes_at, Tested}
-use Rattle.frame.specs.declared.sizes.Known.{Known}
+use Rattle.frame.specs.Sizes.{sizes_at}
 
 -- the 128 words of slots and widths are bytes
 pub head_bytes : (pages disks ring : ℕ) (work : List ℕ) → sizes_in_bounds (sizes_at pages disks ring work) ≡ true
@@ -45,14 +41,6 @@ head_out pages disks ring work some none = go (sizes_in_bounds (sizes_at pages d
     go : (b : Bool) → sizes_in_bounds (sizes_at pages disks ring work) ≡ b → b ≡ false
     go true e = absurd (some (none (head_bytes pages disks ring work e)))
     go false e = refl
-
--- sizes that do not pass are not handed out
-module _ (s : Sizes) (words : ℕ) {r : Known} where
-  pub known_not : sizes_in_bounds s ≡ false → r.fits ≡ false → Tested s words r
-  known_not out unfit = record { fits = rw (unfit, out) refl; sizes = λ fits. true_false fits unfit }
-
-  pub known_here : sizes_in_bounds s ≡ true → r.fits ≡ eqb words (total s) → r.sizes ≡ s → Tested s words r
-  known_here in_bounds fits same = record { fits = fits ∙ rw in_bounds refl; sizes = λ _. same }
 
 -- the test of a state whose head this is
 module _ (h : Carried) (work : List ℕ) (own : own_work h work ≡ true) where

@@ -15,3 +15,4 @@ pub mod Behind
 pub mod LentChecks
 pub mod FirstChecks
 pub mod Shown
+pub mod Refusals

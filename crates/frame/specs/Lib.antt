@@ -8,3 +8,4 @@ pub mod Switch
 pub mod Entry
 pub mod Pages
 pub mod Sizes
+pub mod Refusal

@@ -4,8 +4,10 @@ ghost use Rattle.std.specs.Prelude.{◌≡◌};
 ghost use Rattle.model.specs.World.{world_of};
 ghost use Rattle.model.specs.State.{serving_sound, replay_sound, sound};
 ghost use Rattle.frame.specs.Checks.{anchor_refusal, allowed_in, CommonRefusal};
+ghost use Rattle.frame.specs.Refusal.{row_in};
 
 use crate::fits::counts_fit;
+use crate::refusal::Refusal;
 use crate::stages::{When, is_allowed, is_open, is_replaying, is_shut};
 use layout::anchor::ANCHOR_WORDS;
 use layout::bases::bases_right;
@@ -60,16 +62,20 @@ fn is_sound(core: Core) -> bool
     checkpoint_bounds(core)
 }
 
-// 2 where the anchor's length is wrong.
-fn anchor_refusal(anchor: usize, otherwise: u64) -> u64
-    ensures { result ≡ anchor_refusal anchor otherwise }
+// The anchor's length is asked before what is found otherwise.
+fn check_anchor(anchor: usize, otherwise: Result<(), Refusal>) -> Result<(), Refusal>
+    ensures { row_in result ≡ anchor_refusal anchor (row_in otherwise) }
 {
-    if anchor == ANCHOR_WORDS { otherwise } else { 2 }
+    if anchor == ANCHOR_WORDS {
+        otherwise
+    } else {
+        Err(Refusal::AnchorLength)
+    }
 }
 
-// The first lines of a call that tests the whole state: the number of the first of rows 1, 2 and 5 that applies, 0 where none does. The
+// The first lines of a call that tests the whole state: the first of rows 1, 2 and 5 that applies. The
 // state is tested only where the lengths are right: else one of them refuses.
-pub fn common_refusal(
+pub fn check_common(
     when: When,
     core: Core,
     anchor: &[u64],
@@ -77,18 +83,18 @@ pub fn common_refusal(
     backups: &[u64],
     logs: &[u64],
     work: &[u64],
-) -> u64
-    ensures { CommonRefusal (allowed_in when) core (world_of anchor.now pages.now backups.now logs.now work.now) result }
+) -> Result<(), Refusal>
+    ensures { CommonRefusal (allowed_in when) core (world_of anchor.now pages.now backups.now logs.now work.now) (row_in result) }
 {
     let stage = core.stage;
     if !is_allowed(when, stage) {
-        return 1;
+        return Err(Refusal::Stage);
     }
     let disks = core.sizes.disks;
     let ring = core.sizes.ring;
     let total = core.bases.total;
     if !counts_fit(core.sizes.pages, disks, ring, total) {
-        return 1;
+        return Err(Refusal::Stage);
     }
     if !lengths_right(
         disks,
@@ -99,10 +105,10 @@ pub fn common_refusal(
         logs.len(),
         work.len(),
     ) {
-        return anchor_refusal(anchor.len(), 5);
+        return check_anchor(anchor.len(), Err(Refusal::Length));
     }
     if !is_sound(core) {
-        return 1;
+        return Err(Refusal::Stage);
     }
-    anchor_refusal(anchor.len(), 0)
+    check_anchor(anchor.len(), Ok(()))
 }

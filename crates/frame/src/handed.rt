@@ -3,24 +3,26 @@ ghost use Rattle.std.specs.Prelude.{◌≡◌};
 ghost use Rattle.model.specs.State.{new_core};
 ghost use Rattle.model.specs.View.{carried_of};
 ghost use Rattle.frame.specs.Handed.{refused_to, finished_to, cut_to};
+ghost use Rattle.frame.specs.Refusal.{number_of};
 
+use crate::refusal::Refusal;
 use crate::states::no_classes;
-use model::{Answer, Carried, Handed, Stage};
+use model::{Answer, BadRecord, Carried, Handed, Stage};
 
 // A refusal hands back what came in.
-pub fn refused(carried: Carried, number: u64) -> Handed
-    ensures { result ≡ refused_to carried number 0 0 }
+pub fn refused(carried: Carried, refusal: Refusal) -> Handed
+    ensures { result ≡ refused_to carried (number_of refusal) 0 0 }
 {
-    refused_at(carried, number, 0, 0)
+    refused_at(carried, refusal, 0, 0)
 }
 
 // One that says where.
-pub fn refused_at(carried: Carried, number: u64, first: u64, second: u64) -> Handed
-    ensures { result ≡ refused_to carried number first second }
+pub fn refused_at(carried: Carried, refusal: Refusal, first: u64, second: u64) -> Handed
+    ensures { result ≡ refused_to carried (number_of refusal) first second }
 {
     Handed {
         answer: Answer::Refused {
-            number,
+            number: refusal.number(),
             first,
             second,
         },
@@ -29,17 +31,10 @@ pub fn refused_at(carried: Carried, number: u64, first: u64, second: u64) -> Han
 }
 
 // No. 7: a malformed record.
-pub fn unreadable(carried: Carried, disk: u64, position: u64) -> Handed
-    ensures { result ≡ refused_to carried 7 disk position }
+pub fn unreadable(carried: Carried, bad: BadRecord) -> Handed
+    ensures { result ≡ refused_to carried 7 bad.disk bad.position }
 {
-    Handed {
-        answer: Answer::Refused {
-            number: 7,
-            first: disk,
-            second: position,
-        },
-        carried,
-    }
+    refused_at(carried, Refusal::Malformed, bad.disk, bad.position)
 }
 
 pub fn finished(carried: Carried, stores: u64, value: u64) -> Handed

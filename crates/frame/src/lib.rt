@@ -9,6 +9,7 @@ pub mod handed;
 pub mod home;
 pub mod lent;
 pub mod pages;
+pub mod refusal;
 pub mod replaying;
 pub mod settle;
 pub mod sizes;

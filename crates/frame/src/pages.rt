@@ -15,8 +15,7 @@ fn used_right(work: &[u64], end: usize, total: u64) -> bool
     ensures { result ≡ used_right work.now end total }
 {
     let mut sum: u64 = 0;
-    let mut i: usize = 0;
-    while i < end {
+    for i in 0..end {
         let slots = work[SLOTS_AT + i];
         let width = work[WIDTHS_AT + i];
         if slots > 128 {
@@ -36,7 +35,6 @@ fn used_right(work: &[u64], end: usize, total: u64) -> bool
             return false;
         }
         sum += words;
-        i += 1;
     }
     sum == total
 }
@@ -46,8 +44,7 @@ fn unused_right(work: &[u64], from: usize, total: u64) -> bool
     requires { (from ≤ 64) × (head_words ≤ length work.now) }
     ensures { result ≡ unused_right work.now from total }
 {
-    let mut i = from;
-    while i < 64 {
+    for i in from..64 {
         if work[SLOTS_AT + i] != 0 {
             return false;
         }
@@ -57,7 +54,6 @@ fn unused_right(work: &[u64], from: usize, total: u64) -> bool
         if work[BASES_AT + i] != total {
             return false;
         }
-        i += 1;
     }
     true
 }

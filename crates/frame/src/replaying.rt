@@ -16,9 +16,7 @@ fn positions_right(work: &[u64], disks: u64, tails: [u64; 8]) -> bool
     requires { (disks ≤ 8) × (head_words ≤ length work.now) }
     ensures { result ≡ all_below (position_right work.now tails) disks }
 {
-    let end = disks as usize;
-    let mut d: usize = 0;
-    while d < end {
+    for d in 0..disks as usize {
         let tail = tails[d];
         if LIMIT < tail {
             return false;
@@ -26,7 +24,6 @@ fn positions_right(work: &[u64], disks: u64, tails: [u64; 8]) -> bool
         if tail < work[POSITIONS_AT + d] {
             return false;
         }
-        d += 1;
     }
     true
 }

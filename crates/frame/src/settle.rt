@@ -1,18 +1,19 @@
 // How a call ends: refused, finished or cut.
 ghost use Rattle.std.specs.Prelude.{◌≡◌, ◌-◌};
 ghost use Rattle.frame.specs.Settle.{refused_with, finished_with, settled};
+ghost use Rattle.frame.specs.Refusal.{number_of};
 
+use crate::refusal::Refusal;
 use crate::states::new_core;
 use model::{Answer, Core, Reply};
-use words::saturating_sub;
 
 // A refusal leaves the state as it was.
-pub fn refuse_at(core: Core, number: u64, first: u64, second: u64) -> Reply
-    ensures { result ≡ refused_with core number first second }
+pub fn refuse_at(core: Core, refusal: Refusal, first: u64, second: u64) -> Reply
+    ensures { result ≡ refused_with core (number_of refusal) first second }
 {
     Reply {
         answer: Answer::Refused {
-            number,
+            number: refusal.number(),
             first,
             second,
         },
@@ -20,10 +21,10 @@ pub fn refuse_at(core: Core, number: u64, first: u64, second: u64) -> Reply
     }
 }
 
-pub fn refuse(core: Core, number: u64) -> Reply
-    ensures { result ≡ refused_with core number 0 0 }
+pub fn refuse(core: Core, refusal: Refusal) -> Reply
+    ensures { result ≡ refused_with core (number_of refusal) 0 0 }
 {
-    refuse_at(core, number, 0, 0)
+    refuse_at(core, refusal, 0, 0)
 }
 
 // A call that is finished and stored nothing.
@@ -40,7 +41,7 @@ pub fn finish(core: Core, value: u64) -> Reply
 pub fn settle(whole: bool, budget: u64, rest: u64, value: u64, core: Core) -> Reply
     ensures { result ≡ settled whole budget rest value core }
 {
-    let stores = saturating_sub(budget, rest);
+    let stores = budget.saturating_sub(rest);
     if whole {
         return Reply {
             answer: Answer::Finished { stores, value },

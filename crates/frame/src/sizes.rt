@@ -2,18 +2,11 @@
 ghost use Rattle.std.specs.Prelude.{◌≡◌, false, ℕ, ◌+◌, ◌≤◌, ◌<◌, length, get_or};
 ghost use Rattle.model.specs.Word.{part};
 ghost use Rattle.model.specs.View.{head_slots, head_widths};
-ghost use Rattle.frame.specs.Sizes.{sizes_at, Tested};
+ghost use Rattle.frame.specs.Sizes.{sizes_at, tested};
 
 use head::places::{SLOTS_AT, WIDTHS_AT};
 use layout::bounds::sizes_in_bounds;
 use model::Sizes;
-
-// Whether the sizes pass, and then the sizes.
-#[derive(Clone, Copy)]
-pub struct Known {
-    pub fits: bool,
-    pub sizes: Sizes,
-}
 
 // The slots and widths of 64 pages stand side by side. The sum of what is above a byte is 0 where all of them are bytes.
 fn above_bytes(work: &[u64]) -> u64
@@ -21,23 +14,20 @@ fn above_bytes(work: &[u64]) -> u64
     ensures { (result ≡ 0 → (i : ℕ) → i < 128 → get_or work.now i 0 < 256) × (((i : ℕ) → i < 128 → get_or work.now i 0 < 256) → result ≡ 0) }
 {
     let mut above: u64 = 0;
-    let mut i: usize = 0;
-    while i < 128 {
-        above += work[i] / 256;
-        i += 1;
+    for word in &work[..128] {
+        above += word / 256;
     }
     above
 }
 
+// `head::lists::bytes_at` caps each word first: here that would be work for each word that the test has done.
 fn entries_at(work: &[u64], at: usize) -> [u8; 64]
     requires { (at + 64 ≤ length work.now) × ((i : ℕ) → i < 64 → get_or work.now (at + i) 0 < 256) }
     ensures { result ≡ part at 64 work.now }
 {
     let mut out = [0u8; 64];
-    let mut i: usize = 0;
-    while i < 64 {
+    for i in 0..64 {
         out[i] = work[at + i] as u8;
-        i += 1;
     }
     out
 }
@@ -55,33 +45,21 @@ fn sizes_at(work: &[u64], pages: u64, disks: u64, ring: u64) -> Sizes
     }
 }
 
-fn unfit() -> Known
-    ensures { result.fits ≡ false }
-{
-    Known {
-        fits: false,
-        sizes: Sizes {
-            pages: 0,
-            disks: 0,
-            ring: 0,
-            slots: [0u8; 64],
-            widths: [0u8; 64],
-        },
-    }
-}
-
-// Every page is within its bounds, and T is `words`.
-pub fn known_sizes(work: &[u64], pages: u64, disks: u64, ring: u64, words: u64) -> Known
+// The sizes, if every page is within its bounds and T is `words`.
+pub fn known_sizes(work: &[u64], pages: u64, disks: u64, ring: u64, words: u64) -> Option<Sizes>
     requires { 128 ≤ length work.now }
-    ensures { Tested (sizes_at pages disks ring work.now) words result }
+    ensures { result ≡ tested (sizes_at pages disks ring work.now) words }
 {
     if above_bytes(work) != 0 {
-        return unfit();
+        return None;
     }
     let sizes = sizes_at(work, pages, disks, ring);
     if !sizes_in_bounds(sizes) {
-        return unfit();
+        return None;
     }
-    let fits = words == layout::places::total(sizes);
-    Known { fits, sizes }
+    if words == layout::places::total(sizes) {
+        Some(sizes)
+    } else {
+        None
+    }
 }

@@ -17,57 +17,32 @@ pub enum When {
 pub fn is_shut(stage: Stage) -> bool
     ensures { result ≡ when_shut stage }
 {
-    match stage {
-        Stage::Shut => true,
-        Stage::Replaying => false,
-        Stage::Open => false,
-        Stage::Copying => false,
-    }
+    matches!(stage, Stage::Shut)
 }
 
 pub fn is_replaying(stage: Stage) -> bool
     ensures { result ≡ when_replaying stage }
 {
-    match stage {
-        Stage::Shut => false,
-        Stage::Replaying => true,
-        Stage::Open => false,
-        Stage::Copying => false,
-    }
+    matches!(stage, Stage::Replaying)
 }
 
 pub fn is_open(stage: Stage) -> bool
     ensures { result ≡ when_open stage }
 {
-    match stage {
-        Stage::Shut => false,
-        Stage::Replaying => false,
-        Stage::Open => true,
-        Stage::Copying => false,
-    }
+    matches!(stage, Stage::Open)
 }
 
 pub fn is_copying(stage: Stage) -> bool
     ensures { result ≡ when_copying stage }
 {
-    match stage {
-        Stage::Shut => false,
-        Stage::Replaying => false,
-        Stage::Open => false,
-        Stage::Copying => true,
-    }
+    matches!(stage, Stage::Copying)
 }
 
 // Open or copying.
 pub fn is_serving(stage: Stage) -> bool
     ensures { result ≡ when_serving stage }
 {
-    match stage {
-        Stage::Shut => false,
-        Stage::Replaying => false,
-        Stage::Open => true,
-        Stage::Copying => true,
-    }
+    matches!(stage, Stage::Open | Stage::Copying)
 }
 
 pub fn is_allowed(when: When, stage: Stage) -> bool

@@ -1,5 +1,4 @@
 -- `frame::pages::unused_right` meets its contract: the entries passed are right. Assumes nothing.
-use Prim.Native.Nat.{◌-◌, ◌≤◌}
 use mathlib.Core.Bool.{true}
 use mathlib.Core.Path.{◌≡◌}
 use Rattle.model.specs.Below.{all_below}
@@ -7,7 +6,4 @@ use Rattle.frame.specs.Pages.{unused_at}
 use Rattle.frame.proofs.pages.unused_right.Given as goal
 
 abbrev pub invariant-loop-i : goal.invariant-loop-i
-invariant-loop-i l = (l.from ≤ l.i) × (l.i ≤ 64) × (all_below (unused_at l.work l.from l.total) l.i ≡ true)
-
-abbrev pub decreases-loop-i : goal.decreases-loop-i
-decreases-loop-i l = 64 - l.i
+invariant-loop-i l = all_below (unused_at l.work l.from l.total) l.i ≡ true

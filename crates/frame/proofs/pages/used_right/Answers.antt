@@ -4,14 +4,13 @@ use mathlib.Core.Path.{refl, sym, ◌∙◌}
 use native.Mathlib.Omega.{arith}
 use Rattle.model.specs.Below.{sum_below}
 use Rattle.model.proofs.Below.{sum_step, all_none, all_more}
-use Rattle.layout.proofs.Laws.{product_max}
 use Rattle.frame.specs.Pages.{used_at}
 use Rattle.frame.proofs.PagesRight.{many_slots, wide, wordless, many_words, elsewhere, page_passes, used_wrong, used_done}
 use Rattle.frame.proofs.pages.used_right.Goals as goal
 
 pub loop-i-init : goal.loop-i-init
 unfolding sum_below
-loop-i-init c = (omega arith, omega arith, refl, all_none _)
+loop-i-init c = (omega arith, refl, all_none _)
 
 pub returns-then-slots-gt128 : goal.returns-then-slots-gt128
 returns-then-slots-gt128 c =
@@ -26,10 +25,7 @@ returns-then-width-gt32 c =
 pub returns-then-work-i : goal.returns-then-work-i
 returns-then-work-i c =
     let x = c.args in
-    used_wrong x.work.now x.end x.total c.loop-i.i (omega arith) (elsewhere _ _ _ _ (λ same. c.if-work-i.true (same ∙ sym c.loop-i.invariant.2)))
-
-pub overflow_mul-words : goal.overflow_mul-words
-overflow_mul-words c = omega (arith, product_max _ _ 128 32 c.if-slots-gt128.false c.if-width-gt32.false)
+    used_wrong x.work.now x.end x.total c.loop-i.i (omega arith) (elsewhere _ _ _ _ (λ same. c.if-work-i.true (same ∙ sym c.loop-i.invariant.1)))
 
 pub returns-then-words-eq0 : goal.returns-then-words-eq0
 returns-then-words-eq0 c =
@@ -45,10 +41,10 @@ pub loop-i-preserved : goal.loop-i-preserved
 loop-i-preserved c =
     let i = c.loop-i.i in
     let inv = c.loop-i.invariant in
-    let passes = page_passes _ _ _ _ c.if-words-eq0.false c.if-words-gt128.false c.if-width-gt32.false (c.if-work-i.false ∙ inv.2) in
-    (omega arith, omega arith, rw (sum_step, inv.2) refl, all_more (used_at c.args.work.now) i inv.3 passes)
+    let passes = page_passes _ _ _ _ c.if-words-eq0.false c.if-words-gt128.false c.if-width-gt32.false (c.if-work-i.false ∙ inv.1) in
+    (omega arith, rw (sum_step, inv.1) refl, all_more (used_at c.args.work.now) i inv.2 passes)
 
 pub returns : goal.returns
 returns c =
     let x = c.args in
-    used_done x.work.now x.end x.total c.loop-i.i (omega arith) c.loop-i.invariant.2 c.loop-i.invariant.3
+    used_done x.work.now x.end x.total c.loop-i.i (omega arith) c.loop-i.invariant.1 c.loop-i.invariant.2

@@ -1,6 +1,6 @@
 -- `frame::pages::used_right` meets its contract: the pages passed are right, and the sum is that of their words, at most 128 each.
 -- Assumes nothing.
-use Prim.Native.Nat.{◌*◌, ◌-◌, ◌≤◌}
+use Prim.Native.Nat.{◌*◌, ◌≤◌}
 use mathlib.Core.Bool.{true}
 use mathlib.Core.Path.{◌≡◌}
 use Rattle.model.specs.Below.{sum_below, all_below}
@@ -8,7 +8,4 @@ use Rattle.frame.specs.Pages.{words_at, used_at}
 use Rattle.frame.proofs.pages.used_right.Given as goal
 
 abbrev pub invariant-loop-i : goal.invariant-loop-i
-invariant-loop-i l = (l.i ≤ l.end) × (l.sum ≤ 128 * l.i) × (l.sum ≡ sum_below (words_at l.work) l.i) × (all_below (used_at l.work) l.i ≡ true)
-
-abbrev pub decreases-loop-i : goal.decreases-loop-i
-decreases-loop-i l = l.end - l.i
+invariant-loop-i l = (l.sum ≤ 128 * l.i) × (l.sum ≡ sum_below (words_at l.work) l.i) × (all_below (used_at l.work) l.i ≡ true)

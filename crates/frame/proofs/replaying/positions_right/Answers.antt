@@ -3,12 +3,12 @@ use mathlib.Core.Bool.{true, and-false}
 use mathlib.Core.Path.{◌≡◌, refl}
 use native.Mathlib.Omega.{arith}
 use borrow.Author.Tests.{le-leb, lt-leb}
-use Rattle.model.proofs.Below.{all_none, all_more, all_stop, all_done}
+use Rattle.model.proofs.Below.{all_none, all_more, all_stop}
 use Rattle.frame.specs.Pages.{position_right}
 use Rattle.frame.proofs.replaying.positions_right.Goals as goal
 
 pub loop-d-init : goal.loop-d-init
-loop-d-init c = (omega arith, all_none _)
+loop-d-init c = all_none _
 
 pub returns-then-tail-gt-LIMIT : goal.returns-then-tail-gt-LIMIT
 returns-then-tail-gt-LIMIT c =
@@ -24,9 +24,4 @@ pub loop-d-preserved : goal.loop-d-preserved
 loop-d-preserved c =
     let x = c.args in
     let passes : position_right x.work.now x.tails c.loop-d.d ≡ true = rw (le-leb _ _ c.if-tail-gt-LIMIT.false, le-leb _ _ c.if-tail-work.false) refl in
-    (omega arith, all_more (position_right x.work.now x.tails) c.loop-d.d c.loop-d.invariant.1 passes)
-
-pub returns : goal.returns
-returns c =
-    let x = c.args in
-    all_done (position_right x.work.now x.tails) x.disks c.loop-d.d (omega arith) (omega arith) c.loop-d.invariant.1
+    all_more (position_right x.work.now x.tails) c.loop-d.d c.loop-d.invariant passes

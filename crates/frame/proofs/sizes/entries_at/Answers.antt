@@ -11,21 +11,18 @@ use Rattle.frame.proofs.sizes.entries_at.Goals as goal
 
 pub loop-i-init : goal.loop-i-init
 unfolding part
-loop-i-init c = (omega arith, refl)
-
-pub overflow_cast-out : goal.overflow_cast-out
-overflow_cast-out c = let l = c.loop-i in omega (arith, c.requires.1 l.i (omega arith))
+loop-i-init c = refl
 
 pub loop-i-preserved : goal.loop-i-preserved
 loop-i-preserved c =
     let s = c.args in
     let l = c.loop-i in
     let e : 0 + l.i ≡ l.i = zero-add l.i in
-    (omega arith, rw l.invariant.1 (rw e at (copy_more (replicate 64 0) 0 s.work.now s.at l.i (omega (arith, c.requires.0)))))
+    rw l.invariant (rw e at (copy_more (replicate 64 0) 0 s.work.now s.at l.i (omega (arith, c.requires.0))))
 
 pub returns : goal.returns
 returns c =
     let s = c.args in
     let l = c.loop-i in
     let e : l.i ≡ 64 = omega arith in
-    (rw e at l.invariant.1) ∙ sets_whole (replicate 64 0) (part s.at 64 s.work.now) (sym (length_part s.at 64 s.work.now c.requires.0))
+    (rw e at l.invariant) ∙ sets_whole (replicate 64 0) (part s.at 64 s.work.now) (sym (length_part s.at 64 s.work.now c.requires.0))

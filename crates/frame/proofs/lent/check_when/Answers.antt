@@ -1,9 +1,9 @@
--- `frame::lent::refusal_when` meets its contract: the tests in their order. Assumes nothing.
+-- `frame::lent::check_when` meets its contract: the tests in their order. Assumes nothing.
 use mathlib.Core.Path.{refl, sym, ◌∙◌}
 use borrow.Author.Tests.{eq-eqb, ne_eqb}
 use Rattle.frame.specs.Lent.{lent_refusal}
 use Rattle.frame.proofs.Fitting.{counted}
-use Rattle.frame.proofs.lent.refusal_when.Goals as goal
+use Rattle.frame.proofs.lent.check_when.Goals as goal
 
 pub returns-then-not-allowed : goal.returns-then-not-allowed
 unfolding lent_refusal

@@ -1,8 +1,8 @@
--- `frame::checks::anchor_refusal` meets its contract: by the test. Assumes nothing.
+-- `frame::checks::check_anchor` meets its contract: by the test. Assumes nothing.
 use mathlib.Core.Path.{refl}
 use borrow.Author.Tests.{eq-eqb, ne_eqb}
 use Rattle.frame.specs.Checks.{anchor_refusal}
-use Rattle.frame.proofs.checks.anchor_refusal.Goals as goal
+use Rattle.frame.proofs.checks.check_anchor.Goals as goal
 
 pub returns-then-anchor-eq-ANCHOR_WORDS : goal.returns-then-anchor-eq-ANCHOR_WORDS
 unfolding anchor_refusal
