@@ -19,7 +19,7 @@ use Rattle.model.specs.Append.{store_all, flush, Appended, buffered, append}
 use Rattle.model.specs.Abort.{xor_in, compensate, undo_all}
 use Rattle.model.proofs.Growth.{SizedLogs}
 use Rattle.frame.specs.Home.{with_disk}
-use Rattle.abort.specs.declared.window.Tip.{Tip}
+use Rattle.disk_log.specs.declared.write.Tip.{Tip}
 use Rattle.abort.specs.Undo.{only_log}
 use Rattle.abort.specs.Scope.{rolling_back}
 use Rattle.abort.proofs.Tips.{tip_tail, tip_fill}

@@ -1,13 +1,13 @@
 -- How an abort ends: refused for what it read, cut, or finished with its transaction out of the table.
+use Rattle.std.specs.Prelude.{Option, None, Some, is_some}
 use mathlib.Core.Path.{◌≡◌, refl, sym, ap, ◌∙◌}
 use mathlib.Core.List.{List, ◌++◌}
-use mathlib.Core.Bool.{true, false}
 use Prim.Native.Nat.{ℕ, ◌-◌}
 use lib.ListN.{length, get_or, set, take, drop}
 use Rattle.model.specs.declared.Core.{Core}
 use Rattle.model.specs.declared.Carried.{Carried}
 use Rattle.model.specs.declared.Handed.{Handed}
-use Rattle.model.specs.declared.Fault.TheVariants.{NoFault, BadRecord}
+use Rattle.model.specs.Record.{bad_record}
 use Rattle.model.specs.Scan.{updates_in}
 use Rattle.model.specs.World.{World, world_of}
 use Rattle.model.specs.State.{with_log, with_place, with_reserved, without}
@@ -26,10 +26,10 @@ use Rattle.frame.specs.Handed.{finished_to, cut_to}
 use Rattle.frame.specs.Home.{with_disk}
 use Rattle.frame.proofs.FirstChecks.{serving_ready}
 use Rattle.frame.proofs.Shown.{shown_whole, shown_cut}
-use Rattle.abort.specs.declared.window.Tip.{Tip}
+use Rattle.disk_log.specs.declared.write.Tip.{Tip}
 use Rattle.abort.specs.declared.undo.Undone.{Undone}
 use Rattle.abort.specs.declared.scope.Target.{Target}
-use Rattle.abort.specs.Undo.{only_log, Did, Counts, log_from}
+use Rattle.abort.specs.Undo.{only_log, Did, tip_in, Counts, log_from}
 use Rattle.abort.specs.Scope.{rolling_back, closed}
 use Rattle.abort.proofs.Apart.{same_actions, moved_alone}
 use Rattle.abort.proofs.Aborts.{Standing, scope_disk}
@@ -64,7 +64,7 @@ module _ (h : Carried) (w : World) (number budget : ℕ) {t : Target} (st : Stan
   tip = record { tail = t.entry.tail; fill = t.entry.fill }
 
   -- the log is malformed, or has too many words of updates
-  pub abort_bad : {disk position : ℕ} → abort_fault core (body_of w) number ≡ BadRecord disk position
+  pub abort_bad : {disk position : ℕ} → abort_fault core (body_of w) number ≡ bad_record disk position
       → verdict (abort_rows core (body_of w) number) ≡ rejected 7 disk position
   unfolding verdict
   abort_bad bad = st.rows ∙ rw bad refl
@@ -76,7 +76,7 @@ module _ (h : Carried) (w : World) (number budget : ℕ) {t : Target} (st : Stan
       let found = st.read.entry in
       rw (scope_disk st.read, found.sum, found.reserved, found.disk, found.place) refl
 
-  module _ (starts : length h.starts ≡ 8) (tails : length h.tails ≡ 8) (none : abort_fault core (body_of w) number ≡ NoFault) where
+  module _ (starts : length h.starts ≡ 8) (tails : length h.tails ≡ 8) (none : abort_fault core (body_of w) number ≡ None) where
     accepts : verdict (abort_rows core (body_of w) number) ≡ accepted
     unfolding verdict not_open
     accepts = st.rows ∙ rw (none, st.opened) refl
@@ -92,22 +92,22 @@ module _ (h : Carried) (w : World) (number budget : ℕ) {t : Target} (st : Stan
 
     -- what the work says of any anchor and backups, of these
     module _ {memory : List ℕ} (lent : memory ≡ drop head_words w.work) {from : ℕ} (starting : from ≡ t.scope.from)
-        {rest : ℕ} {pages logs body : List ℕ} {done : Undone}
+        {rest : ℕ} {pages logs body : List ℕ} (r : Option Undone)
         (did : (anchor backups : List ℕ) → Did d budget rest
         (rolling_back t.sizes (only_log d tip) (world_of anchor w.pages backups w.logs memory) number d
         (updates_in number (log_from t.sizes (only_log d tip) d w.logs memory from)))
-        (world_of anchor w.pages backups w.logs memory) (world_of anchor pages backups logs body) done.progress)
-        (counted : Counts (updates_in number (log_from t.sizes (only_log d tip) d w.logs memory from)) done) where
+        (world_of anchor w.pages backups w.logs memory) (world_of anchor pages backups logs body) (tip_in r))
+        (counted : Counts (updates_in number (log_from t.sizes (only_log d tip) d w.logs memory from)) r) where
       abbrev after : World
       after = world_of w.anchor pages w.backups logs body
 
       raw : Did d budget rest
           (rolling_back t.sizes (only_log d tip) (body_of w) number d
-          (updates_in number (log_from t.sizes (only_log d tip) d w.logs (drop head_words w.work) t.scope.from))) (body_of w) after done.progress
+          (updates_in number (log_from t.sizes (only_log d tip) d w.logs (drop head_words w.work) t.scope.from))) (body_of w) after (tip_in r)
       unfolding body_of
       raw = rw (lent, starting) at (did w.anchor w.backups)
 
-      here : Did d budget rest (rolling_back core.sizes (only_log d tip) (body_of w) number d (updates_left core (body_of w) number)) (body_of w) after done.progress
+      here : Did d budget rest (rolling_back core.sizes (only_log d tip) (body_of w) number d (updates_left core (body_of w) number)) (body_of w) after (tip_in r)
       here = rw (updates_here h w number st none, ← st.read.sizes) raw
 
       -- its task, by the disk that was found
@@ -126,48 +126,48 @@ module _ (h : Carried) (w : World) (number budget : ℕ) {t : Target} (st : Stan
           ap (λ (x : Task). x.actions) task_is ∙ same_actions core.sizes d st.low core.logs sized tip (tail_here h w number st) (fill_here h w number st) (body_of w) number
           (updates_left core (body_of w) number)
 
-      stored : Ran budget rest (abort_task core (body_of w) number).actions (body_of w) after done.progress.finished
+      stored : Ran budget rest (abort_task core (body_of w) number).actions (body_of w) after (is_some (tip_in r))
       stored = rw task_actions here.ran
 
-      pub abort_cut : done.progress.finished ≡ false → {work : List ℕ} → work ≡ take head_words w.work ++ body → {reply : Handed} → reply ≡ cut_to (budget - rest)
+      pub abort_cut : r ≡ None → {work : List ℕ} → work ≡ take head_words w.work ++ body → {reply : Handed} → reply ≡ cut_to (budget - rest)
           → Serves (abort number budget) h w reply rest (world_of w.anchor pages w.backups logs work)
       abort_cut cut back reply = shown_cut (abort number budget) h w accepts (rw cut at stored) back reply
 
-      module _ (all : done.progress.finished ≡ true) where
+      module _ {done : Undone} (all : r ≡ Some done) where
         after_abort : (abort_task core (body_of w) number).core
-            ≡ with_log core (with_disk core.logs d done.progress.tip.tail done.progress.tip.fill)
+            ≡ with_log core (with_disk core.logs d done.tip.tail done.tip.fill)
             (with_reserved (with_place core.table t.entry.place 0 0 0 0) d (t.entry.sum - t.entry.reserved))
         after_abort =
             ap (λ (x : Task). x.core) task_is
             ∙ rw (
               moved_alone core.sizes d st.low core.logs sized tip (tail_here h w number st) (fill_here h w number st) (body_of w) number
-                  (updates_left core (body_of w) number) done.progress.tip (here.state all),
+                  (updates_left core (body_of w) number) done.tip (rw all at here).state,
               shut_table,
             ) refl
 
         lists_after : head_lists (abort_task core (body_of w) number).core
-            ≡ put_lists (closed t.entry.place d done.progress.tip.fill (t.entry.sum - t.entry.reserved)) (head_lists core)
+            ≡ put_lists (closed t.entry.place d done.tip.fill (t.entry.sum - t.entry.reserved)) (head_lists core)
         unfolding put_lists set_in with_log with_reserved with_place
         lists_after = ap head_lists after_abort
 
-        carried_after : tailed h d done.progress.tip.tail ≡ carried_of (abort_task core (body_of w) number).core
+        carried_after : tailed h d done.tip.tail ≡ carried_of (abort_task core (body_of w) number).core
         unfolding with_log core_of
         carried_after = sym (ap carried_of after_abort)
 
         ones_here : ones_undone (updates_left core (body_of w) number) ≡ done.ones
         unfolding body_of
-        ones_here = ap ones_undone (updates_here h w number st none) ∙ sym (rw (lent, starting) at (counted all))
+        ones_here = ap ones_undone (updates_here h w number st none) ∙ sym (rw (all, lent, starting) at counted)
 
         pub abort_whole : {stands : List ℕ} → stands ≡ take head_words w.work ++ body
-            → {work : List ℕ} → work ≡ put_words (closed t.entry.place d done.progress.tip.fill (t.entry.sum - t.entry.reserved)) stands
-            → {reply : Handed} → reply ≡ finished_to (tailed h d done.progress.tip.tail) (budget - rest) done.ones
+            → {work : List ℕ} → work ≡ put_words (closed t.entry.place d done.tip.fill (t.entry.sum - t.entry.reserved)) stands
+            → {reply : Handed} → reply ≡ finished_to (tailed h d done.tip.tail) (budget - rest) done.ones
             → Serves (abort number budget) h w reply rest (world_of w.anchor pages w.backups logs work)
         unfolding abort_task Within with_log core_of
         abort_whole back words reply =
             let low = st.low in
             let place = st.read.entry.low in
             shown_whole (abort number budget) h w accepts (rw all at stored) (serving_ready h w st.ready)
-            (words ∙ ap (put_words (closed t.entry.place d done.progress.tip.fill (t.entry.sum - t.entry.reserved))) back
-            ∙ head_put h w.work body st.own (closed t.entry.place d done.progress.tip.fill (t.entry.sum - t.entry.reserved))
+            (words ∙ ap (put_words (closed t.entry.place d done.tip.fill (t.entry.sum - t.entry.reserved))) back
+            ∙ head_put h w.work body st.own (closed t.entry.place d done.tip.fill (t.entry.sum - t.entry.reserved))
             (low, (place, (place, (place, (place, (low, tt)))))) (abort_task core (body_of w) number).core lists_after)
             carried_after (rw ones_here reply)

@@ -1,7 +1,8 @@
 -- One update taken back: its record appended, then its slot changed back.
-use mathlib.Core.Path.{◌≡◌}
+use Rattle.std.specs.Prelude.{None, Some}
+use mathlib.Core.Path.{◌≡◌, refl}
 use mathlib.Core.List.{List, [], ◌∷◌}
-use mathlib.Core.Bool.{true, false}
+use mathlib.Core.Bool.{true}
 use Prim.Native.Nat.{ℕ}
 use native.Mathlib.Omega.{arith}
 use lib.ListN.{length}
@@ -21,7 +22,7 @@ use Rattle.model.proofs.Restart.Words.{with_pages}
 use Rattle.device.specs.Ran.{Ran}
 use Rattle.device.proofs.Memory.{pages_written}
 use Rattle.device.proofs.Ran.{ran_then, ran_cut}
-use Rattle.abort.specs.declared.record.Progress.{Progress}
+use Rattle.disk_log.specs.declared.write.Tip.{Tip}
 use Rattle.abort.specs.Undo.{Did}
 
 -- a difference XORed into the page memory: no store
@@ -29,22 +30,22 @@ ran_xor : (budget at : ℕ) (diff : List ℕ) (w : World) → Ran budget budget 
 unfolding xor_in xor_at
 ran_xor budget at diff w = pages_written budget at (xors (part at (length diff) w.pages) diff) w
 
-module _ (s : Sizes) (l : Logs) (w : World) (number disk : ℕ) (u : Update) {budget rest : ℕ} {v : World} {diff : List ℕ} {r : Progress}
-    (same : diff ≡ u.diff)
-    (did : Did disk budget rest
-    (append s l w.work disk (encode (change compensation_kind u.page u.slot number (copy_of s w.work u.page) diff))) w v r) where
+module _ (s : Sizes) (l : Logs) (w : World) (number disk : ℕ) (u : Update) {budget rest : ℕ} {v : World} {diff : List ℕ}
+    (same : diff ≡ u.diff) where
   -- the append was cut
-  pub compensated_cut : r.finished ≡ false → Did disk budget rest (compensate s l w number disk u) w v r
+  pub compensated_cut : Did disk budget rest (append s l w.work disk (encode (change compensation_kind u.page u.slot number (copy_of s w.work u.page) diff))) w v None
+      → Did disk budget rest (compensate s l w number disk u) w v None
   unfolding compensate
-  compensated_cut e = rw (← same) (record { ran = rw e (ran_cut did.ran _ e); state = did.state })
+  compensated_cut did = rw (← same) (record { ran = ran_cut did.ran _ refl; state = tt })
 
   -- it was not
-  pub compensated_whole : r.finished ≡ true → v.pages ≡ w.pages → {at : ℕ} → at ≡ slot_base s u.page u.slot → (after : List ℕ)
-      → after ≡ xor_at at diff w.pages → Did disk budget rest (compensate s l w number disk u) w (with_pages v after) r
+  pub compensated_whole : {tip : Tip} → Did disk budget rest (append s l w.work disk (encode (change compensation_kind u.page u.slot number (copy_of s w.work u.page) diff))) w v (Some tip)
+      → v.pages ≡ w.pages → {at : ℕ} → at ≡ slot_base s u.page u.slot
+      → (after : List ℕ) → after ≡ xor_at at diff w.pages → Did disk budget rest (compensate s l w number disk u) w (with_pages v after) (Some tip)
   unfolding compensate
-  compensated_whole e kept {at} place after is =
+  compensated_whole did kept {at} place after is =
       let next : Ran rest rest (xor_in at diff w.pages) v (with_pages v after) true = rw (is, ← kept) (ran_xor rest at diff v) in
-      rw (← same, ← place) (record { ran = rw e (ran_then did.ran _ e next); state = did.state })
+      rw (← same, ← place) (record { ran = ran_then did.ran _ refl next; state = did.state })
 
 -- the bits of its difference that are 1
 pub counts_one : (u : Update) {ones : ℕ} → ones ≡ ones_over u.diff → ones ≡ ones_undone (u ∷ [])

@@ -1,13 +1,13 @@
 -- A disk of a serving state as the functions of `log` are lent it, and what an append on it does.
+use Rattle.std.specs.Prelude.{Option, None, Some}
 use mathlib.Core.Path.{◌≡◌, refl, sym, ◌∙◌}
 use mathlib.Core.List.{List}
-use Prim.Native.Nat.{ℕ, ◌+◌, ◌-◌, ◌*◌, ◌≤◌, ◌<◌}
+use Prim.Native.Nat.{ℕ, ◌+◌, ◌*◌, ◌≤◌, ◌<◌}
 use native.Mathlib.Omega.{arith}
-use lib.ListN.{length, take, drop}
+use lib.ListN.{length}
 use Rattle.model.specs.declared.Sizes.{Sizes}
 use Rattle.model.specs.declared.Logs.{Logs}
 use Rattle.model.specs.Sizes.{total}
-use Rattle.model.specs.Word.{part}
 use Rattle.model.specs.Decode.{read_log}
 use Rattle.model.specs.World.{World}
 use Rattle.model.specs.Memory.{buffer_at, buffer_of, copy_at, owner_at, work_words}
@@ -16,17 +16,14 @@ use Rattle.model.specs.Append.{append}
 use Rattle.model.proofs.Bounds.{Bounded, bounded}
 use Rattle.model.proofs.Lengths.{length_buffer}
 use Rattle.disk_log.specs.declared.write.Home.{Home}
-use Rattle.disk_log.specs.declared.write.Logged.{Logged}
 use Rattle.disk_log.specs.declared.read.Extent.{Extent}
-use Rattle.disk_log.specs.Reading.{LiesAt, extent_of, OfDisk, Readable}
+use Rattle.disk_log.specs.Reading.{LiesAt, extent_of, Readable}
 use Rattle.disk_log.specs.Write.{Within, Encodable, Appends}
-use Rattle.disk_log.proofs.Ready.{lies_there, disk_there, tail_there, end_there, readable}
+use Rattle.disk_log.proofs.Ready.{lies_there, tail_there, end_there, readable}
 use Rattle.frame.specs.Home.{home_of}
 use Rattle.frame.proofs.Homes.{home_fits_lem}
-use Rattle.abort.specs.declared.window.Tip.{Tip}
-use Rattle.abort.specs.declared.window.Window.{Window}
-use Rattle.abort.specs.declared.record.Progress.{Progress}
-use Rattle.abort.specs.Undo.{only_log, window_of, Serving, InSlot, reader, Did}
+use Rattle.disk_log.specs.declared.write.Tip.{Tip}
+use Rattle.abort.specs.Undo.{only_log, Serving, InSlot, reader, Did}
 use Rattle.abort.proofs.Tips.{tip_moved}
 
 -- the bounds that the code's sums and indexes rely on
@@ -36,12 +33,6 @@ pub record Small (s : Sizes) (disk : ℕ) (work : List ℕ) : Type 0 where
   pub below : disk < 8
   pub buffer : 64 * disk + 64 ≤ length work
   pub copies : buffer_at s.disks + 64 ≤ length work
-
--- the buffered words of a log lie within the work memory
-pub record Lies (r : Window) (work : List ℕ) : Type 0 where
-  pub ordered : r.start ≤ r.stop
-  pub inside : r.stop ≤ length work
-  pub low : r.stop ≤ 10000
 
 module _ {s : Sizes} {l : Logs} {disk : ℕ} {logs work : List ℕ} (at : Serving s l disk logs work) where
   pub bounds : Bounded s
@@ -61,67 +52,33 @@ module _ {s : Sizes} {l : Logs} {disk : ℕ} {logs work : List ℕ} (at : Servin
         copies = omega (arith, at.work_words_lem);
       }
 
-  -- where its log ends and its buffered words lie
-  pub asked : (disk < 8) × (fill_of l disk ≤ 64) × (end_of l disk ≤ limit)
-  asked = (small.below, fill_small, at.end_small)
+  pub extent_asked : (disk < 8) × (s.ring ≤ 65536) × (end_of l disk ≤ limit)
+  extent_asked = (small.below, bounds.ring_max, at.end_small)
 
-  pub extended : (disk ≤ 8) × (s.ring ≤ 65536)
-  extended = (omega (arith, small.below), bounds.ring_max)
+  pub buffer_asked : (disk < 8) × (fill_of l disk ≤ 64) × (64 * disk + 64 ≤ length work)
+  buffer_asked = (small.below, fill_small, small.buffer)
 
-  module _ {r : Window} (e : r ≡ window_of l disk) where
-    pub lies : Lies r work
-    unfolding window_of buffer_at
-    lies =
-        rw e
-        (record {
-          ordered = omega arith;
-          inside = omega (arith, small.buffer, fill_small);
-          low = omega (arith, small.below, fill_small);
-        })
+  -- its log as it is read, by its buffered words and an extent up to an end
+  module _ {buffer : List ℕ} (e : buffer ≡ buffer_of work disk (fill_of l disk)) (to : ℕ) {x : Extent}
+      (is : x ≡ extent_of s disk (tail_of l disk) to) where
+    pub lent_lies : LiesAt s disk x.place x.ring
+    lent_lies = lies_there s disk (tail_of l disk) to is
 
-    -- the log that is read through them
-    buffered : take (r.stop - r.start) (drop r.start work) ≡ buffer_of work disk (fill_of l disk)
-    unfolding window_of buffer_of part
-    buffered =
-        let f : buffer_at disk + fill_of l disk - buffer_at disk ≡ fill_of l disk = omega arith in
-        rw (e, f) refl
+    pub lent_tail : x.tail ≡ tail_of l disk
+    lent_tail = tail_there s disk (tail_of l disk) to is
 
-    pub lent_end : r.end ≡ end_of l disk
-    unfolding window_of
-    lent_end = rw e refl
+    pub lent_to : x.end ≡ to
+    lent_to = end_there s disk (tail_of l disk) to is
 
-    pub lent_here : read_log s logs disk r.tail (take (r.stop - r.start) (drop r.start work)) ≡ reader s l disk logs work
-    unfolding window_of
-    lent_here = rw (buffered, e) refl
+    pub lent_readable : to ≤ end_of l disk → Readable x logs buffer
+    unfolding end_of buffer_at
+    lent_readable h =
+        rw (is, e)
+        (readable s bounds logs disk (tail_of l disk) (buffer_of work disk (fill_of l disk)) to at.log_words_lem at.disk_below
+        (omega (arith, h, length_buffer work disk (fill_of l disk) (omega (arith, small.buffer, fill_small)))) (omega (arith, h, at.end_small)))
 
-    pub lent_ordered : r.tail ≤ r.end
-    unfolding window_of end_of
-    lent_ordered = rw e (omega arith)
-
-    -- the extent that the readers take, up to an end
-    module _ (to : ℕ) {x : Extent} (is : x ≡ extent_of s disk r.tail to) where
-      pub lent_lies : LiesAt s disk x.place x.ring
-      lent_lies = lies_there s disk r.tail to is
-
-      pub lent_disk : OfDisk s x
-      lent_disk = disk_there s disk r.tail to is
-
-      pub lent_tail : x.tail ≡ r.tail
-      lent_tail = tail_there s disk r.tail to is
-
-      pub lent_to : x.end ≡ to
-      lent_to = end_there s disk r.tail to is
-
-      pub lent_readable : to ≤ r.end → Readable x logs (take (r.stop - r.start) (drop r.start work))
-      unfolding window_of end_of buffer_at
-      lent_readable h =
-          let low : to ≤ tail_of l disk + fill_of l disk = rw e at h in
-          rw (is, buffered, e)
-          (readable s bounds logs disk (tail_of l disk) (buffer_of work disk (fill_of l disk)) to at.log_words_lem at.disk_below
-          (omega (arith, length_buffer work disk (fill_of l disk) (omega (arith, small.buffer, fill_small)))) (omega (arith, at.end_small)))
-
-      pub lent_reader : read_log s logs disk x.tail (take (r.stop - r.start) (drop r.start work)) ≡ reader s l disk logs work
-      lent_reader = rw lent_tail lent_here
+    pub lent_reader : read_log s logs disk x.tail buffer ≡ reader s l disk logs work
+    lent_reader = rw (lent_tail, e) refl
 
   -- the disk as an append takes it
   pub home_asked : (disk < 8) × (s.ring ≤ 65536)
@@ -152,12 +109,8 @@ module _ {s : Sizes} {l : Logs} {disk : ℕ} {logs work : List ℕ} (at : Servin
       }
 
 -- what the answer of an append says of the log after it
-pub appended : {budget rest : ℕ} {s : Sizes} {disk : ℕ} (tip : Tip) {words : List ℕ} {w v : World} {added : Logged}
-    → Appends budget rest s (only_log disk tip) disk words w v added → (p : Progress)
-    → (p.finished ≡ added.finished) × (p.tip.tail ≡ added.tail) × (p.tip.fill ≡ added.fill)
-    → Did disk budget rest (append s (only_log disk tip) w.work disk words) w v p
-appended {disk = disk} tip did p e =
-    record {
-      ran = rw e.0 did.ran;
-      state = λ f. sym (did.state (sym e.0 ∙ f) ∙ rw (← e.1, ← e.2) (tip_moved disk tip p.tip));
-    }
+pub appended : {budget rest : ℕ} {s : Sizes} {disk : ℕ} (tip : Tip) {words : List ℕ} {w v : World} {r : Option Tip}
+    → Appends budget rest s (only_log disk tip) disk words w v r
+    → Did disk budget rest (append s (only_log disk tip) w.work disk words) w v r
+appended tip {r = None} did = record { ran = did.ran; state = tt }
+appended {disk} tip {r = Some next} did = record { ran = did.ran; state = sym (did.state ∙ tip_moved disk tip next) }

@@ -1,6 +1,7 @@
 -- The positions from which a transaction's updates are read, 128 at a time; and the groups that are read from them.
+use Rattle.std.specs.Prelude.{None, Some}
+use Rattle.std.specs.Int.{div_ceil}
 use mathlib.Core.Path.{◌≡◌, refl, sym, ap, subst, ◌∙◌}
-use mathlib.Core.Bool.{true, false}
 use mathlib.Core.List.{List, [], ◌∷◌, ◌++◌, Memᴰ}
 use Prim.Native.Nat.{ℕ, ◌+◌, ◌*◌, ◌-◌, ◌/◌, ◌≤◌, ◌<◌, min}
 use native.Mathlib.Omega.{arith}
@@ -19,7 +20,7 @@ use Rattle.disk_log.specs.declared.updates.Group.{Group}
 use Rattle.disk_log.specs.Reading.{positions_in}
 use Rattle.disk_log.specs.Front.{Gathered}
 use Rattle.abort.specs.declared.notes.Notes.{Notes}
-use Rattle.abort.specs.declared.record.Progress.{Progress}
+use Rattle.disk_log.specs.declared.write.Tip.{Tip}
 use Rattle.abort.specs.Undo.{only_log, Did, reader, log_from, update_read, Undoable}
 use Rattle.abort.specs.Groups.{Noted, last_first, Takeable}
 use Rattle.abort.proofs.Disks.{bounds}
@@ -78,8 +79,9 @@ module _ (s : Sizes) (disk number from : ℕ) (l₀ : Logs) (pages₀ logs₀ wo
           omega (arith, words, all_takeable.ring p m, (all_takeable.stands p m).inside, (bounds ok.serving).ring_max)
 
   -- the groups hold all
-  pub all_held : {notes : Notes} → Noted number (scan s read stop) from notes → length all ≤ 128 * ((notes.count + 127) / 128)
-  all_held noted = omega (arith, noted.all)
+  pub all_held : {notes : Notes} → Noted number (scan s read stop) from notes → {groups : ℕ} → groups ≡ div_ceil notes.count 128
+      → take (128 * groups) all ≡ all
+  all_held noted {groups} e = take_all (128 * groups) all (omega (arith, noted.all, e))
 
   -- of those that are left, the last 128 are those read from the last position noted
   module _ {l : Logs} {pages logs work : List ℕ} {budget₀ budget : ℕ} (k : ℕ) (some_left : 0 < k)
@@ -123,19 +125,18 @@ module _ (s : Sizes) (disk number from : ℕ) (l₀ : Logs) (pages₀ logs₀ wo
           pending_counted s disk number l₀ pages₀ logs₀ work₀ budget₀ all all_takeable (take (128 * (k - 1)) all) _ left ones
           (rw group_split at counted) more
 
-      pub group_cut : (anchor backups : List ℕ) {rest : ℕ} {v : World} {part : Progress}
-          → Did disk budget rest (undo_all s l (world_of anchor pages backups logs work) number disk mine) (world_of anchor pages backups logs work) v part
-          → part.finished ≡ false
+      pub group_cut : (anchor backups : List ℕ) {rest : ℕ} {v : World}
+          → Did disk budget rest (undo_all s l (world_of anchor pages backups logs work) number disk mine) (world_of anchor pages backups logs work) v None
           → Did disk budget₀ rest (undo_all s l₀ (world_of anchor pages₀ backups logs₀ work₀) number disk (updates_in number (log_from s l₀ disk logs₀ work₀ from)))
-          (world_of anchor pages₀ backups logs₀ work₀) v part
-      group_cut anchor backups did e =
+          (world_of anchor pages₀ backups logs₀ work₀) v None
+      group_cut anchor backups did =
           rw all_updates
-          (pending_cut s disk number l₀ pages₀ logs₀ work₀ budget₀ all all_takeable (take (128 * (k - 1)) all) _ left anchor backups did e)
+          (pending_cut s disk number l₀ pages₀ logs₀ work₀ budget₀ all all_takeable (take (128 * (k - 1)) all) _ left anchor backups did)
 
-      pub group_step : {pages' logs' work' : List ℕ} {rest : ℕ} {part : Progress} → part.finished ≡ true
+      pub group_step : {pages' logs' work' : List ℕ} {rest : ℕ} {tip : Tip}
           → ((anchor backups : List ℕ)
           → Did disk budget rest (undo_all s l (world_of anchor pages backups logs work) number disk mine)
-          (world_of anchor pages backups logs work) (world_of anchor pages' backups logs' work') part)
-          → Pending s disk number l₀ pages₀ logs₀ work₀ budget₀ all (only_log disk part.tip) pages' logs' work' rest (take (128 * (k - 1)) all)
-      group_step finished did =
-          pending_step s disk number l₀ pages₀ logs₀ work₀ budget₀ all all_takeable (take (128 * (k - 1)) all) _ left finished did
+          (world_of anchor pages backups logs work) (world_of anchor pages' backups logs' work') (Some tip))
+          → Pending s disk number l₀ pages₀ logs₀ work₀ budget₀ all (only_log disk tip) pages' logs' work' rest (take (128 * (k - 1)) all)
+      group_step did =
+          pending_step s disk number l₀ pages₀ logs₀ work₀ budget₀ all all_takeable (take (128 * (k - 1)) all) _ left did

@@ -1,8 +1,8 @@
 -- The last of the positions that are left: its update is taken back by itself.
+use Rattle.std.specs.Prelude.{Option, None, Some}
 use mathlib.Core.Path.{◌≡◌, refl, ap, subst, ◌∙◌}
 use mathlib.Core.List.Memᴰ
 use mathlib.Core.List.{List, [], ◌∷◌, ◌++◌}
-use mathlib.Core.Bool.{true, false}
 use Prim.Native.Nat.{ℕ, suc, ◌+◌, ◌-◌, ◌≤◌, ◌<◌}
 use native.Mathlib.Omega.{arith}
 use lib.ListN.{length, get_or, take}
@@ -13,7 +13,7 @@ use Rattle.model.specs.World.{World, world_of}
 use Rattle.model.specs.State.{end_of}
 use Rattle.model.specs.Abort.{compensate, undo_all, ones_undone}
 use Rattle.abort.specs.declared.difference.Site.{Site}
-use Rattle.abort.specs.declared.record.Progress.{Progress}
+use Rattle.disk_log.specs.declared.write.Tip.{Tip}
 use Rattle.abort.specs.Undo.{only_log, Serving, Did, reader, site_at, update_read, update_at, Compensable}
 use Rattle.abort.specs.Groups.{last_first, Takeable}
 use Rattle.abort.proofs.Undone.{undone_one}
@@ -51,7 +51,7 @@ module _ (s : Sizes) (disk number : ℕ) (l₀ : Logs) (pages₀ logs₀ work₀
         (record { serving = takeable.serving; page_words_lem = takeable.page_words_lem; slotted = there.slotted; inside = there.inside })
 
     -- what takes it back takes back a list of one
-    alone : (w : World) {rest : ℕ} {v : World} {one : Progress} → Did disk budget rest (compensate s l w number disk (update_at s l disk logs work site)) w v one
+    alone : (w : World) {rest : ℕ} {v : World} {one : Option Tip} → Did disk budget rest (compensate s l w number disk (update_at s l disk logs work site)) w v one
         → Did disk budget rest (undo_all s l w number disk (last_first (update_read read) (q ∷ []))) w v one
     unfolding site_at update_at update_read last_first
     alone w did = undone_one s number disk l w (update_read read q) (rw is at did)
@@ -63,20 +63,20 @@ module _ (s : Sizes) (disk number : ℕ) (l₀ : Logs) (pages₀ logs₀ work₀
         pending_counted s disk number l₀ pages₀ logs₀ work₀ budget₀ all ok (take (n - 1) at) (q ∷ []) left ones
         (rw (take_last at n some long) at counted) (rw is at more)
 
-    pub one_cut : (anchor backups : List ℕ) {rest : ℕ} {v : World} {one : Progress}
+    pub one_cut : (anchor backups : List ℕ) {rest : ℕ} {v : World}
         → Did disk budget rest (compensate s l (world_of anchor pages backups logs work) number disk (update_at s l disk logs work site))
-        (world_of anchor pages backups logs work) v one → one.finished ≡ false
+        (world_of anchor pages backups logs work) v None
         → Did disk budget₀ rest (undo_all s l₀ (world_of anchor pages₀ backups logs₀ work₀) number disk (last_first (update_read (reader s l₀ disk logs₀ work₀)) all))
-        (world_of anchor pages₀ backups logs₀ work₀) v one
-    one_cut anchor backups did e =
+        (world_of anchor pages₀ backups logs₀ work₀) v None
+    one_cut anchor backups did =
         pending_cut s disk number l₀ pages₀ logs₀ work₀ budget₀ all ok (take (n - 1) at) (q ∷ []) left anchor backups
-        (alone (world_of anchor pages backups logs work) did) e
+        (alone (world_of anchor pages backups logs work) did)
 
-    pub one_step : {pages' logs' work' : List ℕ} {rest : ℕ} {one : Progress} → one.finished ≡ true
+    pub one_step : {pages' logs' work' : List ℕ} {rest : ℕ} {tip : Tip}
         → ((anchor backups : List ℕ)
         → Did disk budget rest (compensate s l (world_of anchor pages backups logs work) number disk (update_at s l disk logs work site))
-        (world_of anchor pages backups logs work) (world_of anchor pages' backups logs' work') one)
-        → Pending s disk number l₀ pages₀ logs₀ work₀ budget₀ all (only_log disk one.tip) pages' logs' work' rest (take (n - 1) at)
-    one_step finished did =
-        pending_step s disk number l₀ pages₀ logs₀ work₀ budget₀ all ok (take (n - 1) at) (q ∷ []) left finished
+        (world_of anchor pages backups logs work) (world_of anchor pages' backups logs' work') (Some tip))
+        → Pending s disk number l₀ pages₀ logs₀ work₀ budget₀ all (only_log disk tip) pages' logs' work' rest (take (n - 1) at)
+    one_step did =
+        pending_step s disk number l₀ pages₀ logs₀ work₀ budget₀ all ok (take (n - 1) at) (q ∷ []) left
         (λ anchor backups. alone (world_of anchor pages backups logs work) (did anchor backups))

@@ -1,8 +1,8 @@
 -- Updates taken back, the last first: what is done follows from what is left, and what is left is still to be read as it was.
+use Rattle.std.specs.Prelude.{Option, None, Some}
 use mathlib.Core.Path.{◌≡◌, refl, sym, ap, ◌∙◌}
 use mathlib.Core.List.Memᴰ
 use mathlib.Core.List.{List, [], ◌++◌, Memᴰ}
-use mathlib.Core.Bool.{true, false}
 use Prim.Native.Nat.{ℕ, ◌+◌, ◌≤◌, ◌<◌}
 use native.Mathlib.Omega.{arith}
 use lib.ListN.{length}
@@ -23,8 +23,7 @@ use Rattle.model.proofs.Updates.{update_words_append}
 use Rattle.model.proofs.Growth.{SizedLogs, Longer}
 use Rattle.model.proofs.Sound.Abort.{undo_grown}
 use Rattle.device.proofs.Ran.{ran_whole}
-use Rattle.abort.specs.declared.window.Tip.{Tip}
-use Rattle.abort.specs.declared.record.Progress.{Progress}
+use Rattle.disk_log.specs.declared.write.Tip.{Tip}
 use Rattle.abort.specs.Undo.{only_log, Serving, Did, reader, update_read}
 use Rattle.abort.specs.Groups.{last_first, Standing, Takeable}
 use Rattle.abort.proofs.Disks.{small, slim}
@@ -61,7 +60,7 @@ module _ (s : Sizes) (disk number : ℕ) (l₀ : Logs) (pages₀ logs₀ work₀
     pub sized : SizedLogs l
     pub page_words_lem : length pages ≡ total s
     -- what takes back those that are left takes back all
-    pub follows : (anchor backups : List ℕ) (rest : ℕ) (v : World) (r : Progress)
+    pub follows : (anchor backups : List ℕ) (rest : ℕ) (v : World) (r : Option Tip)
         → Did disk budget rest (undo_all s l (world_of anchor pages backups logs work) number disk (taken left)) (world_of anchor pages backups logs work) v r
         → Did disk budget₀ rest (undo_all s l₀ (world_of anchor pages₀ backups logs₀ work₀) number disk (taken all)) (world_of anchor pages₀ backups logs₀ work₀) v r
 
@@ -83,7 +82,7 @@ module _ (s : Sizes) (disk number : ℕ) (l₀ : Logs) (pages₀ logs₀ work₀
     -- none is left
     pub pending_last : {tip : Tip} {pages logs work : List ℕ} {budget : ℕ} → Pending (only_log disk tip) pages logs work budget [] → (anchor backups : List ℕ)
         → Did disk budget₀ budget (undo_all s l₀ (world_of anchor pages₀ backups logs₀ work₀) number disk (taken all)) (world_of anchor pages₀ backups logs₀ work₀)
-        (world_of anchor pages backups logs work) (record { finished = true; tip = tip })
+        (world_of anchor pages backups logs work) (Some tip)
     unfolding last_first
     pending_last {tip} {pages} {logs} {work} {budget} p anchor backups =
         p.follows anchor backups budget _ _ (undone_none s number disk tip (world_of anchor pages backups logs work) budget)
@@ -142,29 +141,28 @@ module _ (s : Sizes) (disk number : ℕ) (l₀ : Logs) (pages₀ logs₀ work₀
             (λ q m. omega (arith, length_read now_read q, slim p.serving (standing q m).slotted))
 
         -- they are cut
-        pub pending_cut : (anchor backups : List ℕ) {last : ℕ} {v : World} {part : Progress}
-            → Did disk budget last (undo_all s l (world_of anchor pages backups logs work) number disk some) (world_of anchor pages backups logs work) v part
-            → part.finished ≡ false
-            → Did disk budget₀ last (undo_all s l₀ (world_of anchor pages₀ backups logs₀ work₀) number disk (taken all)) (world_of anchor pages₀ backups logs₀ work₀) v part
-        pending_cut anchor backups {last} {v} {part} did e =
-            p.follows anchor backups last v part
-            (rw split (undone_cut s number disk l (world_of anchor pages backups logs work) some (taken rest) did e))
+        pub pending_cut : (anchor backups : List ℕ) {last : ℕ} {v : World}
+            → Did disk budget last (undo_all s l (world_of anchor pages backups logs work) number disk some) (world_of anchor pages backups logs work) v None
+            → Did disk budget₀ last (undo_all s l₀ (world_of anchor pages₀ backups logs₀ work₀) number disk (taken all)) (world_of anchor pages₀ backups logs₀ work₀) v None
+        pending_cut anchor backups {last} {v} did =
+            p.follows anchor backups last v None
+            (rw split (undone_cut s number disk l (world_of anchor pages backups logs work) some (taken rest) did))
 
         -- they are taken back: the others are left
-        module _ {pages' logs' work' : List ℕ} {last : ℕ} {part : Progress} (finished : part.finished ≡ true)
+        module _ {pages' logs' work' : List ℕ} {last : ℕ} {tip : Tip}
             (did : (anchor backups : List ℕ)
             → Did disk budget last (undo_all s l (world_of anchor pages backups logs work) number disk some)
-            (world_of anchor pages backups logs work) (world_of anchor pages' backups logs' work') part) where
+            (world_of anchor pages backups logs work) (world_of anchor pages' backups logs' work') (Some tip)) where
           abbrev w : World
           w = world_of [] pages [] logs work
 
-          state : only_log disk part.tip ≡ (undo_all s l w number disk some).logs
-          state = (did [] []).state finished
+          state : only_log disk tip ≡ (undo_all s l w number disk some).logs
+          state = (did [] []).state
 
-          grown : Longer s disk (update_words some) l (only_log disk part.tip)
+          grown : Longer s disk (update_words some) l (only_log disk tip)
           grown = rw state (undo_grown s l w number disk some p.sized p.serving.fills_small (small p.serving).below short)
 
-          unread : (q : ℕ) → q < end_of l₀ disk → full ≤ q + ring_of s disk → now_read q ≡ reader s (only_log disk part.tip) disk logs' work' q
+          unread : (q : ℕ) → q < end_of l₀ disk → full ≤ q + ring_of s disk → now_read q ≡ reader s (only_log disk tip) disk logs' work' q
           unfolding buffer_at
           unread q h k =
               let b = small p.serving in
@@ -172,9 +170,9 @@ module _ (s : Sizes) (disk number : ℕ) (l₀ : Logs) (pages₀ logs₀ work₀
               let e =
               undo_reads s l w number disk some p.sized p.serving.fills_small p.serving.disk_below b.below
               (omega (arith, fits, p.serving.log_words_lem)) (omega (arith, b.buffer)) short q (omega (arith, p.longer)) (omega (arith, p.ends, words)) in
-              rw state (sym (rw (ran_whole (did [] []).ran finished) at e))
+              rw state (sym (rw (ran_whole (did [] []).ran refl) at e))
 
-          pub pending_step : Pending (only_log disk part.tip) pages' logs' work' last rest
+          pub pending_step : Pending (only_log disk tip) pages' logs' work' last rest
           pending_step =
               record {
                 among = λ q m. p.among q (Memᴰ.append_left group m);
@@ -194,5 +192,5 @@ module _ (s : Sizes) (disk number : ℕ) (l₀ : Logs) (pages₀ logs₀ work₀
                 page_words_lem = (did_lengths (did [] [])).pages ∙ p.page_words_lem;
                 follows = λ anchor backups later v r next.
                     p.follows anchor backups later v r
-                    (rw split (undone_then s number disk l (world_of anchor pages backups logs work) some (taken rest) (did anchor backups) finished next));
+                    (rw split (undone_then s number disk l (world_of anchor pages backups logs work) some (taken rest) (did anchor backups) next));
               }

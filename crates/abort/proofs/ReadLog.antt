@@ -1,4 +1,5 @@
 -- The log that an abort reads, by what it found of its transaction: it can be read, and there is room for what takes its updates back.
+use Rattle.std.specs.Prelude.{None, Option}
 use mathlib.Core.Path.{◌≡◌, refl, sym, ap, ◌∙◌}
 use mathlib.Core.List.{List}
 use mathlib.Core.Bool.{Bool, true, false, cond, not, ◌||◌}
@@ -11,8 +12,8 @@ use Rattle.model.specs.declared.Logs.{Logs}
 use Rattle.model.specs.declared.Sizes.{Sizes}
 use Rattle.model.specs.declared.Core.{Core}
 use Rattle.model.specs.declared.Carried.{Carried}
-use Rattle.model.specs.declared.Fault.{Fault}
-use Rattle.model.specs.declared.Fault.TheVariants.{NoFault, BadRecord}
+use Rattle.model.specs.declared.BadRecord.{BadRecord}
+use Rattle.model.specs.Record.{bad_record}
 use Rattle.model.specs.Sizes.{total, ring_of, log_words, disk_at, sizes_in_bounds}
 use Rattle.model.specs.Scan.{Scan, end, ring_then_buffer, fault_in, updates_in, update_words}
 use Rattle.model.specs.World.{World}
@@ -29,7 +30,7 @@ use Rattle.model.proofs.RingThenBuffer.{parts_end}
 use Rattle.model.proofs.Growth.{tail_end}
 use Rattle.model.proofs.Updates.{abort_words}
 use Rattle.model.proofs.View.Head.{carried_back}
-use Rattle.abort.specs.declared.window.Tip.{Tip}
+use Rattle.disk_log.specs.declared.write.Tip.{Tip}
 use Rattle.abort.specs.declared.scope.Scope.{Scope}
 use Rattle.abort.specs.declared.scope.Target.{Target}
 use Rattle.abort.specs.Undo.{only_log, Serving, reader, log_from, parts_from, Undoable}
@@ -151,8 +152,8 @@ module _ (h : Carried) (w : World) (number : ℕ) {t : Target} (st : Standing h 
   abbrev parts : Scan
   parts = parts_from t.sizes only d w.logs body t.scope.from
 
-  abbrev long : Fault
-  long = cond (ltb t.scope.words (update_words (updates_in number parts))) (BadRecord d t.scope.first) NoFault
+  abbrev long : Option BadRecord
+  long = cond (ltb t.scope.words (update_words (updates_in number parts))) (bad_record d t.scope.first) None
 
   reads : abort_scan c (body_of w) number ≡ parts
   unfolding parts_from body_of
@@ -165,7 +166,7 @@ module _ (h : Carried) (w : World) (number : ℕ) {t : Target} (st : Standing h 
   fault_here = rw reads (rw st.read.scope refl)
 
   -- where there is none, its updates are those of the log as one, and can be taken back
-  module _ (none : abort_fault c (body_of w) number ≡ NoFault) where
+  module _ (none : abort_fault c (body_of w) number ≡ None) where
     whole : ending parts ≡ end
     whole = sound_end d parts (rw (fault_rest d parts long (sym fault_here ∙ none)) at (sym fault_here ∙ none))
 

@@ -1,7 +1,7 @@
 -- The work of an abort: its updates taken back, then its closing record.
-use mathlib.Core.Path.{◌≡◌, ◌∙◌}
+use Rattle.std.specs.Prelude.{Option, None, Some}
+use mathlib.Core.Path.{refl, ◌∙◌}
 use mathlib.Core.List.{List}
-use mathlib.Core.Bool.{true, false}
 use Prim.Native.Nat.{ℕ, ◌≤◌}
 use native.Mathlib.Omega.{arith}
 use lib.ListN.{length}
@@ -14,12 +14,11 @@ use Rattle.model.specs.World.{World}
 use Rattle.model.specs.State.{end_of}
 use Rattle.model.specs.Append.{append}
 use Rattle.model.specs.Abort.{undo_all}
-use Rattle.model.proofs.Booleans.{true_false}
 use Rattle.model.proofs.Members.{Every}
 use Rattle.model.proofs.Growth.{SizedLogs, Longer}
 use Rattle.model.proofs.Sound.Abort.{undo_grown}
 use Rattle.device.proofs.Ran.{ran_whole, ran_then, ran_cut}
-use Rattle.abort.specs.declared.record.Progress.{Progress}
+use Rattle.disk_log.specs.declared.write.Tip.{Tip}
 use Rattle.abort.specs.Undo.{only_log, Serving, Did, reader, log_from, update_read, Undoable}
 use Rattle.abort.specs.Scope.{rolling_back}
 use Rattle.abort.proofs.Disks.{small, slim}
@@ -40,11 +39,11 @@ module _ (s : Sizes) (l : Logs) (w : World) (number disk from : ℕ) (ok : Undoa
       (last_first_every (update_read read) (λ (u : Update). length u.diff ≤ 32) (positions_in number (scan s read (end_of l disk) from))
       (λ p m. omega (arith, length_read read p, slim ok.serving (found.stand p m).1.slotted)))
 
-  pub undone_serves : {budget rest : ℕ} {v : World} {r : Progress} → Did disk budget rest (undo_all s l w number disk us) w v r → r.finished ≡ true
-      → Serving s (only_log disk r.tip) disk v.logs v.work
-  undone_serves {r = r} did e =
-      let grown : Longer s disk (update_words us) l (only_log disk r.tip) =
-      rw (did.state e) (undo_grown s l w number disk us sized ok.serving.fills_small (small ok.serving).below short) in
+  pub undone_serves : {budget rest : ℕ} {v : World} {tip : Tip} → Did disk budget rest (undo_all s l w number disk us) w v (Some tip)
+      → Serving s (only_log disk tip) disk v.logs v.work
+  undone_serves {tip = tip} did =
+      let grown : Longer s disk (update_words us) l (only_log disk tip) =
+      rw did.state (undo_grown s l w number disk us sized ok.serving.fills_small (small ok.serving).below short) in
       record {
         sizes = ok.serving.sizes;
         disk_below = ok.serving.disk_below;
@@ -54,16 +53,15 @@ module _ (s : Sizes) (l : Logs) (w : World) (number disk from : ℕ) (ok : Undoa
         end_small = omega (arith, grown.end_longer, ok.in_limit);
       }
 
-module _ (s : Sizes) (l : Logs) (w : World) (number disk : ℕ) (us : List Update) {budget rest : ℕ} {v : World} {r : Progress}
-    (did : Did disk budget rest (undo_all s l w number disk us) w v r) where
-  pub rolled_cut : r.finished ≡ false → Did disk budget rest (rolling_back s l w number disk us) w v r
+module _ (s : Sizes) (l : Logs) (w : World) (number disk : ℕ) (us : List Update) {budget rest : ℕ} {v : World} where
+  pub rolled_cut : Did disk budget rest (undo_all s l w number disk us) w v None → Did disk budget rest (rolling_back s l w number disk us) w v None
   unfolding rolling_back
-  rolled_cut e = record { ran = rw e (ran_cut did.ran _ e); state = λ f. true_false f e }
+  rolled_cut did = record { ran = ran_cut did.ran _ refl; state = tt }
 
-  pub rolled_whole : r.finished ≡ true → {last : ℕ} {x : World} {p : Progress}
-      → Did disk rest last (append s (only_log disk r.tip) v.work disk (encode (close abort_kind number))) v x p
-      → Did disk budget last (rolling_back s l w number disk us) w x p
+  pub rolled_then : {tip : Tip} → Did disk budget rest (undo_all s l w number disk us) w v (Some tip) → {last : ℕ} {x : World} {r : Option Tip}
+      → Did disk rest last (append s (only_log disk tip) v.work disk (encode (close abort_kind number))) v x r
+      → Did disk budget last (rolling_back s l w number disk us) w x r
   unfolding rolling_back
-  rolled_whole e next =
-      rw (ran_whole did.ran e, ← did.state e)
-      (record { ran = ran_then did.ran _ e next.ran; state = next.state })
+  rolled_then did next =
+      rw (ran_whole did.ran refl, ← did.state)
+      (record { ran = ran_then did.ran _ refl next.ran; state = next.state })

@@ -11,7 +11,7 @@ use Rattle.model.specs.State.{tail_of, fill_of, end_of}
 use Rattle.model.proofs.Growth.{SizedLogs}
 use Rattle.disk_log.specs.declared.write.Home.{Home}
 use Rattle.frame.specs.Home.{home_of, with_disk}
-use Rattle.abort.specs.declared.window.Tip.{Tip}
+use Rattle.disk_log.specs.declared.write.Tip.{Tip}
 use Rattle.abort.specs.Undo.{only_log}
 
 module _ (disk : ℕ) (t : Tip) where

@@ -1,7 +1,7 @@
 -- A list of updates taken back: some of them and then the others.
+use Rattle.std.specs.Prelude.{Option, None, Some}
 use mathlib.Core.Path.{◌≡◌, refl}
 use mathlib.Core.List.{List, [], ◌∷◌, ◌++◌, append_assoc, append-nil}
-use mathlib.Core.Bool.{true, false}
 use Prim.Native.Nat.{ℕ}
 use Rattle.model.specs.declared.Sizes.{Sizes}
 use Rattle.model.specs.declared.Logs.{Logs}
@@ -9,16 +9,14 @@ use Rattle.model.specs.Scan.{Update}
 use Rattle.model.specs.World.{World, perform}
 use Rattle.model.specs.Append.{Appended}
 use Rattle.model.specs.Abort.{compensate, undo_all}
-use Rattle.model.proofs.Booleans.{true_false}
 use Rattle.model.proofs.Run.{SameLengths, perform_append, run_lengths}
 use Rattle.device.proofs.Memory.{ran_none}
 use Rattle.device.proofs.Ran.{ran_whole, ran_then, ran_cut}
-use Rattle.abort.specs.declared.window.Tip.{Tip}
-use Rattle.abort.specs.declared.record.Progress.{Progress}
+use Rattle.disk_log.specs.declared.write.Tip.{Tip}
 use Rattle.abort.specs.Undo.{only_log, Did}
 
 -- every list keeps its length
-pub did_lengths : {disk budget rest : ℕ} {added : Appended} {w v : World} {r : Progress} → Did disk budget rest added w v r → SameLengths v w
+pub did_lengths : {disk budget rest : ℕ} {added : Appended} {w v : World} {r : Option Tip} → Did disk budget rest added w v r → SameLengths v w
 did_lengths {budget} {added = added} {w = w} did = rw did.ran.world (run_lengths budget added.actions w)
 
 module _ (s : Sizes) (number disk : ℕ) where
@@ -42,25 +40,27 @@ module _ (s : Sizes) (number disk : ℕ) where
 
   -- none is left
   pub undone_none : (tip : Tip) (w : World) (budget : ℕ)
-      → Did disk budget budget (undo_all s (only_log disk tip) w number disk []) w w (record { finished = true; tip = tip })
+      → Did disk budget budget (undo_all s (only_log disk tip) w number disk []) w w (Some tip)
   unfolding undo_all
-  undone_none tip w budget = record { ran = ran_none budget w; state = λ _. refl }
+  undone_none tip w budget = record { ran = ran_none budget w; state = refl }
 
   module _ (l : Logs) (w : World) where
     -- one
-    pub undone_one : (u : Update) {budget rest : ℕ} {v : World} {r : Progress} → Did disk budget rest (compensate s l w number disk u) w v r
+    pub undone_one : (u : Update) {budget rest : ℕ} {v : World} {r : Option Tip} → Did disk budget rest (compensate s l w number disk u) w v r
         → Did disk budget rest (undo_all s l w number disk (u ∷ [])) w v r
     unfolding undo_all
     undone_one u did = rw append-nil (record { ran = did.ran; state = did.state })
 
-    module _ (us vs : List Update) {budget rest : ℕ} {v : World} {some : Progress} (did : Did disk budget rest (undo_all s l w number disk us) w v some) where
+    module _ (us vs : List Update) {budget rest : ℕ} {v : World} where
       -- some are taken back, and the others follow
-      pub undone_then : some.finished ≡ true → {last : ℕ} {x : World} {r : Progress} → Did disk rest last (undo_all s (only_log disk some.tip) v number disk vs) v x r
+      pub undone_then : {tip : Tip} → Did disk budget rest (undo_all s l w number disk us) w v (Some tip)
+          → {last : ℕ} {x : World} {r : Option Tip} → Did disk rest last (undo_all s (only_log disk tip) v number disk vs) v x r
           → Did disk budget last (undo_all s l w number disk (us ++ vs)) w x r
-      undone_then e next =
-          rw (undo_append l w us vs, ran_whole did.ran e, ← did.state e)
-          (record { ran = ran_then did.ran _ e next.ran; state = next.state })
+      undone_then did next =
+          rw (undo_append l w us vs, ran_whole did.ran refl, ← did.state)
+          (record { ran = ran_then did.ran _ refl next.ran; state = next.state })
 
       -- they are cut
-      pub undone_cut : some.finished ≡ false → Did disk budget rest (undo_all s l w number disk (us ++ vs)) w v some
-      undone_cut e = rw (undo_append l w us vs) (record { ran = rw e (ran_cut did.ran _ e); state = λ f. true_false f e })
+      pub undone_cut : Did disk budget rest (undo_all s l w number disk us) w v None
+          → Did disk budget rest (undo_all s l w number disk (us ++ vs)) w v None
+      undone_cut did = rw (undo_append l w us vs) (record { ran = ran_cut did.ran _ refl; state = tt })

@@ -1,9 +1,9 @@
 -- A transaction's updates in groups of 128, each read from where it begins and taken back from its end.
-use Rattle.std.specs.Prelude.{◌≡◌, ℕ, ◌+◌, ◌*◌, ◌≤◌, ◌<◌, length, get_or, drop}
+use Rattle.std.specs.Prelude.{◌≡◌, ℕ, ◌+◌, ◌*◌, ◌≤◌, ◌<◌, length, get_or, drop, Option, None, Some, Result, Ok, Err}
 use mathlib.Core.List.{List, [], ◌∷◌, ◌++◌, Memᴰ}
 use Rattle.model.specs.declared.Sizes.{Sizes}
 use Rattle.model.specs.declared.Logs.{Logs}
-use Rattle.model.specs.declared.Fault.TheVariants.{NoFault}
+use Rattle.model.specs.declared.BadRecord.{BadRecord}
 use Rattle.model.specs.Sizes.{ring_of, total}
 use Rattle.model.specs.Decode.{page_field, slot_field, width_field}
 use Rattle.model.specs.Scan.{Scan, scan, fault_in, Update, updates_in, update_words}
@@ -20,12 +20,17 @@ pub record Noted (number : ℕ) (log : ℕ → Scan) (from : ℕ) (r : Notes) : 
   pub behind : (k : ℕ) → 128 * k < r.count → from ≤ get_or r.at k 0
   pub each : (k : ℕ) → 128 * k < r.count → positions_in number (log (get_or r.at k 0)) ≡ drop (128 * k) (positions_in number (log from))
 
+-- the malformed record, if it is that
+abbrev pub fault_of : {A : Type 0} → Result A BadRecord → Option BadRecord
+fault_of (Ok x) = None
+fault_of (Err bad) = Some bad
+
 -- What is found in a disk's log from a position on: the first malformed record; and if there is none, the words of a transaction's
 -- updates, and where they are read from.
-pub record FoundFrom (s : Sizes) (l : Logs) (disk number from : ℕ) (logs work : List ℕ) (r : Found) : Type 0 where
-  pub fault : r.fault ≡ fault_in disk (parts_from s l disk logs work from) NoFault
-  pub words : r.fault ≡ NoFault → r.words ≡ update_words (updates_in number (log_from s l disk logs work from))
-  pub noted : r.fault ≡ NoFault → Noted number (scan s (reader s l disk logs work) (end_of l disk)) from r.notes
+pub record FoundFrom (s : Sizes) (l : Logs) (disk number from : ℕ) (logs work : List ℕ) (r : Result Found BadRecord) : Type 0 where
+  pub fault : fault_of r ≡ fault_in disk (parts_from s l disk logs work from) None
+  pub words : (f : Found) → r ≡ Ok f → f.words ≡ update_words (updates_in number (log_from s l disk logs work from))
+  pub noted : (f : Found) → r ≡ Ok f → Noted number (scan s (reader s l disk logs work) (end_of l disk)) from f.notes
 
 -- what stands at positions, the last of them first
 unfoldable pub last_first : (ℕ → Update) → List ℕ → List Update

@@ -1,36 +1,24 @@
 -- What the functions that take updates back are lent, and what they do with it.
-use Rattle.std.specs.Prelude.{◌≡◌, List, true, ℕ, ◌+◌, ◌≤◌, ◌<◌, length, replicate}
+use Rattle.std.specs.Prelude.{◌≡◌, List, true, ℕ, ◌+◌, ◌≤◌, ◌<◌, length, replicate, Option, None, Some, is_some}
 use Rattle.model.specs.declared.Sizes.{Sizes}
 use Rattle.model.specs.declared.Logs.{Logs}
 use Rattle.model.specs.Sizes.{slots_in, width_in, ring_of, total, log_words, sizes_in_bounds}
 use Rattle.model.specs.Decode.{read_log, span, page_field, slot_field, width_field}
 use Rattle.model.specs.Scan.{Scan, scan, ring_then_buffer, Update, updates_in, update_words}
 use Rattle.model.specs.World.{World}
-use Rattle.model.specs.Memory.{buffer_at, work_words, buffer_of}
+use Rattle.model.specs.Memory.{work_words, buffer_of}
 use Rattle.model.specs.State.{limit, empty_logs, tail_of, fill_of, end_of}
 use Rattle.model.specs.Append.{Appended}
 use Rattle.model.specs.Abort.{ones_undone}
 use Rattle.device.specs.Ran.{Ran}
 use Rattle.frame.specs.Home.{with_disk}
 use Rattle.abort.specs.declared.difference.Site.{Site}
-use Rattle.abort.specs.declared.window.Tip.{Tip}
-use Rattle.abort.specs.declared.window.Window.{Window}
-use Rattle.abort.specs.declared.record.Progress.{Progress}
+use Rattle.disk_log.specs.declared.write.Tip.{Tip}
 use Rattle.abort.specs.declared.undo.Undone.{Undone}
 
 -- An abort reads and writes the log of one disk, of which it has the numbers; for the others stand empty ones.
 unfoldable pub only_log : (disk : ℕ) → Tip → Logs
 only_log disk t = with_disk (empty_logs (replicate 8 0)) disk t.tail t.fill
-
--- a disk's log: its tail, its end, and where the buffered words lie in the work memory
-unfoldable pub window_of : Logs → ℕ → Window
-window_of l disk =
-    record {
-      tail = tail_of l disk;
-      end = end_of l disk;
-      start = buffer_at disk;
-      stop = buffer_at disk + fill_of l disk;
-    }
 
 -- A disk of a state, and slices of the lengths that its sizes give.
 pub record Serving (s : Sizes) (l : Logs) (disk : ℕ) (logs work : List ℕ) : Type 0 where
@@ -47,14 +35,29 @@ pub record InSlot (s : Sizes) (page slot width : ℕ) : Type 0 where
   pub slot_in : slot < slots_in s page
   pub width_is : width ≡ width_in s page
 
--- Actions run as far as a budget goes, and where the disk's log ends after them.
-pub record Did (disk budget rest : ℕ) (added : Appended) (before after : World) (r : Progress) : Type 0 where
-  pub ran : Ran budget rest added.actions before after r.finished
-  pub state : r.finished ≡ true → only_log disk r.tip ≡ added.logs
+-- where a disk's log ends, if that is told
+abbrev pub EndsAt : ℕ → Logs → Option Tip → Type 0
+EndsAt disk l None = Unit {0}
+EndsAt disk l (Some tip) = only_log disk tip ≡ l
+
+-- Actions run as far as a budget goes, and where the disk's log ends after them if all were run.
+pub record Did (disk budget rest : ℕ) (added : Appended) (before after : World) (r : Option Tip) : Type 0 where
+  pub ran : Ran budget rest added.actions before after (is_some r)
+  pub state : EndsAt disk added.logs r
+
+abbrev pub tip_in : Option Undone → Option Tip
+tip_in None = None
+tip_in (Some undone) = Some undone.tip
 
 -- Where updates were all taken back: how many bits are 1 over their differences.
-abbrev pub Counts : List Update → Undone → Type 0
-Counts us r = r.progress.finished ≡ true → r.ones ≡ ones_undone us
+abbrev pub Counts : List Update → Option Undone → Type 0
+Counts us None = Unit {0}
+Counts us (Some undone) = undone.ones ≡ ones_undone us
+
+-- and at most how many
+abbrev pub Few : ℕ → Option Undone → Type 0
+Few most None = Unit {0}
+Few most (Some undone) = undone.ones ≤ most
 
 -- a disk's log as it is read, ring then buffer
 abbrev pub reader : Sizes → Logs → ℕ → List ℕ → List ℕ → ℕ → ℕ

@@ -7,8 +7,9 @@ ghost use Rattle.model.specs.State.{end_of};
 ghost use Rattle.disk_log.specs.Reading.{LiesAt, Readable};
 ghost use Rattle.abort.specs.Undo.{only_log, Serving, reader, site_at};
 
-use crate::window::{Tip, window_of};
-use disk_log::read::{Extent, extent_of, read_word};
+use crate::window::{buffered, extent_at};
+use disk_log::read::{Extent, read_word};
+use disk_log::write::Tip;
 use model::Sizes;
 
 // Where an update's record stands, the slot that it changed, and the slot's width.
@@ -32,16 +33,14 @@ pub fn site_at(sizes: Sizes, tip: Tip, disk: u64, position: u64, logs: &[u64], w
     requires { Serving sizes (only_log disk tip) disk logs.now work.now × (position < end_of (only_log disk tip) disk) }
     ensures { result ≡ site_at (reader sizes (only_log disk tip) disk logs.now work.now) position }
 {
-    let log = window_of(tip, disk);
-    let start = log.start as usize;
-    let stop = log.stop as usize;
-    let extent = extent_of(sizes, disk, log.tail, log.end);
+    let extent = extent_at(sizes, tip, disk);
+    let buffer = buffered(tip, disk, work);
     let w = read_word(
         logs,
         extent.place,
         extent.ring,
-        log.tail,
-        &work[start..stop],
+        extent.tail,
+        buffer,
         position,
     );
     Site {
@@ -72,12 +71,10 @@ fn copy_words_of_log(
     let ring = extent.ring;
     let tail = extent.tail;
     let mut ones = 0;
-    let mut i = 0;
-    while i < n {
+    for i in 0..n {
         let word = read_word(logs, place, ring, tail, buffer, position + i as u64);
         out[i] = word;
-        ones += u64::count_ones(word) as u64;
-        i += 1;
+        ones += word.count_ones() as u64;
     }
     ones
 }
@@ -98,16 +95,14 @@ pub fn difference_at(
         × (result.ones ≡ ones_over (span (reader sizes (only_log disk tip) disk logs.now work.now) (position + 3) width))
         × (result.ones ≤ 2048) }
 {
-    let log = window_of(tip, disk);
-    let start = log.start as usize;
-    let stop = log.stop as usize;
-    let extent = extent_of(sizes, disk, log.tail, log.end);
+    let extent = extent_at(sizes, tip, disk);
+    let buffer = buffered(tip, disk, work);
     let mut words = [0u64; 32];
     let ones = copy_words_of_log(
         &mut words,
         logs,
         extent,
-        &work[start..stop],
+        buffer,
         position + 3,
         width as usize,
     );

@@ -7,17 +7,10 @@ ghost use Rattle.abort.specs.Scope.{Examines};
 use crate::notes::Notes;
 use crate::reading::survey_from;
 use crate::scope::Scope;
-use crate::window::Tip;
-use model::{Fault, Sizes};
+use disk_log::write::Tip;
+use model::{BadRecord, Sizes};
 
-// The fault, and where the updates are read from if there is none.
-#[derive(Clone, Copy)]
-pub struct Examined {
-    pub fault: Fault,
-    pub notes: Notes,
-}
-
-// The first malformed record, or more words of updates than are reserved for them.
+// Where the updates are read from; or the first malformed record, or more words of updates than are reserved for them.
 pub fn examine(
     sizes: Sizes,
     tip: Tip,
@@ -25,25 +18,17 @@ pub fn examine(
     number: u64,
     logs: &[u64],
     work: &[u64],
-) -> Examined
+) -> Result<Notes, BadRecord>
     requires serving { Serving sizes (only_log scope.disk tip) scope.disk logs.now work.now }
     requires disk_bound { end_of (only_log scope.disk tip) scope.disk ≤ scope.from + 65536 }
     ensures { Examines sizes (only_log scope.disk tip) scope number logs.now work.now result }
 {
-    let found = survey_from(sizes, tip, scope.disk, number, scope.from, logs, work);
-    let notes = found.notes;
-    let malformed = found.fault;
-    if let Fault::BadRecord { disk, position } = malformed {
-        let fault = Fault::BadRecord { disk, position };
-        return Examined { fault, notes };
-    }
+    let found = survey_from(sizes, tip, scope.disk, number, scope.from, logs, work)?;
     if scope.words < found.words {
-        let fault = Fault::BadRecord {
+        return Err(BadRecord {
             disk: scope.disk,
             position: scope.first,
-        };
-        return Examined { fault, notes };
+        });
     }
-    let fault = Fault::NoFault;
-    Examined { fault, notes }
+    Ok(found.notes)
 }

@@ -8,20 +8,20 @@ ghost use Rattle.abort.specs.Undo.{only_log, Serving, reader};
 ghost use Rattle.abort.specs.Groups.{FoundFrom};
 
 use crate::notes::Notes;
-use crate::window::{Tip, window_of};
-use disk_log::read::extent_of;
+use crate::window::{buffered, extent_at};
+use disk_log::read::Extent;
 use disk_log::updates::{Group, next_updates, survey_log};
-use model::{Fault, Sizes};
+use disk_log::write::Tip;
+use model::{BadRecord, Sizes};
 
-// The first malformed record, the words of a transaction's updates, and where these are read from.
+// The words of a transaction's updates, and where these are read from.
 #[derive(Clone, Copy)]
 pub struct Found {
-    pub fault: Fault,
     pub words: u64,
     pub notes: Notes,
 }
 
-// Reads the log once from a position on.
+// Reads the log once from a position on: what is found of the updates, or the first malformed record.
 pub fn survey_from(
     sizes: Sizes,
     tip: Tip,
@@ -30,29 +30,26 @@ pub fn survey_from(
     from: u64,
     logs: &[u64],
     work: &[u64],
-) -> Found
+) -> Result<Found, BadRecord>
     requires { Serving sizes (only_log disk tip) disk logs.now work.now × (end_of (only_log disk tip) disk ≤ from + 65536) }
     ensures { FoundFrom sizes (only_log disk tip) disk number from logs.now work.now result }
 {
-    let log = window_of(tip, disk);
-    let start = log.start as usize;
-    let stop = log.stop as usize;
-    let extent = extent_of(sizes, disk, log.tail, log.end);
-    let buffer = &work[start..stop];
+    let extent = extent_at(sizes, tip, disk);
+    let buffer = buffered(tip, disk, work);
     let mut at = [0u64; 128];
     let found = survey_log(sizes, logs, disk, extent, buffer, from, number, &mut at);
+    if let Some(bad) = found.fault {
+        return Err(bad);
+    }
     let notes = Notes {
         from,
         count: found.count,
         at,
     };
-    let fault = found.fault;
-    let words = found.words;
-    Found {
-        fault,
-        words,
+    Ok(Found {
+        words: found.words,
         notes,
-    }
+    })
 }
 
 // The positions of a transaction's next n updates, from a position on, in the log up to an end.
@@ -71,9 +68,7 @@ pub fn group_from(
     requires n_in_bounds { n ≤ length (positions_in number (scan sizes (reader sizes (only_log disk tip) disk logs.now work.now) end from)) }
     ensures { Gathered number n (scan sizes (reader sizes (only_log disk tip) disk logs.now work.now) end from) result }
 {
-    let log = window_of(tip, disk);
-    let start = log.start as usize;
-    let stop = log.stop as usize;
-    let extent = extent_of(sizes, disk, log.tail, end);
-    next_updates(logs, extent, &work[start..stop], from, number, n)
+    let whole = extent_at(sizes, tip, disk);
+    let buffer = buffered(tip, disk, work);
+    next_updates(logs, Extent { end, ..whole }, buffer, from, number, n)
 }

@@ -1,26 +1,26 @@
 // The updates of a transaction taken back, newest first.
-ghost use Rattle.std.specs.Prelude.{◌≡◌, List, [], ◌∷◌, ℕ, ◌+◌, ◌≤◌, min, take};
+ghost use Rattle.std.specs.Prelude.{◌≡◌, List, [], ◌∷◌, ℕ, ◌+◌, ◌≤◌, take};
 ghost use Rattle.model.specs.Scan.{scan, updates_in};
 ghost use Rattle.model.specs.World.{world_of};
 ghost use Rattle.model.specs.State.{end_of};
 ghost use Rattle.model.specs.Abort.{compensate, undo_all};
-ghost use Rattle.abort.specs.Undo.{only_log, Did, Counts, reader, log_from, update_at, update_read, Compensable, Undoable};
+ghost use Rattle.abort.specs.Undo.{only_log, Did, tip_in, Counts, Few, reader, log_from, update_at, update_read, Compensable, Undoable};
 ghost use Rattle.abort.specs.Groups.{Noted, last_first, Takeable};
 
 use crate::difference::{Difference, Site, difference_at, site_at};
 use crate::notes::Notes;
 use crate::reading::group_from;
-use crate::record::{Progress, log_compensation};
-use crate::window::Tip;
+use crate::record::log_compensation;
 use disk_log::updates::Group;
+use disk_log::write::Tip;
 use layout::places::slot_base;
 use model::Sizes;
 use words::xor_in;
 
-// How far the taking back came; where it was not cut, how many bits are 1 over the differences taken back.
+// Updates taken back: where their disk's log ends, and how many bits are 1 over their differences.
 #[derive(Clone, Copy)]
 pub struct Undone {
-    pub progress: Progress,
+    pub tip: Tip,
     pub ones: u64,
 }
 
@@ -35,14 +35,14 @@ fn undo_one(
     logs: &mut [u64],
     work: &mut [u64],
     budget: &mut u64,
-) -> Undone
+) -> Option<Undone>
     requires { Compensable sizes (only_log disk tip) disk site pages.old logs.old work.old }
     ensures by_index { (anchor backups : List ℕ) → Did disk budget.old budget.new
         (compensate sizes (only_log disk tip) (world_of anchor pages.old backups logs.old work.old) number disk
         (update_at sizes (only_log disk tip) disk logs.old work.old site))
         (world_of anchor pages.old backups logs.old work.old)
-        (world_of anchor pages.new backups logs.new work.new) result.progress }
-    ensures counts { Counts (update_at sizes (only_log disk tip) disk logs.old work.old site ∷ []) result × (result.ones ≤ 2048) }
+        (world_of anchor pages.new backups logs.new work.new) (tip_in result) }
+    ensures counts { Counts (update_at sizes (only_log disk tip) disk logs.old work.old site ∷ []) result × Few 2048 result }
 {
     let Difference { words, ones } = difference_at(
         sizes,
@@ -54,7 +54,7 @@ fn undo_one(
         work,
     );
     let n = site.width as usize;
-    let progress = log_compensation(
+    let tip = log_compensation(
         sizes,
         tip,
         disk,
@@ -65,14 +65,10 @@ fn undo_one(
         logs,
         work,
         budget,
-    );
-    let done = Undone { progress, ones };
-    if !done.progress.finished {
-        return done;
-    }
+    )?;
     let at = slot_base(sizes, site.page, site.slot) as usize;
     xor_in(pages, at, &words, 0, n);
-    done
+    Some(Undone { tip, ones })
 }
 
 // Takes back the updates of a group, 128 at most, the last first, as far as the budget goes.
@@ -86,44 +82,25 @@ fn undo_group(
     logs: &mut [u64],
     work: &mut [u64],
     budget: &mut u64,
-) -> Undone
+) -> Option<Undone>
     requires { (group.count ≤ 128) × Takeable sizes (only_log disk tip) disk (take group.count group.at) pages.old logs.old work.old }
     ensures by_index { (anchor backups : List ℕ) → Did disk budget.old budget.new
         (undo_all sizes (only_log disk tip) (world_of anchor pages.old backups logs.old work.old) number disk
         (last_first (update_read (reader sizes (only_log disk tip) disk logs.old work.old)) (take group.count group.at)))
         (world_of anchor pages.old backups logs.old work.old)
-        (world_of anchor pages.new backups logs.new work.new) result.progress }
-    ensures counts { Counts (last_first (update_read (reader sizes (only_log disk tip) disk logs.old work.old)) (take group.count group.at)) result × (result.ones ≤ 262144) }
+        (world_of anchor pages.new backups logs.new work.new) (tip_in result) }
+    ensures counts { Counts (last_first (update_read (reader sizes (only_log disk tip) disk logs.old work.old)) (take group.count group.at)) result × Few 262144 result }
 {
     let at = group.at;
     let mut after = tip;
     let mut ones = 0;
-    let mut n = group.count;
-    while 0 < n {
-        n -= 1;
+    for n in (0..group.count).rev() {
         let site = site_at(sizes, after, disk, at[n as usize], logs, work);
-        let one = undo_one(sizes, after, disk, number, site, pages, logs, work, budget);
-        if !one.progress.finished {
-            return one;
-        }
-        after = one.progress.tip;
-        ones = ones + one.ones;
+        let one = undo_one(sizes, after, disk, number, site, pages, logs, work, budget)?;
+        after = one.tip;
+        ones += one.ones;
     }
-    let progress = Progress {
-        finished: true,
-        tip: after,
-    };
-    Undone { progress, ones }
-}
-
-// The smaller of two numbers.
-fn smaller(a: u64, b: u64) -> u64
-    ensures { result ≡ min a b }
-{
-    if a < b {
-        return a;
-    }
-    b
+    Some(Undone { tip: after, ones })
 }
 
 // Takes back all updates of a transaction that were noted in the log of its disk, as far as the budget goes: the groups of 128, last to
@@ -138,35 +115,27 @@ pub fn undo_all(
     logs: &mut [u64],
     work: &mut [u64],
     budget: &mut u64,
-) -> Undone
+) -> Option<Undone>
     requires undoable { Undoable sizes (only_log disk tip) disk number notes.from pages.old logs.old work.old }
     requires noted { Noted number (scan sizes (reader sizes (only_log disk tip) disk logs.old work.old) (end_of (only_log disk tip) disk)) notes.from notes }
     ensures by_index { (anchor backups : List ℕ) → Did disk budget.old budget.new
         (undo_all sizes (only_log disk tip) (world_of anchor pages.old backups logs.old work.old) number disk
         (updates_in number (log_from sizes (only_log disk tip) disk logs.old work.old notes.from)))
         (world_of anchor pages.old backups logs.old work.old)
-        (world_of anchor pages.new backups logs.new work.new) result.progress }
+        (world_of anchor pages.new backups logs.new work.new) (tip_in result) }
     ensures counts { Counts (updates_in number (log_from sizes (only_log disk tip) disk logs.old work.old notes.from)) result }
 {
     let end = tip.tail + tip.fill;
     let mut after = tip;
     let mut ones = 0;
-    let mut k = (notes.count + 127) / 128;
-    while 0 < k {
-        k -= 1;
-        let n = smaller(notes.count - 128 * k, 128);
+    let groups = notes.count.div_ceil(128);
+    for k in (0..groups).rev() {
+        let n = (notes.count - 128 * k).min(128);
         let p = notes.at[k as usize];
         let group = group_from(sizes, after, disk, number, p, end, n, logs, work);
-        let part = undo_group(sizes, after, disk, number, group, pages, logs, work, budget);
-        if !part.progress.finished {
-            return part;
-        }
-        after = part.progress.tip;
-        ones = ones + part.ones;
+        let part = undo_group(sizes, after, disk, number, group, pages, logs, work, budget)?;
+        after = part.tip;
+        ones += part.ones;
     }
-    let progress = Progress {
-        finished: true,
-        tip: after,
-    };
-    Undone { progress, ones }
+    Some(Undone { tip: after, ones })
 }

@@ -1,7 +1,8 @@
 -- A slot's difference as the code builds it, and a slot set in the memories.
+use Rattle.std.specs.Prelude.{None, Some}
 use mathlib.Core.Path.{◌≡◌, refl, sym, ap, ◌∙◌}
 use mathlib.Core.List.{List, [], ◌∷◌, ◌++◌, append_assoc}
-use mathlib.Core.Bool.{true, false}
+use mathlib.Core.Bool.{true}
 use Prim.Native.Nat.{ℕ, suc, ◌+◌, ◌*◌, ◌≤◌}
 use native.Mathlib.Omega.{arith}
 use lib.ListN.{length, set}
@@ -14,7 +15,6 @@ use Rattle.model.specs.Record.{header, encode}
 use Rattle.model.specs.World.{World, Action, write, pages, work, cost, act, perform, stores, made, finishes, each}
 use Rattle.model.specs.Memory.{owner_at}
 use Rattle.model.specs.Append.{append}
-use Rattle.model.proofs.Booleans.{true_false}
 use Rattle.model.proofs.Parts.{length_part}
 use Rattle.model.proofs.Run.{perform_append, stores_append, stores_written, perform_pages, finished_run}
 use Rattle.model.proofs.Xor.{length_xors}
@@ -71,12 +71,13 @@ memory_ran rest at owner value number v =
     }
 
 -- the record appended, the slot set: cut, or whole
-module _ (s : Sizes) (l : Logs) (w v : World) (disk : ℕ) (head : Head) (at : ℕ) (value : List ℕ) {budget rest : ℕ} {r : Changed}
-    (did : Appends budget rest s l disk (encode (change_of head (xors (part at (length value) w.pages) value))) w v r.logged)
-    (count : r.logged.finished ≡ true → r.ones ≡ ones_over (xors (part at (length value) w.pages) value)) where
+module _ (s : Sizes) (l : Logs) (w v : World) (disk : ℕ) (head : Head) (at : ℕ) (value : List ℕ) where
+  abbrev diff : List ℕ
+  diff = xors (part at (length value) w.pages) value
+
   -- the appended record's actions, then those on the memories
   abbrev first : List Action
-  first = (append s l w.work disk (encode (change_of head (xors (part at (length value) w.pages) value)))).actions
+  first = (append s l w.work disk (encode (change_of head diff))).actions
 
   abbrev then_memory : List Action
   then_memory = each (write pages) at value ++ write work (owner_at s at) head.number ∷ []
@@ -85,16 +86,16 @@ module _ (s : Sizes) (l : Logs) (w v : World) (disk : ℕ) (head : Head) (at : �
   unfolding replacing
   in_two = append_assoc first (each (write pages) at value) (write work (owner_at s at) head.number ∷ [])
 
-  pub replaced_cut : r.logged.finished ≡ false → Replaced budget rest s l disk head at value w v r
-  unfolding replacing
-  replaced_cut cut = record { ran = rw (in_two, cut) (ran_cut did.ran then_memory cut); state = λ z. true_false z cut; ones = count }
+  module _ {budget rest : ℕ} where
+    pub replaced_cut : Appends budget rest s l disk (encode (change_of head diff)) w v None → Replaced budget rest s l disk head at value w v None
+    replaced_cut did = record { ran = rw in_two (ran_cut did.ran then_memory refl); state = tt; ones = tt }
 
-  pub replaced_whole : r.logged.finished ≡ true
-      → Replaced budget rest s l disk head at value w (with_memory v (sets v.pages at value) v.logs (set v.work (owner_at s at) head.number)) r
-  unfolding replacing
-  replaced_whole finished =
-      record {
-        ran = rw (in_two, finished) (ran_then did.ran then_memory finished (memory_ran rest at (owner_at s at) value head.number v));
-        state = did.state;
-        ones = count;
-      }
+    pub replaced_whole : {r : Changed} → Appends budget rest s l disk (encode (change_of head diff)) w v (Some r.tip) → r.ones ≡ ones_over diff
+        → Replaced budget rest s l disk head at value w (with_memory v (sets v.pages at value) v.logs (set v.work (owner_at s at) head.number)) (Some r)
+    unfolding replacing
+    replaced_whole did count =
+        record {
+          ran = rw in_two (ran_then did.ran then_memory refl (memory_ran rest at (owner_at s at) value head.number v));
+          state = did.state;
+          ones = count;
+        }

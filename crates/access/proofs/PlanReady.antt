@@ -24,6 +24,9 @@ use Rattle.frame.specs.Entry.{EntryOf}
 use Rattle.frame.proofs.FirstChecks.{Ready}
 use Rattle.frame.proofs.Fitting.{placed}
 use Rattle.frame.proofs.Homes.{home_fits_lem}
+use Rattle.frame.specs.declared.refusal.Refusal.{Refusal}
+use Rattle.frame.specs.Refusal.{row_in}
+use Rattle.std.specs.Prelude.{Result, Ok}
 use Rattle.access.specs.declared.slots.Slot.{Slot}
 use Rattle.access.specs.Slots.{Finds}
 use Rattle.access.specs.Plans.{plan_of, Plans}
@@ -77,16 +80,16 @@ module _ (h : Carried) (w : World) (own : own_work h w.work ≡ true) (ready : R
 
   module _ {number : ℕ} {e : Entry} (found : EntryOf c number e) where
     -- with a slot
-    module _ {page slot : ℕ} {f : Slot} (finds : Finds c page slot f) (none : f.refusal ≡ 0) where
+    module _ {page slot : ℕ} {r : Result Slot Refusal} (finds : Finds c page slot r) {f : Slot} (there : r ≡ Ok f) where
       pub slot_small : (h.disks ≤ 8) × (page < 64) × (f.at < 8192) × (f.width ≤ 32) × (head_words + (buffer_at h.disks + 64 + f.at) < length w.work)
       slot_small =
-          let s = slotted finds none in
-          let o = owner_within h w ready finds none in
+          let s = slotted finds (ap row_in there) in
+          let o = owner_within h w ready finds there in
           let pages = ap (λ (x : Carried). x.pages) (carried_back h w.work) in (
             o.0,
             omega (arith, s.page_below, pages, ready.counts.pages_max),
             o.1,
-            omega (arith, s.width_max, finds.width none),
+            omega (arith, s.width_max, (finds.ready f there).width),
             o.2,
           )
 
@@ -95,15 +98,15 @@ module _ (h : Carried) (w : World) (own : own_work h w.work ≡ true) (ready : R
           (plan_of f e (buffer_at h.disks + 64 + f.at) (get_or w.work (head_words + (buffer_at h.disks + page)) 0) (get_or w.work (head_firsts + e.place) 0))
       unfolding body_of
       plan_ready {width} same =
-          let s = slotted finds none in
+          let s = slotted finds (ap row_in there) in
           let small = slot_small in
           record {
-            at = finds.place none;
-            same_width = same ∙ finds.width none;
+            at = (finds.ready f there).place;
+            same_width = same ∙ (finds.ready f there).width;
             page_small = small.1;
             slot_small = omega (arith, s.slot_below, s.slots_max);
             width_max = omega (arith, same, small.3);
-            end = omega (arith, same, slot_within h w ready finds none);
+            end = omega (arith, same, slot_within h w ready finds there);
             owner = owner_here f.at;
             owner_within = omega (arith, small.4, length-drop head_words w.work);
             copy = copy_here page;

@@ -1,5 +1,5 @@
 -- A slot by the words of the head: the tests of the code are those of the rows.
-use mathlib.Core.Path.{◌≡◌, refl, sym, ap, ◌∙◌}
+use mathlib.Core.Path.{◌≡◌, refl, sym, subst, ap, ◌∙◌}
 use mathlib.Core.List.{List}
 use mathlib.Core.Bool.{Bool, true, false, and-false, cond, not, ◌&&◌}
 use Prim.Native.Nat.{ℕ, ◌+◌, ◌*◌, ◌≤◌, ◌<◌}
@@ -24,9 +24,14 @@ use Rattle.model.proofs.View.Head.{carried_back}
 use Rattle.model.proofs.View.Fields.{field_read}
 use Rattle.layout.proofs.Laws.{product_max}
 use Rattle.frame.specs.Fits.{page_within}
+use Rattle.frame.specs.declared.refusal.Refusal.{Refusal}
+use Rattle.frame.specs.declared.refusal.Refusal.TheVariants.{Stage, OutOfRange}
+use Rattle.frame.specs.Refusal.{number_of}
+use Rattle.frame.proofs.Refusals.{ok_same}
+use Rattle.std.specs.Prelude.{Ok, Err}
 use Rattle.frame.proofs.Fitting.{slot_here}
 use Rattle.access.specs.declared.slots.Slot.{Slot}
-use Rattle.access.specs.Slots.{Finds}
+use Rattle.access.specs.Slots.{SlotOf, Finds}
 
 -- A page of any numbers.
 module _ (a b base t : ℕ) where
@@ -58,10 +63,9 @@ module _ (a b base t : ℕ) where
       (omega (arith, product_max slot b 128 32 (omega (arith, below, few)) narrow), narrow, omega (arith, less, leb-true (base + a * b) t four.3))
 
 -- a slot that is refused
-refused_slot : {c : Core} {page slot : ℕ} (r : Slot) → 0 < r.refusal
-    → r.refusal ≡ cond (slot_missing c.sizes page slot) 8 (cond (slot_fits page slot c) 0 1) → Finds c page slot r
-refused_slot r some e =
-    record { refusal = e; place = λ none. absurd (omega (arith, some, none)); width = λ none. absurd (omega (arith, some, none)) }
+refused_slot : {c : Core} {page slot : ℕ} (r : Refusal)
+    → number_of r ≡ cond (slot_missing c.sizes page slot) 8 (cond (slot_fits page slot c) 0 1) → Finds c page slot (Err r)
+refused_slot r e = record { refusal = e; ready = λ s is. cc }
 
 -- A slot of the state that a work memory is the own one of.
 module _ (h : Carried) (work : List ℕ) (own : own_work h work ≡ true) {pages total : ℕ} (page slot : ℕ) (same_pages : h.pages ≡ pages)
@@ -75,9 +79,9 @@ module _ (h : Carried) (work : List ℕ) (own : own_work h work ≡ true) {pages
   total_here : c.bases.total ≡ total
   total_here = ap (λ (x : Carried). x.total) (carried_back h work) ∙ same_total
 
-  pub slot_beyond : (r : Slot) → r.refusal ≡ 8 → pages ≤ page → Finds c page slot r
+  pub slot_beyond : pages ≤ page → Finds c page slot (Err OutOfRange)
   unfolding slot_missing
-  slot_beyond r e high = refused_slot r (omega (arith, e)) (e ∙ rw (pages_here, le-leb pages page high) refl)
+  slot_beyond high = refused_slot OutOfRange (rw (pages_here, le-leb pages page high) refl)
 
   -- whose page there is, with the page's words in the head
   module _ (low : page < pages) (few : pages ≤ 64) where
@@ -102,10 +106,10 @@ module _ (h : Carried) (work : List ℕ) (own : own_work h work ≡ true) {pages
     unfolding base_of
     base_here = field_read h work own bases page (omega (arith, low, few))
 
-    pub slot_high : (r : Slot) → r.refusal ≡ 8 → slots_word ≤ slot → Finds c page slot r
+    pub slot_high : slots_word ≤ slot → Finds c page slot (Err OutOfRange)
     unfolding slot_missing
-    slot_high r e high =
-        refused_slot r (omega (arith, e)) (e ∙ rw (pages_here, lt-leb pages page low, slots_here, le-leb slots_word slot high) refl)
+    slot_high high =
+        refused_slot OutOfRange (rw (pages_here, lt-leb pages page low, slots_here, le-leb slots_word slot high) refl)
 
     module _ (there : slot < slots_word) where
       found : slot_missing c.sizes page slot ≡ false
@@ -115,18 +119,19 @@ module _ (h : Carried) (work : List ℕ) (own : own_work h work ≡ true) {pages
       fits_here : slot_fits page slot c ≡ page_within slots_word width_word base_word total
       fits_here = sym (slot_here c page slot found) ∙ rw (slots_here, width_here, base_here, total_here) refl
 
-      pub page_unfit : (r : Slot) → r.refusal ≡ 1 → {b : Bool} → b ≡ page_within slots_word width_word base_word total → b ≡ false
-          → Finds c page slot r
-      page_unfit r e test fails = refused_slot r (omega (arith, e)) (e ∙ rw (found, fits_here, ← test, fails) refl)
+      pub page_unfit : {b : Bool} → b ≡ page_within slots_word width_word base_word total → b ≡ false → Finds c page slot (Err Stage)
+      page_unfit test fails = refused_slot Stage (rw (found, fits_here, ← test, fails) refl)
 
       pub slot_found : {b : Bool} → b ≡ page_within slots_word width_word base_word total → b ≡ true
-          → Finds c page slot (record { refusal = 0; at = base_word + slot * width_word; width = width_word })
+          → Finds c page slot (Ok (record { at = base_word + slot * width_word; width = width_word }))
       unfolding slot_place
       slot_found test passes =
           record {
             refusal = rw (found, fits_here, ← test, passes) refl;
-            place = λ none. rw (base_here, width_here) refl;
-            width = λ none. sym width_here;
+            ready =
+                λ s is.
+                subst (λ (s : Slot). SlotOf c page slot s) (ok_same is)
+                (record { place = rw (base_here, width_here) refl; width = sym width_here });
           }
 
 -- The owner of a slot, behind the head and the copy numbers.

@@ -6,7 +6,7 @@ use Prim.Native.Nat.{ℕ, ◌+◌, ◌-◌, ◌≤◌, ◌<◌}
 use native.Mathlib.Omega.{arith}
 use lib.ListN.{length, set, take, drop, length-append, length-drop, drop_of_length-le}
 use lib.Seq.{length-take-le, set-get_or}
-use borrow.Author.Tests.{eq-eqb, ne_eqb}
+use borrow.Author.Tests.{ne_eqb}
 use borrow.Author.Rules.{part_to_end}
 use Rattle.model.specs.declared.Sizes.{Sizes}
 use Rattle.model.specs.declared.Core.{Core}
@@ -35,22 +35,27 @@ use Rattle.frame.specs.Handed.{refused_to, finished_to, cut_to}
 use Rattle.frame.specs.Home.{home_of, with_disk}
 use Rattle.frame.proofs.Homes.{home_lent}
 use Rattle.frame.proofs.Shown.{shown_refused, shown_whole, shown_cut}
+use Rattle.frame.specs.declared.refusal.Refusal.{Refusal}
+use Rattle.frame.specs.Refusal.{number_of}
+use Rattle.frame.proofs.Refusals.{numbered}
+use Rattle.std.specs.Prelude.{Result, Ok, Err, None, Some}
 use Rattle.access.specs.declared.plan.Plan.{Plan}
 use Rattle.access.specs.Tasks.{with_memory, replacing, Replaced}
 use Rattle.access.specs.Plans.{Plans, Planned}
 use Rattle.access.proofs.Differences.{record_length}
 
 -- a row refuses it
-pub update_refused : (h : Carried) (w : World) {number page slot : ℕ} (value : List ℕ) {p : Plan} (budget : ℕ)
-    → Planned h w number page slot (length value) p → (p.refusal ≡ 0 → ⊥) → {reply : Handed} → reply ≡ refused_to h p.refusal 0 0
+pub update_refused : (h : Carried) (w : World) {number page slot : ℕ} (value : List ℕ) {r : Result Plan Refusal} (budget : ℕ)
+    → Planned h w number page slot (length value) r → (refusal : Refusal) → r ≡ Err refusal → {reply : Handed} → reply ≡ refused_to h (number_of refusal) 0 0
     → Serves (update number page slot value budget) h w reply budget w
-update_refused h w {number} {page} {slot} value {p} budget planned some reply =
-    shown_refused (update number page slot value budget) h w (planned.rows value refl ∙ rw (ne_eqb p.refusal 0 some) refl) reply
+update_refused h w {number} {page} {slot} value budget planned refusal away reply =
+    shown_refused (update number page slot value budget) h w
+    (planned.rows value refl ∙ rw (away, ne_eqb (number_of refusal) 0 (numbered refusal)) refl) reply
 
 -- none does
-pub update_taken : (h : Carried) (w : World) {number page slot : ℕ} (value : List ℕ) {p : Plan} → Planned h w number page slot (length value) p
-    → p.refusal ≡ 0 → verdict (update_rows (core_of h w.work) (body_of w) number page slot value) ≡ accepted
-update_taken h w value {p} planned none = planned.rows value refl ∙ rw (eq-eqb p.refusal 0 none) refl
+pub update_taken : (h : Carried) (w : World) {number page slot : ℕ} (value : List ℕ) {r : Result Plan Refusal} {p : Plan}
+    → Planned h w number page slot (length value) r → r ≡ Ok p → verdict (update_rows (core_of h w.work) (body_of w) number page slot value) ≡ accepted
+update_taken h w value planned there = planned.rows value refl ∙ rw there refl
 
 -- what its record says beside the difference
 abbrev pub head_of_change : (page slot number copy : ℕ) → Head
@@ -110,20 +115,21 @@ module _ (h : Carried) (w : World) (own : own_work h w.work ≡ true) {number pa
   core_is = rw (words_are, table_is, ← plans.same_width, ← plans.at, ← plans.disk, ← plans.copy) refl
 
   -- its work, cut or whole
-  module _ (rows : verdict (update_rows c (body_of w) number page slot value) ≡ accepted) {budget rest : ℕ} {pages logs body : List ℕ} {r : Changed}
-      (did : Replaced budget rest c.sizes c.logs p.disk head p.at value (body_of w) (with_memory (body_of w) pages logs body) r) where
-    pub update_cut : r.logged.finished ≡ false → {work : List ℕ} → work ≡ take head_words w.work ++ body → {reply : Handed} → reply ≡ cut_to (budget - rest)
+  module _ (rows : verdict (update_rows c (body_of w) number page slot value) ≡ accepted) {budget rest : ℕ} {pages logs body : List ℕ} where
+    pub update_cut : Replaced budget rest c.sizes c.logs p.disk head p.at value (body_of w) (with_memory (body_of w) pages logs body) None
+        → {work : List ℕ} → work ≡ take head_words w.work ++ body → {reply : Handed} → reply ≡ cut_to (budget - rest)
         → Serves (update number page slot value budget) h w reply rest (world_of w.anchor pages w.backups logs work)
     unfolding body_of
-    update_cut cut head_left reply =
-        shown_cut (update number page slot value budget) h w rows (rw (actions_are, cut) at did.ran) head_left reply
+    update_cut did head_left reply =
+        shown_cut (update number page slot value budget) h w rows (rw actions_are at did.ran) head_left reply
 
-    module _ (finished : r.logged.finished ≡ true) where
+    module _ {r : Changed}
+        (did : Replaced budget rest c.sizes c.logs p.disk head p.at value (body_of w) (with_memory (body_of w) pages logs body) (Some r)) where
       abbrev after : Core
-      after = with_log c (with_disk c.logs p.disk r.logged.tail r.logged.fill) table_after_lem
+      after = with_log c (with_disk c.logs p.disk r.tip.tail r.tip.fill) table_after_lem
 
       core_after : (update_task c (body_of w) number page slot value).core ≡ after
-      core_after = core_is ∙ ap (λ (l : Logs). with_log c l table_after_lem) (did.state finished)
+      core_after = core_is ∙ ap (λ (l : Logs). with_log c l table_after_lem) did.state
 
       serving_after : when_shut (update_task c (body_of w) number page slot value).core.stage ≡ false
       unfolding with_log
@@ -131,12 +137,12 @@ module _ (h : Carried) (w : World) (own : own_work h w.work ≡ true) {number pa
           ap (λ (x : Core). when_shut x.stage) core_after ∙ ap (λ (x : Carried). when_shut x.stage) (carried_back h w.work)
           ∙ (own_work_lem h w.work own).serving
 
-      head_after_lem : put_words (filling p.disk r.logged.fill)
+      head_after_lem : put_words (filling p.disk r.tip.fill)
           (put_words (entering p.place number p.disk p.first p.reserved p.sum) (take head_words w.work ++ body))
           ≡ head_of after ++ body
       unfolding put_words put_lists set_in with_log with_reserved with_place within_head
       head_after_lem =
-          head_put h w.work body own (entering p.place number p.disk p.first p.reserved p.sum ++ filling p.disk r.logged.fill)
+          head_put h w.work body own (entering p.place number p.disk p.first p.reserved p.sum ++ filling p.disk r.tip.fill)
           (plans.place_low, (plans.place_low, (plans.place_low, (plans.place_low, (plans.disk_low, (plans.disk_low, tt)))))) after refl
 
       carried_after : carried_of after
@@ -150,7 +156,7 @@ module _ (h : Carried) (w : World) (own : own_work h w.work ≡ true) {number pa
             next = h.next;
             copied = h.copied;
             starts = h.starts;
-            tails = set h.tails p.disk r.logged.tail;
+            tails = set h.tails p.disk r.tip.tail;
             ends = h.ends;
             classes = h.classes;
           }
@@ -159,26 +165,26 @@ module _ (h : Carried) (w : World) (own : own_work h w.work ≡ true) {number pa
 
       value_is : (update_task c (body_of w) number page slot value).value ≡ r.ones
       unfolding update_task update_record slot_words
-      value_is = rw (← plans.same_width, ← plans.at) (sym (did.ones finished))
+      value_is = rw (← plans.same_width, ← plans.at) (sym did.ones)
 
       pub update_finished : {work : List ℕ}
-          → work ≡ put_words (filling p.disk r.logged.fill) (put_words (entering p.place number p.disk p.first p.reserved p.sum) (take head_words w.work ++ body))
+          → work ≡ put_words (filling p.disk r.tip.fill) (put_words (entering p.place number p.disk p.first p.reserved p.sum) (take head_words w.work ++ body))
           → {reply : Handed}
-          → reply ≡ finished_to (record { stage = h.stage; pages = h.pages; disks = h.disks; ring = h.ring; total = h.total; epoch = h.epoch; next = h.next; copied = h.copied; starts = h.starts; tails = set h.tails p.disk r.logged.tail; ends = h.ends; classes = h.classes }) (budget - rest) r.ones
+          → reply ≡ finished_to (record { stage = h.stage; pages = h.pages; disks = h.disks; ring = h.ring; total = h.total; epoch = h.epoch; next = h.next; copied = h.copied; starts = h.starts; tails = set h.tails p.disk r.tip.tail; ends = h.ends; classes = h.classes }) (budget - rest) r.ones
           → Serves (update number page slot value budget) h w reply rest (world_of w.anchor pages w.backups logs work)
       unfolding body_of
       update_finished head_left reply =
-          shown_whole (update number page slot value budget) h w rows (rw (actions_are, finished) at did.ran) serving_after
+          shown_whole (update number page slot value budget) h w rows (rw actions_are at did.ran) serving_after
           (head_left ∙ head_after_lem ∙ ap (λ (x : Core). head_of x ++ body) (sym core_after)) (sym carried_after ∙ ap carried_of (sym core_after)) (rw value_is reply)
 
       -- where nothing is flushed, the tail stays, and with it all that is carried
-      pub update_unmoved : r.logged.tail ≡ p.tail → {work : List ℕ}
-          → work ≡ put_words (filling p.disk r.logged.fill) (put_words (entering p.place number p.disk p.first p.reserved p.sum) (take head_words w.work ++ body))
+      pub update_unmoved : r.tip.tail ≡ p.tail → {work : List ℕ}
+          → work ≡ put_words (filling p.disk r.tip.fill) (put_words (entering p.place number p.disk p.first p.reserved p.sum) (take head_words w.work ++ body))
           → {reply : Handed} → reply ≡ finished_to h (budget - rest) r.ones
           → Serves (update number page slot value budget) h w reply rest (world_of w.anchor pages w.backups logs work)
       unfolding tail_of core_of
       update_unmoved stays head_left reply =
-          let same : set h.tails p.disk r.logged.tail ≡ h.tails = rw (stays, plans.tail) (set-get_or h.tails p.disk 0) in
+          let same : set h.tails p.disk r.tip.tail ≡ h.tails = rw (stays, plans.tail) (set-get_or h.tails p.disk 0) in
           update_finished head_left (rw same reply)
 
 -- The body as it is lent, and the whole when it is back.

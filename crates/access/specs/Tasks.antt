@@ -1,5 +1,5 @@
 -- The part of an update's task that a function does, where it is lent a part of the state.
-use Rattle.std.specs.Prelude.{◌≡◌, List, [], ◌∷◌, ◌++◌, true, ℕ, length}
+use Rattle.std.specs.Prelude.{◌≡◌, List, [], ◌∷◌, ◌++◌, ℕ, length, Option, None, Some, is_some}
 use Rattle.model.specs.declared.Sizes.{Sizes}
 use Rattle.model.specs.declared.Logs.{Logs}
 use Rattle.model.specs.Word.{xors, ones_over, part}
@@ -9,8 +9,8 @@ use Rattle.model.specs.Memory.{owner_at}
 use Rattle.model.specs.Append.{Appended, append}
 use Rattle.device.specs.Ran.{Ran}
 use Rattle.disk_log.specs.declared.write.Head.{Head}
-use Rattle.disk_log.specs.Write.{change_of}
-use Rattle.frame.specs.Home.{with_disk}
+use Rattle.disk_log.specs.declared.write.Tip.{Tip}
+use Rattle.disk_log.specs.Write.{change_of, LogsAfter}
 use Rattle.access.specs.declared.change.Changed.{Changed}
 
 -- the world with other pages, logs and work memory
@@ -23,8 +23,17 @@ replacing s l w disk head at value =
     let added : Appended = append s l w.work disk (encode (change_of head (xors (part at (length value) w.pages) value))) in
     record { actions = added.actions ++ each (write pages) at value ++ write work (owner_at s at) head.number ∷ []; logs = added.logs }
 
+abbrev pub tip_in : Option Changed → Option Tip
+tip_in None = None
+tip_in (Some changed) = Some changed.tip
+
+-- How many bits of a difference are 1, where its change was not cut.
+abbrev pub Counts : (diff : List ℕ) → Option Changed → Type 0
+Counts diff None = Unit {0}
+Counts diff (Some changed) = changed.ones ≡ ones_over diff
+
 -- These actions run as far as a budget goes; where they were not cut, where the disk's log ends, and how many bits of the difference are 1.
-pub record Replaced (budget rest : ℕ) (s : Sizes) (l : Logs) (disk : ℕ) (head : Head) (at : ℕ) (value : List ℕ) (before after : World) (r : Changed) : Type 0 where
-  pub ran : Ran budget rest (replacing s l before disk head at value).actions before after r.logged.finished
-  pub state : r.logged.finished ≡ true → (replacing s l before disk head at value).logs ≡ with_disk l disk r.logged.tail r.logged.fill
-  pub ones : r.logged.finished ≡ true → r.ones ≡ ones_over (xors (part at (length value) before.pages) value)
+pub record Replaced (budget rest : ℕ) (s : Sizes) (l : Logs) (disk : ℕ) (head : Head) (at : ℕ) (value : List ℕ) (before after : World) (r : Option Changed) : Type 0 where
+  pub ran : Ran budget rest (replacing s l before disk head at value).actions before after (is_some r)
+  pub state : LogsAfter disk l (replacing s l before disk head at value).logs (tip_in r)
+  pub ones : Counts (xors (part at (length value) before.pages) value) r

@@ -1,5 +1,5 @@
 // The work of an update: its record appended, the slot changed, its owner set.
-ghost use Rattle.std.specs.Prelude.{◌≡◌, true, ◌+◌, ◌≤◌, ◌<◌, length, set};
+ghost use Rattle.std.specs.Prelude.{◌≡◌, ◌+◌, ◌≤◌, ◌<◌, length, set};
 ghost use Rattle.std.proofs.lemmas.List.Edits.{sets};
 ghost use Rattle.model.specs.declared.Sizes.{Sizes};
 ghost use Rattle.model.specs.declared.Logs.{Logs};
@@ -9,16 +9,16 @@ ghost use Rattle.model.specs.World.{World};
 ghost use Rattle.model.specs.Memory.{owner_at};
 ghost use Rattle.device.specs.Ran.{with_slices};
 ghost use Rattle.disk_log.specs.Write.{Within, Encodable, change_of, Lent, Appends};
-ghost use Rattle.access.specs.Tasks.{with_memory, Replaced};
+ghost use Rattle.access.specs.Tasks.{with_memory, tip_in, Counts, Replaced};
 
 use disk_log::kinds::words_of;
-use disk_log::write::{Head, Home, Logged, flush_disk};
+use disk_log::write::{Head, Home, Tip, flush_disk};
 use words::{copy_words, difference};
 
-// How the append of a change ended, and how many bits of its difference are 1.
+// Where the log ends after a change, and how many bits of its difference are 1.
 #[derive(Clone, Copy)]
 pub struct Changed {
-    pub logged: Logged,
+    pub tip: Tip,
     pub ones: u64,
 }
 
@@ -44,7 +44,7 @@ fn put_change(
     difference(work, to + 3, pages, at, value)
 }
 
-// Appends such a change: behind the words that the buffer has, and where it does not fit there, after a flush.
+// Appends such a change: behind the words that the buffer has, and where it does not fit there, after a flush; None: that was cut.
 fn log_change(
     home: Home,
     head: Head,
@@ -54,13 +54,13 @@ fn log_change(
     logs: &mut [u64],
     work: &mut [u64],
     budget: &mut u64,
-) -> Changed
+) -> Option<Changed>
     requires { Within home logs.old work.old × Encodable head (length value.now) × (at + length value.now ≤ length pages.now) }
     ensures { ((s : Sizes) (l : Logs) (w : World) → Lent s l w home logs.old work.old
         → Appends budget.old budget.new s l home.disk
         (encode (change_of head (xors (part at (length value.now) pages.now) value.now))) w
-        (with_slices w logs.new work.new) result.logged)
-        × (result.logged.finished ≡ true → result.ones ≡ ones_over (xors (part at (length value.now) pages.now) value.now)) }
+        (with_slices w logs.new work.new) (tip_in result))
+        × Counts (xors (part at (length value.now) pages.now) value.now) result }
 {
     let n = words_of(head.kind, value.len() as u64);
     let buffer = home.buffer;
@@ -68,28 +68,21 @@ fn log_change(
     let fill = home.fill;
     if fill + n <= 64 {
         let ones = put_change(work, (buffer + fill) as usize, head, pages, at, value);
-        let logged = Logged {
-            finished: true,
+        let tip = Tip {
             tail,
             fill: fill + n,
         };
-        return Changed { logged, ones };
+        return Some(Changed { tip, ones });
     }
     if !flush_disk(logs, work, home, budget) {
-        let logged = Logged {
-            finished: false,
-            tail,
-            fill,
-        };
-        return Changed { logged, ones: 0 };
+        return None;
     }
     let ones = put_change(work, buffer as usize, head, pages, at, value);
-    let logged = Logged {
-        finished: true,
+    let tip = Tip {
         tail: tail + fill,
         fill: n,
     };
-    Changed { logged, ones }
+    Some(Changed { tip, ones })
 }
 
 // Sets a slot's words, and its owner at the index `owner` of the work memory.
@@ -120,15 +113,12 @@ pub fn log_and_set(
     logs: &mut [u64],
     work: &mut [u64],
     budget: &mut u64,
-) -> Changed
+) -> Option<Changed>
     requires { Within home logs.old work.old × Encodable head (length value.now) × (at + length value.now ≤ length pages.old) × (owner < length work.old) }
     ensures { (s : Sizes) (l : Logs) (w : World) → Lent s l w home logs.old work.old → w.pages ≡ pages.old → owner ≡ owner_at s at
         → Replaced budget.old budget.new s l home.disk head at value.now w (with_memory w pages.new logs.new work.new) result }
 {
-    let added = log_change(home, head, pages, at, value, logs, work, budget);
-    if !added.logged.finished {
-        return added;
-    }
+    let changed = log_change(home, head, pages, at, value, logs, work, budget)?;
     set_slot(pages, work, at, owner, value, head.number);
-    added
+    Some(changed)
 }

@@ -8,26 +8,26 @@ ghost use Rattle.model.specs.Memory.{buffer_at, owner_of};
 ghost use Rattle.model.specs.State.{limit, in_table};
 ghost use Rattle.model.specs.View.{head_firsts, head_words, own_work, core_of};
 ghost use Rattle.table.specs.Parts.{room_for};
-ghost use Rattle.access.specs.Reading.{Told};
-ghost use Rattle.access.specs.Plans.{early_of, plan_of, Planned};
+ghost use Rattle.frame.specs.Refusal.{row_in};
+ghost use Rattle.access.specs.Plans.{Both, plan_of, Planned};
 
-use crate::slots::{Slot, find_slot, is_locked};
+use crate::slots::{Slot, fails_state, find_slot, is_locked};
 use disk_log::kinds::{UPDATE, words_of};
 use frame::entry::{Entry, find_entry};
-use frame::lent::lent_refusal;
+use frame::lent::check_lent;
+use frame::refusal::Refusal;
 use head::places::{FIRSTS_AT, HEAD_WORDS};
 use layout::anchor::ANCHOR_WORDS;
 use layout::memory::{copy_place, owner_place};
-use model::Stage;
+use model::Carried;
 use table::place::CLOSE_WORDS;
 use table::room::fits_ring;
 
-// The number of the row that refuses an update, 0 where none does. Then where its slot lies, where the slot's owner is behind the head, and
-// the page's copy number; the transaction's place, its first position and its reserved words after the update; its disk's tail and fill
-// before it, and the words reserved there after it.
+// Of an update that no row refuses: where its slot lies, where the slot's owner is behind the head, and the page's copy number; the
+// transaction's place, its first position and its reserved words after the update; its disk's tail and fill before it, and the words
+// reserved there after it.
 #[derive(Clone, Copy)]
 pub struct Plan {
-    pub refusal: u64,
     pub at: usize,
     pub owner: usize,
     pub copy: u64,
@@ -40,48 +40,32 @@ pub struct Plan {
     pub sum: u64,
 }
 
-fn no_plan(refusal: u64) -> Plan
-    ensures { result.refusal ≡ refusal }
-{
-    Plan {
-        refusal,
-        at: 0,
-        owner: 0,
-        copy: 0,
-        place: 0,
-        first: 0,
-        reserved: 0,
-        disk: 0,
-        tail: 0,
-        fill: 0,
-        sum: 0,
-    }
-}
-
 // Rows 1, 2 and 8 to 10, by what was found of slot and transaction and by the lengths of anchor and value.
-fn early_refusal(slot: u64, entry: u64, anchor: usize, value: usize, width: usize) -> u64
-    ensures { result ≡ early_of slot entry (eqb anchor anchor_words) (eqb value width) }
+fn both(
+    asked: Result<Slot, Refusal>,
+    opened: Result<Entry, Refusal>,
+    anchor: usize,
+    value: usize,
+) -> Result<(Slot, Entry), Refusal>
+    ensures { Both asked opened anchor value result }
 {
-    if slot == 1 {
-        return 1;
-    }
-    if entry == 1 {
-        return 1;
+    if fails_state(asked) || fails_state(opened) {
+        return Err(Refusal::Stage);
     }
     if anchor != ANCHOR_WORDS {
-        return 2;
+        return Err(Refusal::AnchorLength);
     }
-    if slot != 0 {
-        return 8;
+    let found = asked?;
+    let entry = opened?;
+    if value == found.width {
+        Ok((found, entry))
+    } else {
+        Err(Refusal::ValueLength)
     }
-    if entry != 0 {
-        return 9;
-    }
-    if value == width { 0 } else { 10 }
 }
 
 // Rows 11 and 14: the slot is not held by another, and the disk has room for the update and for its compensation.
-fn late_refusal(
+fn check_late(
     found: Slot,
     entry: Entry,
     work: &[u64],
@@ -89,22 +73,22 @@ fn late_refusal(
     ring: u64,
     start: u64,
     number: u64,
-) -> u64
+) -> Result<(), Refusal>
     requires disks_bound { (disks ≤ 8) × (found.at < 8192) × (found.width ≤ 32) × (head_words + (buffer_at disks + 64 + found.at) < length work.now) }
     requires sum_bound { entry.tail + entry.fill + entry.sum ≤ limit }
     ensures { (h : Carried) → own_work h work.now ≡ true → h.disks ≡ disks
-        → result ≡ cond (in_table (core_of h work.now).table (owner_of (core_of h work.now).sizes (drop head_words work.now) found.at)
+        → row_in result ≡ cond (in_table (core_of h work.now).table (owner_of (core_of h work.now).sizes (drop head_words work.now) found.at)
         && not (eqb (owner_of (core_of h work.now).sizes (drop head_words work.now) found.at) number)) 11
         (cond (room_for start (entry.tail + entry.fill) entry.sum ring (2 * words_of update_kind found.width)) 0 14) }
 {
     if is_locked(work, disks, found.at, number) {
-        return 11;
+        return Err(Refusal::Held);
     }
     let need = 2 * words_of(UPDATE, found.width as u64);
     if fits_ring(start, entry.tail + entry.fill, entry.sum, ring, need) {
-        0
+        Ok(())
     } else {
-        14
+        Err(Refusal::NoRoom)
     }
 }
 
@@ -129,7 +113,6 @@ fn make_plan(found: Slot, entry: Entry, work: &[u64], disks: u64, page: u64) -> 
     );
     let words = words_of(UPDATE, found.width as u64);
     Plan {
-        refusal: 0,
         at: found.at,
         owner: owner_place(disks, found.at),
         copy: work[HEAD_WORDS + copy_place(disks, page)],
@@ -143,15 +126,9 @@ fn make_plan(found: Slot, entry: Entry, work: &[u64], disks: u64, page: u64) -> 
     }
 }
 
-// The plan of an update of a value of so many words. P, D, W, T, the starts and the tails are those of the state.
+// The plan of an update of a value of so many words.
 pub fn plan_update(
-    stage: Stage,
-    count: u64,
-    disks: u64,
-    ring: u64,
-    total: u64,
-    starts: [u64; 8],
-    tails: [u64; 8],
+    carried: &Carried,
     number: u64,
     page: u64,
     slot: u64,
@@ -161,41 +138,16 @@ pub fn plan_update(
     backups: &[u64],
     logs: &[u64],
     work: &[u64],
-) -> Plan
-    ensures { (h : Carried) → Told h stage count disks ring total → h.starts ≡ starts → h.tails ≡ tails
-        → Planned h (world_of anchor.now pages.now backups.now logs.now work.now) number page slot width result }
+) -> Result<Plan, Refusal>
+    ensures { Planned carried.now (world_of anchor.now pages.now backups.now logs.now work.now) number page slot width result }
 {
-    let first = lent_refusal(
-        stage,
-        count,
-        disks,
-        ring,
-        total,
-        anchor.len(),
-        pages.len(),
-        backups.len(),
-        logs.len(),
-        work.len(),
-    );
-    if first != 0 {
-        return no_plan(first);
-    }
-    let found = find_slot(work, count, total, page, slot);
-    let entry = find_entry(work, disks, &tails, number);
-    let early = early_refusal(
-        found.refusal,
-        entry.refusal,
-        anchor.len(),
-        width,
-        found.width,
-    );
-    if early != 0 {
-        return no_plan(early);
-    }
-    let d = entry.disk as usize;
-    let late = late_refusal(found, entry, work, disks, ring, starts[d], number);
-    if late != 0 {
-        return no_plan(late);
-    }
-    make_plan(found, entry, work, disks, page)
+    let disks = carried.disks;
+    let ring = carried.ring;
+    check_lent(carried, anchor, pages, backups, logs, work)?;
+    let asked = find_slot(work, carried.pages, carried.total, page, slot);
+    let opened = find_entry(work, disks, &carried.tails, number);
+    let (found, entry) = both(asked, opened, anchor.len(), width)?;
+    let start = carried.starts[entry.disk as usize];
+    check_late(found, entry, work, disks, ring, start, number)?;
+    Ok(make_plan(found, entry, work, disks, page))
 }

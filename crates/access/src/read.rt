@@ -5,20 +5,17 @@ ghost use Rattle.model.specs.declared.Carried.{Carried};
 ghost use Rattle.model.specs.Transaction.{read_words};
 ghost use Rattle.model.specs.Call.{read, look};
 ghost use Rattle.model.specs.View.{core_of, body_of, Serves};
-ghost use Rattle.access.specs.Reading.{Told, Readable};
+ghost use Rattle.access.specs.Reading.{Readable};
 
-use crate::slots::{Slot, find_slot, is_locked, no_slot, reader_missing, slot_part};
-use frame::lent::lent_refusal;
+use crate::slots::{Slot, fails_state, find_slot, is_locked, reader_missing, slot_part};
+use frame::lent::check_lent;
+use frame::refusal::Refusal;
 use layout::anchor::ANCHOR_WORDS;
-use model::{Answer, Carried, Stage};
+use model::{Answer, Carried};
 
-// The slot that a read is for, or the number of the row that refuses the read. P, D, W and T are those of the state.
+// The slot that a read is for, if no row refuses the read.
 fn readable(
-    stage: Stage,
-    count: u64,
-    disks: u64,
-    ring: u64,
-    total: u64,
+    carried: &Carried,
     reader: u64,
     page: u64,
     slot: u64,
@@ -27,42 +24,25 @@ fn readable(
     backups: &[u64],
     logs: &[u64],
     work: &[u64],
-) -> Slot
-    ensures { (h : Carried) → Told h stage count disks ring total
-        → Readable h (world_of anchor.now pages.now backups.now logs.now work.now) reader page slot result }
+) -> Result<Slot, Refusal>
+    ensures { Readable carried.now (world_of anchor.now pages.now backups.now logs.now work.now) reader page slot result }
 {
-    let first = lent_refusal(
-        stage,
-        count,
-        disks,
-        ring,
-        total,
-        anchor.len(),
-        pages.len(),
-        backups.len(),
-        logs.len(),
-        work.len(),
-    );
-    if first != 0 {
-        return no_slot(first);
-    }
-    let found = find_slot(work, count, total, page, slot);
-    if found.refusal == 1 {
-        return no_slot(1);
+    check_lent(carried, anchor, pages, backups, logs, work)?;
+    let asked = find_slot(work, carried.pages, carried.total, page, slot);
+    if fails_state(asked) {
+        return Err(Refusal::Stage);
     }
     if anchor.len() != ANCHOR_WORDS {
-        return no_slot(2);
+        return Err(Refusal::AnchorLength);
     }
-    if found.refusal != 0 {
-        return no_slot(8);
-    }
+    let found = asked?;
     if reader_missing(work, reader) {
-        return no_slot(9);
+        return Err(Refusal::NotOpen);
     }
-    if is_locked(work, disks, found.at, reader) {
-        return no_slot(11);
+    if is_locked(work, carried.disks, found.at, reader) {
+        return Err(Refusal::Held);
     }
-    found
+    Ok(found)
 }
 
 pub fn read_answer(
@@ -79,32 +59,18 @@ pub fn read_answer(
     ensures { Serves (look (read reader page slot)) carried (world_of anchor.now pages.now backups.now logs.now work.now)
         (record { answer = result; carried = carried }) 0 (world_of anchor.now pages.now backups.now logs.now work.now) }
 {
-    let stage = carried.stage;
-    let found = readable(
-        stage,
-        carried.pages,
-        carried.disks,
-        carried.ring,
-        carried.total,
-        reader,
-        page,
-        slot,
-        anchor,
-        pages,
-        backups,
-        logs,
-        work,
-    );
-    if found.refusal != 0 {
-        return Answer::Refused {
-            number: found.refusal,
+    match readable(
+        &carried, reader, page, slot, anchor, pages, backups, logs, work,
+    ) {
+        Ok(_) => Answer::Finished {
+            stores: 0,
+            value: 0,
+        },
+        Err(refusal) => Answer::Refused {
+            number: refusal.number(),
             first: 0,
             second: 0,
-        };
-    }
-    Answer::Finished {
-        stores: 0,
-        value: 0,
+        },
     }
 }
 
@@ -122,24 +88,10 @@ pub fn read<'a>(
 ) -> &'a [u64]
     ensures { result.now ≡ read_words (core_of carried work.now) (body_of (world_of anchor.now pages.now backups.now logs.now work.now)) reader page slot }
 {
-    let stage = carried.stage;
-    let found = readable(
-        stage,
-        carried.pages,
-        carried.disks,
-        carried.ring,
-        carried.total,
-        reader,
-        page,
-        slot,
-        anchor,
-        pages,
-        backups,
-        logs,
-        work,
-    );
-    if found.refusal != 0 {
+    let Ok(found) = readable(
+        &carried, reader, page, slot, anchor, pages, backups, logs, work,
+    ) else {
         return &pages[0..0];
-    }
+    };
     slot_part(pages, found.at, found.width)
 }

@@ -7,28 +7,26 @@ ghost use Rattle.model.specs.State.{in_table};
 ghost use Rattle.model.specs.Causes.{reader_not_open};
 ghost use Rattle.model.specs.View.{head_words, own_work, core_of};
 ghost use Rattle.frame.specs.Fits.{page_within};
+ghost use Rattle.frame.specs.Refusal.{row_in};
 ghost use Rattle.access.specs.Slots.{Finds};
 
+use frame::refusal::Refusal;
 use head::places::{BASES_AT, HEAD_WORDS, SLOTS_AT, WIDTHS_AT};
 use head::table::is_open;
 use layout::memory::owner_place;
 
-// The number of the row that refuses a slot, 0 where none does; then its first word in the page memory, and its width.
+// Its first word in the page memory, and its width.
 #[derive(Clone, Copy)]
 pub struct Slot {
-    pub refusal: u64,
     pub at: usize,
     pub width: usize,
 }
 
-pub fn no_slot(refusal: u64) -> Slot
-    ensures { result.refusal ≡ refusal }
+// Row 1 refuses it. That is asked before the anchor's length, and what else refuses it behind.
+pub fn fails_state<T: Copy>(asked: Result<T, Refusal>) -> bool
+    ensures { result ≡ eqb (row_in asked) 1 }
 {
-    Slot {
-        refusal,
-        at: 0,
-        width: 0,
-    }
+    matches!(asked, Err(Refusal::Stage))
 }
 
 // A page of any numbers. A product of 1 or more has both its factors 1 or more.
@@ -36,49 +34,45 @@ fn page_fits(slots: u64, width: u64, base: u64, total: u64) -> bool
     requires { total ≤ 8192 }
     ensures { result ≡ page_within slots width base total }
 {
-    if slots > 128 {
-        return false;
-    }
-    if width > 32 {
+    if slots > 128 || width > 32 || base > total {
         return false;
     }
     let words = slots * width;
-    if words == 0 {
-        return false;
-    }
-    if words > 128 {
-        return false;
-    }
-    if base > total {
+    if words == 0 || words > 128 {
         return false;
     }
     base + words <= total
 }
 
 // Row 8, and what row 1 asks of the page of a slot that is there; P and T are the state's.
-pub fn find_slot(work: &[u64], pages: u64, total: u64, page: u64, slot: u64) -> Slot
+pub fn find_slot(
+    work: &[u64],
+    pages: u64,
+    total: u64,
+    page: u64,
+    slot: u64,
+) -> Result<Slot, Refusal>
     requires { (pages ≤ 64) × (total ≤ 8192) × (head_words ≤ length work.now) }
     ensures { (h : Carried) → own_work h work.now ≡ true → h.pages ≡ pages → h.total ≡ total
         → Finds (core_of h work.now) page slot result }
 {
     if page >= pages {
-        return no_slot(8);
+        return Err(Refusal::OutOfRange);
     }
     let i = page as usize;
     let slots = work[SLOTS_AT + i];
     if slot >= slots {
-        return no_slot(8);
+        return Err(Refusal::OutOfRange);
     }
     let width = work[WIDTHS_AT + i];
     let base = work[BASES_AT + i];
     if !page_fits(slots, width, base, total) {
-        return no_slot(1);
+        return Err(Refusal::Stage);
     }
-    Slot {
-        refusal: 0,
+    Ok(Slot {
         at: (base + slot * width) as usize,
         width: width as usize,
-    }
+    })
 }
 
 // Held by a transaction other than this one; D is the state's.
@@ -89,10 +83,7 @@ pub fn is_locked(work: &[u64], disks: u64, at: usize, number: u64) -> bool
         && not (eqb (owner_of (core_of h work.now).sizes (drop head_words work.now) at) number)) }
 {
     let owner = work[HEAD_WORDS + owner_place(disks, at)];
-    if owner == number {
-        return false;
-    }
-    is_open(work, owner)
+    owner != number && is_open(work, owner)
 }
 
 // A reader with a number that is not open; reader 0 has no transaction.
@@ -100,10 +91,7 @@ pub fn reader_missing(work: &[u64], reader: u64) -> bool
     requires { head_words ≤ length work.now }
     ensures { (h : Carried) → own_work h work.now ≡ true → result ≡ reader_not_open (core_of h work.now) reader }
 {
-    if reader == 0 {
-        return false;
-    }
-    !is_open(work, reader)
+    reader != 0 && !is_open(work, reader)
 }
 
 // The slot's words in the page memory.

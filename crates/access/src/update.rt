@@ -14,7 +14,6 @@ use frame::home::home_at;
 use head::places::HEAD_WORDS;
 use head::table::{enter, set_fill};
 use model::{Carried, Handed};
-use words::saturating_sub;
 
 // The head after an update whose log then ends with so many buffered words.
 fn count_update(work: &mut [u64], plan: Plan, number: u64, fill: u64)
@@ -51,17 +50,8 @@ pub fn update(
     ensures { Serves (update number page slot value.now budget.old) carried (world_of anchor.now pages.old backups.now logs.old work.old)
         result budget.new (world_of anchor.now pages.new backups.now logs.new work.new) }
 {
-    let stage = carried.stage;
-    let starts = carried.starts;
-    let tails = carried.tails;
-    let plan = plan_update(
-        stage,
-        carried.pages,
-        carried.disks,
-        carried.ring,
-        carried.total,
-        starts,
-        tails,
+    let plan = match plan_update(
+        &carried,
         number,
         page,
         slot,
@@ -71,10 +61,10 @@ pub fn update(
         backups,
         logs,
         work,
-    );
-    if plan.refusal != 0 {
-        return refused(carried, plan.refusal);
-    }
+    ) {
+        Ok(plan) => plan,
+        Err(refusal) => return refused(carried, refusal),
+    };
     let before = *budget;
     let home = home_at(carried.ring, plan.disk, plan.tail, plan.fill);
     let head = Head {
@@ -85,21 +75,20 @@ pub fn update(
         copy: plan.copy,
     };
     let body = &mut work[HEAD_WORDS..];
-    let changed = log_and_set(
+    let Some(changed) = log_and_set(
         home, head, plan.at, plan.owner, value, pages, logs, body, budget,
-    );
-    let stores = saturating_sub(before, *budget);
-    if !changed.logged.finished {
-        return cut(stores);
-    }
-    count_update(work, plan, number, changed.logged.fill);
+    ) else {
+        return cut(before.saturating_sub(*budget));
+    };
+    let stores = before.saturating_sub(*budget);
+    count_update(work, plan, number, changed.tip.fill);
     // most updates flush nothing
-    if changed.logged.tail == plan.tail {
+    if changed.tip.tail == plan.tail {
         return finished(carried, stores, changed.ones);
     }
     let d = plan.disk as usize;
     let mut moved = carried.tails;
-    moved[d] = changed.logged.tail;
+    moved[d] = changed.tip.tail;
     finished(
         Carried {
             tails: moved,

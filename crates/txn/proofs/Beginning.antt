@@ -1,4 +1,5 @@
 -- Begin: which row applies, by what the code tests, and the words that it leaves in the head.
+use Rattle.std.specs.Prelude.{Option, None, Some, MatchOption}
 use mathlib.Core.Path.{◌≡◌, refl, sym, ap, ◌∙◌}
 use mathlib.Core.List.{List, [], ◌∷◌, ◌++◌}
 use mathlib.Core.Bool.{Bool, true, false, ◌&&◌, ◌||◌}
@@ -126,6 +127,11 @@ pub idlest_words : (h : Carried) (work : List ℕ) → own_work h work ≡ true 
     → idlest_in set (state_of disks ring (logs_of starts tails (part head_fills 8 work)) (sums_of (part head_sums 8 work))) ≡ idlest (core_of h work) class 2
 idlest_words h work own class disks ring starts tails set =
     rw (← disks, ← ring, ← starts, ← tails, set, own_view h work own) (idlest_parts (core_in h work) class)
+
+-- a disk that is chosen, or none, by another number that is the same
+pub chosen_same : (disk : Option ℕ) {n m : ℕ} → n ≡ m → MatchOption disk (n ≡ no_disk) (λ d. d ≡ n) → MatchOption disk (m ≡ no_disk) (λ d. d ≡ m)
+chosen_same None same told = sym same ∙ told
+chosen_same (Some d) same told = told ∙ same
 
 -- The work memory after a begin.
 pub begun_words : (class : ℕ) (h : Carried) (work : List ℕ) → own_work h work ≡ true → {place disk sum : ℕ} → place ≡ place_of (core_of h work).table 0

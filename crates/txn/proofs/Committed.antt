@@ -1,4 +1,5 @@
 -- A commit's task: an append and a flush under one budget, and the state after them.
+use Rattle.std.specs.Prelude.{None, Some}
 use mathlib.Core.Path.{◌≡◌, refl, sym, ap}
 use mathlib.Core.Bool.{Bool, true, false}
 use Prim.Native.Nat.{ℕ, ◌+◌, ◌<◌}
@@ -17,7 +18,7 @@ use Rattle.model.specs.Append.{append_if, append, flush}
 use Rattle.model.specs.Transaction.{disk_of, commit_task}
 use Rattle.device.specs.Ran.{Ran}
 use Rattle.device.proofs.Ran.{ran_then, ran_cut, ran_whole}
-use Rattle.disk_log.specs.declared.write.Logged.{Logged}
+use Rattle.disk_log.specs.declared.write.Tip.{Tip}
 use Rattle.disk_log.specs.Write.{Appends}
 use Rattle.frame.specs.Home.{with_disk}
 use Rattle.txn.specs.Tasks.{closing}
@@ -40,19 +41,19 @@ unfolding encode
 close_length kind number = refl
 
 -- The closing record and the flush, one after the other.
-module _ (s : Sizes) (l : Logs) (w v : World) (disk number : ℕ) {budget rest : ℕ} {r : Logged}
-    (did : Appends budget rest s l disk (encode (close commit_kind number)) w v r) where
+module _ (s : Sizes) (l : Logs) (w v : World) (disk number : ℕ) {budget rest : ℕ} where
   -- the append is cut
-  pub closing_cut : r.finished ≡ false → Ran budget rest (closing s l w disk number) w v false
+  pub closing_cut : Appends budget rest s l disk (encode (close commit_kind number)) w v None → Ran budget rest (closing s l w disk number) w v false
   unfolding closing
-  closing_cut cut = ran_cut did.ran _ cut
+  closing_cut did = ran_cut did.ran _ refl
 
   -- it is whole, and a flush of what it left follows
-  pub closing_flushed : r.finished ≡ true → {last : ℕ} {u : World} {whole : Bool}
+  pub closing_flushed : {tip : Tip} → Appends budget rest s l disk (encode (close commit_kind number)) w v (Some tip)
+      → {last : ℕ} {u : World} {whole : Bool}
       → Ran rest last (flush s (append s l w.work disk (encode (close commit_kind number))).logs v.work disk) v u whole
       → Ran budget last (closing s l w disk number) w u whole
   unfolding closing
-  closing_flushed finished flushes = ran_then did.ran _ finished (rw (ran_whole did.ran finished) flushes)
+  closing_flushed did flushes = ran_then did.ran _ refl (rw (ran_whole did.ran refl) flushes)
 
 -- The state after a commit: its disk's log ends two words further on, and nothing of it is buffered.
 pub committed_core : (c : Core) (w : World) (number : ℕ) → disk_of c number < length c.logs.tails → disk_of c number < length c.logs.fills

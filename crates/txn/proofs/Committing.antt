@@ -31,7 +31,7 @@ use Rattle.device.specs.Ran.{Ran, with_slices}
 use Rattle.disk_log.specs.declared.write.Home.{Home}
 use Rattle.disk_log.specs.Write.{Within as InPlace, Lent}
 use Rattle.frame.specs.declared.entry.Entry.{Entry}
-use Rattle.frame.specs.Entry.{EntryOf, Entered}
+use Rattle.frame.specs.Entry.{EntryOf, Entered, after_anchor, AfterAnchor}
 use Rattle.frame.specs.Checks.{verdict_of}
 use Rattle.frame.specs.Handed.{finished_to, cut_to}
 use Rattle.frame.specs.Home.{home_of, with_disk}
@@ -40,7 +40,12 @@ use Rattle.frame.proofs.FirstChecks.{Ready, lent_refused, lent_passed, lent_read
 use Rattle.frame.proofs.Fitting.{Placed, placed}
 use Rattle.frame.proofs.Homes.{home_fits_lem, lent_there, disk_there}
 use Rattle.frame.proofs.Shown.{shown_whole, shown_cut}
-use Rattle.txn.specs.Tasks.{closing, closed, commit_refusal}
+use Rattle.txn.specs.Tasks.{closing, closed}
+use Rattle.txn.specs.Opened.{Opened, Opens}
+use Rattle.frame.specs.declared.refusal.Refusal.{Refusal}
+use Rattle.frame.specs.Refusal.{number_of}
+use Rattle.frame.proofs.Refusals.{numbered, ok_same, err_same}
+use Rattle.std.specs.Prelude.{Result, Ok, Err}
 use Rattle.txn.proofs.Committed.{committed_core}
 
 -- The rows: 1, 2 and 9, by what is found of the transaction.
@@ -65,9 +70,9 @@ module _ (h : Carried) (w : World) (number : ℕ) {r : ℕ}
     commit_refused some = lent_refused h w answer some (home_fits number c) (row 9 (not_open c number) ∷ [])
 
     module _ (none : r ≡ 0) {entry : ℕ} (found : entry ≡ cond (is_open c.table number) (cond (place_fits (place_of c.table number) c) 0 1) 9)
-        {q : ℕ} (later : q ≡ commit_refusal entry (length w.anchor)) where
+        {q : ℕ} (later : q ≡ after_anchor entry (length w.anchor)) where
       by_rows : verdict (commit_rows c (body_of w) number) ≡ verdict_of q
-      unfolding commit_rows home_fits not_open anchor_wrong commit_refusal
+      unfolding commit_rows home_fits not_open anchor_wrong after_anchor
       by_rows =
           lent_passed h w answer none (home_fits number c) (row 9 (not_open c number) ∷ [])
           ∙ by_entry (is_open c.table number) (place_fits (place_of c.table number) c) (eqb (length w.anchor) anchor_words) entry found
@@ -79,15 +84,32 @@ module _ (h : Carried) (w : World) (number : ℕ) {r : ℕ}
       pub commit_accepted : q ≡ 0 → verdict (commit_rows c (body_of w) number) ≡ accepted
       commit_accepted last = by_rows ∙ rw (eq-eqb q 0 last) refl
 
-      -- then the transaction is open, and on a disk that it fits
-      pub entry_accepted : q ≡ 0 → entry ≡ 0
-      unfolding commit_refusal
-      entry_accepted last = go (eqb entry 1) (eqb (length w.anchor) anchor_words) (sym later ∙ last)
-        where
-          go : (a b : Bool) → ◌≡◌ {A = ℕ} (cond a 1 (cond b entry 2)) 0 → entry ≡ 0
-          go true b z = absurd (omega (arith, z))
-          go false true z = z
-          go false false z = absurd (omega (arith, z))
+-- the first checks refuse
+pub unopened : (h : Carried) (w : World) (number : ℕ) {x : Refusal}
+    → number_of x ≡ lent_refusal (when_serving h.stage) h.pages h.disks h.ring h.total (length w.anchor) (length w.pages) (length w.backups) (length w.logs) (length w.work)
+    → Opens h w number (Err x)
+unopened h w number {x} answer =
+    record { refused = λ y is. rw (← err_same is) (commit_refused h w number answer (numbered x)); ready = λ e is. cc }
+
+-- they do not: by what is found, and the anchor
+pub opened : (h : Carried) (w : World) (number : ℕ)
+    → 0 ≡ lent_refusal (when_serving h.stage) h.pages h.disks h.ring h.total (length w.anchor) (length w.pages) (length w.backups) (length w.logs) (length w.work)
+    → {found : Result Entry Refusal} → (own_work h w.work ≡ true → Entered (core_of h w.work) number found)
+    → (r : Result Entry Refusal) → AfterAnchor found (length w.anchor) r → Opens h w number r
+opened h w number lent entered (Err x) after =
+    let there = entered (own_ready h w (lent_ready h w lent refl)) in
+    record {
+      refused = λ y is. rw (← err_same is) (commit_row h w number lent refl there.refusal after.row (numbered x));
+      ready = λ e is. cc;
+    }
+opened h w number lent entered (Ok e) after =
+    let there = entered (own_ready h w (lent_ready h w lent refl)) in
+    record {
+      refused = λ y is. cc;
+      ready = λ u is.
+          rw (← ok_same is)
+          (record { lent = lent; found = there.ready e (after.same e refl); accepts = commit_accepted h w number lent refl there.refusal after.row refl });
+    }
 
 -- What a commit leaves: its disk's tail by value, and words of the head.
 abbrev tailed : Carried → (disk tail : ℕ) → Carried
@@ -116,27 +138,21 @@ pub record Standing (h : Carried) (w : World) (number : ℕ) (entry : Entry) : T
   pub low : entry.disk < 8
   pub accepts : verdict (commit_rows (core_of h w.work) (body_of w) number) ≡ accepted
 
-pub commit_standing : (h : Carried) (w : World) (number : ℕ) {r : ℕ}
-    → r ≡ lent_refusal (when_serving h.stage) h.pages h.disks h.ring h.total (length w.anchor) (length w.pages) (length w.backups) (length w.logs) (length w.work)
-    → r ≡ 0 → {entry : Entry} → (own_work h w.work ≡ true → Entered (core_of h w.work) number entry)
-    → {q : ℕ} → q ≡ commit_refusal entry.refusal (length w.anchor) → q ≡ 0 → Standing h w number entry
+pub standing : (h : Carried) (w : World) (number : ℕ) {entry : Entry} → Opened h w number entry → Standing h w number entry
 unfolding core_of
-commit_standing h w number answer none {entry} entered later last =
-    let ready = lent_ready h w answer none in
-    let own = own_ready h w ready in
-    let refusal = (entered own).refusal in
-    let found = (entered own).ready (entry_accepted h w number answer none refusal later last) in
-    let fits = placed found.fits in
+standing h w number at =
+    let ready = lent_ready h w at.lent refl in
+    let fits = placed at.found.fits in
     record {
       ready = ready;
-      own = own;
-      found = found;
+      own = own_ready h w ready;
+      found = at.found;
       placed = fits;
       low = omega (arith, fits.below, ready.counts.disks_max);
-      accepts = commit_accepted h w number answer none refusal later last;
+      accepts = at.accepts;
     }
 
-module _ (h : Carried) (w : World) (number budget : ℕ) {entry : Entry} (standing : Standing h w number entry) where
+module _ (h : Carried) (w : World) (number budget : ℕ) {entry : Entry} (stands : Standing h w number entry) where
   abbrev core : Core
   core = core_of h w.work
 
@@ -148,18 +164,18 @@ module _ (h : Carried) (w : World) (number budget : ℕ) {entry : Entry} (standi
       → ((s : Sizes) (l : Logs) → s.ring ≡ h.ring → tail_of l entry.disk ≡ entry.tail → fill_of l entry.disk ≡ entry.fill → home ≡ home_of s l entry.disk)
       → home ≡ there
   home_standing e =
-      e core.sizes core.logs (ap (λ (x : Carried). x.ring) (carried_back h w.work)) (sym standing.found.tail) (sym standing.found.fill)
+      e core.sizes core.logs (ap (λ (x : Carried). x.ring) (carried_back h w.work)) (sym stands.found.tail) (sym stands.found.fill)
 
   pub close_fits : {home : Home} → home ≡ there → {memory : List ℕ} → memory ≡ drop head_words w.work
       → InPlace home w.logs memory × (home.tail + home.fill + 2 ≤ limit)
   unfolding home_of end_of core_of log_words disk_at work_words owner_at copy_at buffer_at
   close_fits e lent =
-      let p = standing.placed in
-      let tail = standing.found.tail in
-      let fill = standing.found.fill in
-      let long = standing.ready.work in (
+      let p = stands.placed in
+      let tail = stands.found.tail in
+      let fill = stands.found.fill in
+      let long = stands.ready.work in (
         rw (e, lent)
-            (home_fits_lem core.sizes h.total core.logs w.logs (drop head_words w.work) entry.disk (omega (arith, standing.ready.counts.ring_min)) standing.ready.logs
+            (home_fits_lem core.sizes h.total core.logs w.logs (drop head_words w.work) entry.disk (omega (arith, stands.ready.counts.ring_min)) stands.ready.logs
             (length-drop head_words w.work ∙ omega (arith, long)) p.below (rw (← fill) p.fill_small) (omega (arith, tail, fill, p.end_small))),
         rw e (omega (arith, tail, fill, p.end_small, p.own_min, p.own_part)),
       )
@@ -167,7 +183,7 @@ module _ (h : Carried) (w : World) (number budget : ℕ) {entry : Entry} (standi
   module _ (eight : length h.tails ≡ 8) where
     disk_found : entry.disk ≡ disk_of core number
     unfolding disk_of
-    disk_found = standing.found.disk ∙ ap (disk_at_place core.table) standing.found.place
+    disk_found = stands.found.disk ∙ ap (disk_at_place core.table) stands.found.place
 
     tails_eight : length core.logs.tails ≡ 8
     tails_eight = ap (λ (x : Carried). length x.tails) (carried_back h w.work) ∙ eight
@@ -181,8 +197,8 @@ module _ (h : Carried) (w : World) (number budget : ℕ) {entry : Entry} (standi
         (with_reserved (with_place core.table entry.place 0 0 0 0) entry.disk (entry.sum - entry.reserved))
     unfolding without disk_of
     after_commit =
-        let found = standing.found in
-        let low = standing.low in
+        let found = stands.found in
+        let low = stands.low in
         rw (found.sum, found.tail, found.fill, found.reserved, found.disk, found.place)
         (committed_core core (body_of w) number (omega (arith, disk_found, tails_eight, low)) (omega (arith, disk_found, fills_eight, low)))
 
@@ -202,7 +218,7 @@ module _ (h : Carried) (w : World) (number budget : ℕ) {entry : Entry} (standi
       stored : Ran budget rest (commit_task core (body_of w) number).actions (body_of w) (with_slices (body_of w) logs body) whole
       unfolding commit_task closing body_of
       stored =
-          let low = standing.low in
+          let low = stands.low in
           let disk = disk_there core.sizes core.logs entry.disk same in
           rw (← disk_found, ← disk)
           (did core.sizes core.logs (body_of w) (lent_there core.sizes core.logs entry.disk same (body_of w) refl (sym lent))
@@ -211,18 +227,18 @@ module _ (h : Carried) (w : World) (number budget : ℕ) {entry : Entry} (standi
       pub commit_cut : whole ≡ false → {work : List ℕ} → work ≡ take head_words w.work ++ body → {reply : Handed} → reply ≡ cut_to (budget - rest)
           → Serves (commit number budget) h w reply rest (world_of w.anchor w.pages w.backups logs work)
       unfolding body_of
-      commit_cut cut back reply = shown_cut (commit number budget) h w standing.accepts (rw cut at stored) back reply
+      commit_cut cut back reply = shown_cut (commit number budget) h w stands.accepts (rw cut at stored) back reply
 
-      pub commit_whole : whole ≡ true → {stands : List ℕ} → stands ≡ take head_words w.work ++ body
-          → {work : List ℕ} → work ≡ put_words (closed entry.place entry.disk (entry.sum - entry.reserved)) stands
+      pub commit_whole : whole ≡ true → {kept : List ℕ} → kept ≡ take head_words w.work ++ body
+          → {work : List ℕ} → work ≡ put_words (closed entry.place entry.disk (entry.sum - entry.reserved)) kept
           → {reply : Handed} → reply ≡ finished_to (tailed h entry.disk (entry.tail + entry.fill + 2)) (budget - rest) 0
           → Serves (commit number budget) h w reply rest (world_of w.anchor w.pages w.backups logs work)
       unfolding commit_task body_of Within with_log core_of
       commit_whole all back words reply =
-          let low = standing.low in
-          let place = standing.found.low in
-          shown_whole (commit number budget) h w standing.accepts (rw all at stored) (serving_ready h w standing.ready)
+          let low = stands.low in
+          let place = stands.found.low in
+          shown_whole (commit number budget) h w stands.accepts (rw all at stored) (serving_ready h w stands.ready)
           (words ∙ ap (put_words (closed entry.place entry.disk (entry.sum - entry.reserved))) back
-          ∙ head_put h w.work body standing.own (closed entry.place entry.disk (entry.sum - entry.reserved))
+          ∙ head_put h w.work body stands.own (closed entry.place entry.disk (entry.sum - entry.reserved))
           (low, (place, (place, (place, (place, (low, tt)))))) (commit_task core (body_of w) number).core lists_after)
           carried_after reply

@@ -1,2 +1,3 @@
 pub mod Tasks
+pub mod Opened
 pub mod ClassChecks

@@ -1,15 +1,16 @@
 // Begin: the next number, and the idlest disk with log room that serves the class.
-ghost use Rattle.std.specs.Prelude.{◌≡◌, true, ℕ, ◌≤◌, length};
+ghost use Rattle.std.specs.Prelude.{◌≡◌, MatchOption, IfSome, true, ℕ, ◌≤◌, ◌<◌, length};
 ghost use Rattle.model.specs.declared.Carried.{Carried};
 ghost use Rattle.model.specs.World.{world_of};
 ghost use Rattle.model.specs.Classes.{set_for};
-ghost use Rattle.model.specs.Room.{idlest};
+ghost use Rattle.model.specs.Room.{no_disk, idlest};
 ghost use Rattle.model.specs.Call.{begin};
 ghost use Rattle.model.specs.View.{head_words, own_work, core_of, Serves};
 
 use classes::kept::set_for;
 use frame::handed::{finished, refused};
-use frame::lent::lent_refusal;
+use frame::lent::check_lent;
+use frame::refusal::Refusal;
 use head::places::{FILLS_AT, POSITIONS_AT, SUMS_AT};
 use head::table::{enter, place_of};
 use layout::anchor::ANCHOR_WORDS;
@@ -17,7 +18,7 @@ use model::{Carried, Handed};
 use table::place::CLOSE_WORDS;
 use table::room::{LIMIT, idlest};
 
-// The disk of a new transaction, by what is carried and by the head's words of the disks; 8 where none of the set has room.
+// The disk of a new transaction, by what is carried and by the head's words of the disks.
 fn idlest_disk(
     disks: u64,
     ring: u64,
@@ -25,10 +26,12 @@ fn idlest_disk(
     tails: [u64; 8],
     set: u64,
     work: &[u64],
-) -> usize
+) -> Option<usize>
     requires { (disks ≤ 8) × (head_words ≤ length work.now) }
-    ensures { ((h : Carried) (class : ℕ) → own_work h work.now ≡ true → h.disks ≡ disks → h.ring ≡ ring → h.starts ≡ starts → h.tails ≡ tails
-        → set ≡ set_for h.classes class → result ≡ idlest (core_of h work.now) class 2) × (result ≤ 8) }
+    ensures low { IfSome result (λ disk. disk < no_disk) }
+    ensures chosen { (h : Carried) (class : ℕ) → own_work h work.now ≡ true → h.disks ≡ disks → h.ring ≡ ring → h.starts ≡ starts → h.tails ≡ tails
+        → set ≡ set_for h.classes class
+        → MatchOption result (idlest (core_of h work.now) class 2 ≡ no_disk) (λ disk. disk ≡ idlest (core_of h work.now) class 2) }
 {
     let fills = &work[FILLS_AT..SUMS_AT];
     let sums = &work[SUMS_AT..POSITIONS_AT];
@@ -47,40 +50,25 @@ pub fn begin(
     ensures { Serves (begin class) carried (world_of anchor.now pages.now backups.now logs.now work.old)
         result 0 (world_of anchor.now pages.now backups.now logs.now work.new) }
 {
-    let stage = carried.stage;
-    let refusal = lent_refusal(
-        stage,
-        carried.pages,
-        carried.disks,
-        carried.ring,
-        carried.total,
-        anchor.len(),
-        pages.len(),
-        backups.len(),
-        logs.len(),
-        work.len(),
-    );
-    if refusal != 0 {
+    if let Err(refusal) = check_lent(&carried, anchor, pages, backups, logs, work) {
         return refused(carried, refusal);
     }
     if anchor.len() != ANCHOR_WORDS {
-        return refused(carried, 2);
+        return refused(carried, Refusal::AnchorLength);
     }
-    let place = place_of(work, 0);
-    if place >= 16 {
-        return refused(carried, 12);
-    }
+    let Some(place) = place_of(work, 0) else {
+        return refused(carried, Refusal::TableFull);
+    };
     let number = carried.next;
     if number >= LIMIT {
-        return refused(carried, 13);
+        return refused(carried, Refusal::Spent);
     }
     let starts = carried.starts;
     let tails = carried.tails;
     let set = set_for(carried.classes, class);
-    let disk = idlest_disk(carried.disks, carried.ring, starts, tails, set, work);
-    if disk >= 8 {
-        return refused(carried, 14);
-    }
+    let Some(disk) = idlest_disk(carried.disks, carried.ring, starts, tails, set, work) else {
+        return refused(carried, Refusal::NoRoom);
+    };
     let sum = work[SUMS_AT + disk] + CLOSE_WORDS;
     enter(work, place, number, disk, 0, CLOSE_WORDS, sum);
     let next = number + 1;

@@ -9,28 +9,35 @@ ghost use Rattle.model.specs.View.{head_words, Serves};
 ghost use Rattle.model.specs.Fields.{put_words};
 ghost use Rattle.device.specs.Ran.{Ran, with_slices};
 ghost use Rattle.disk_log.specs.Write.{Within, Lent};
-ghost use Rattle.txn.specs.Tasks.{closing, closed, commit_refusal};
+ghost use Rattle.txn.specs.Tasks.{closing, closed};
+ghost use Rattle.txn.specs.Opened.{Opens};
 
 use disk_log::kinds::{COMMIT, words_of};
 use disk_log::write::{Home, append_close, flush_disk};
-use frame::entry::find_entry;
+use frame::entry::{Entry, after_anchor, find_entry};
 use frame::handed::{cut, finished, refused};
 use frame::home::home_at;
-use frame::lent::lent_refusal;
+use frame::lent::check_lent;
+use frame::refusal::Refusal;
 use head::places::HEAD_WORDS;
 use head::table::{leave, set_fill};
-use layout::anchor::ANCHOR_WORDS;
 use model::{Carried, Handed};
-use words::saturating_sub;
 
-// Rows 1, 2 and 9, where the lengths other than the anchor's are right.
-fn commit_refusal(entry: u64, anchor: usize) -> u64
-    ensures { result ≡ commit_refusal entry anchor }
+// The transaction's entry, where none of rows 1, 2, 5 and 9 refuses.
+fn find_open(
+    carried: &Carried,
+    number: u64,
+    anchor: &[u64],
+    pages: &[u64],
+    backups: &[u64],
+    logs: &[u64],
+    work: &[u64],
+) -> Result<Entry, Refusal>
+    ensures { Opens carried.now (world_of anchor.now pages.now backups.now logs.now work.now) number result }
 {
-    if entry == 1 {
-        return 1;
-    }
-    if anchor == ANCHOR_WORDS { entry } else { 2 }
+    check_lent(carried, anchor, pages, backups, logs, work)?;
+    let found = find_entry(work, carried.disks, &carried.tails, number);
+    after_anchor(found, anchor.len())
 }
 
 // Appends the closing record to its disk's log and flushes it; true if all is stored. `work` is what lies behind the head.
@@ -47,13 +54,12 @@ fn store_close(
         → home.disk < length l.tails → home.disk < length l.fills
         → Ran budget.old budget.new (closing s l w home.disk number) w (with_slices w logs.new work.new) result }
 {
-    let added = append_close(logs, work, home, COMMIT, number, budget);
-    if !added.finished {
+    let Some(tip) = append_close(logs, work, home, COMMIT, number, budget) else {
         return false;
-    }
+    };
     let after = Home {
-        tail: added.tail,
-        fill: added.fill,
+        tail: tip.tail,
+        fill: tip.fill,
         ..home
     };
     flush_disk(logs, work, after, budget)
@@ -81,36 +87,19 @@ pub fn commit(
     ensures { Serves (commit number budget.old) carried (world_of anchor.now pages.now backups.now logs.old work.old)
         result budget.new (world_of anchor.now pages.now backups.now logs.new work.new) }
 {
-    let stage = carried.stage;
-    let refusal = lent_refusal(
-        stage,
-        carried.pages,
-        carried.disks,
-        carried.ring,
-        carried.total,
-        anchor.len(),
-        pages.len(),
-        backups.len(),
-        logs.len(),
-        work.len(),
-    );
-    if refusal != 0 {
-        return refused(carried, refusal);
-    }
-    let entry = find_entry(work, carried.disks, &carried.tails, number);
-    let row = commit_refusal(entry.refusal, anchor.len());
-    if row != 0 {
-        return refused(carried, row);
-    }
+    let entry = match find_open(&carried, number, anchor, pages, backups, logs, work) {
+        Ok(entry) => entry,
+        Err(refusal) => return refused(carried, refusal),
+    };
     let before = *budget;
     let home = home_at(carried.ring, entry.disk, entry.tail, entry.fill);
     if !store_close(home, number, logs, &mut work[HEAD_WORDS..], budget) {
-        return cut(saturating_sub(before, *budget));
+        return cut(before.saturating_sub(*budget));
     }
     let disk = entry.disk as usize;
     close_place(work, entry.place, disk, entry.sum - entry.reserved);
     let mut tails = carried.tails;
     tails[disk] = entry.tail + entry.fill + words_of(COMMIT, 0);
-    let stores = saturating_sub(before, *budget);
+    let stores = before.saturating_sub(*budget);
     finished(Carried { tails, ..carried }, stores, 0)
 }

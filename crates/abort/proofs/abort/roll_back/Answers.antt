@@ -1,31 +1,31 @@
 -- `abort::abort::roll_back` meets its contract: the updates taken back, then the closing record. Assumes nothing.
 use mathlib.Core.List.{[]}
-use borrow.Author.Tests.{not-true, not-false}
 use Rattle.model.specs.World.{world_of}
-use Rattle.model.proofs.Booleans.{true_false}
 use Rattle.abort.proofs.Tips.{tip_sized}
-use Rattle.abort.proofs.Rolled.{undone_serves, rolled_cut, rolled_whole}
+use Rattle.abort.proofs.Rolled.{undone_serves, rolled_cut, rolled_then}
 use Rattle.abort.proofs.abort.roll_back.Goals as goal
 
-pub returns-then-not-undone : goal.returns-then-not-undone
-returns-then-not-undone c =
-    let undone = c.undo_all-undone.ensures in
-    let cut = not-true _ c.if-not-undone.true in
-    record {
-      by_index = λ anchor backups. rolled_cut _ _ _ _ _ _ (undone.by_index anchor backups) cut;
-      counts = λ f. true_false f cut;
-    }
+pub returns-in_err-undone : goal.returns-in_err-undone
+returns-in_err-undone c =
+    rw c.from_residual.ensures
+    (record { by_index = λ anchor backups. rolled_cut _ _ _ _ _ _ (c.in_err-undone.ensures.by_index anchor backups); counts = tt })
 
-pub log_close-progress-requires : goal.log_close-progress-requires
-log_close-progress-requires c =
+pub log_close-requires : goal.log_close-requires
+log_close-requires c =
     let w = world_of [] c.args.pages.now [] c.args.logs.now c.args.work.now in
-    undone_serves _ _ w _ _ _ c.requires.undoable (tip_sized _ _) (c.undo_all-undone.ensures.by_index [] []) (not-false _ c.if-not-undone.false)
+    undone_serves _ _ w _ _ _ c.requires.undoable (tip_sized _ _) (c.in_ok-undone.ensures.by_index [] [])
+
+pub returns-in_err-tip : goal.returns-in_err-tip
+returns-in_err-tip c =
+    rw c.from_residual-in_err-tip.ensures
+    (record {
+      by_index = λ anchor backups. rolled_then _ _ _ _ _ _ (c.in_ok-undone.ensures.by_index anchor backups) (c.in_err-tip.ensures anchor _ backups);
+      counts = tt;
+    })
 
 pub returns : goal.returns
 returns c =
-    let undone = c.undo_all-undone.ensures in
-    let whole = not-false _ c.if-not-undone.false in
     record {
-      by_index = λ anchor backups. rolled_whole _ _ _ _ _ _ (undone.by_index anchor backups) whole (c.log_close-progress.ensures anchor _ backups);
-      counts = λ f. undone.counts whole;
+      by_index = λ anchor backups. rolled_then _ _ _ _ _ _ (c.in_ok-undone.ensures.by_index anchor backups) (c.in_ok-tip.ensures anchor _ backups);
+      counts = c.in_ok-undone.ensures.counts;
     }

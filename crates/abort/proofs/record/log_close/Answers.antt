@@ -9,8 +9,8 @@ use Rattle.abort.proofs.record.log_close.Goals as goal
 pub home_at-home-requires : goal.home_at-home-requires
 home_at-home-requires c = home_asked c.requires
 
-pub append_close-added-requires : goal.append_close-added-requires
-append_close-added-requires c =
+pub append_close-requires : goal.append_close-requires
+append_close-requires c =
     let x = c.args in
     home_lies c.requires (tip_home x.disk x.tip (small c.requires).below c.home_at-home.ensures x.sizes refl)
 
@@ -18,7 +18,7 @@ pub returns : goal.returns
 returns c =
     let x = c.args in
     let home = tip_home x.disk x.tip (small c.requires).below c.home_at-home.ensures x.sizes refl in
-    let append-close = c.append_close-added in
+    let append-close = c.append_close in
     λ anchor pages backups.
     let w = world_of anchor pages backups x.logs.now x.work.now in
-    appended x.tip (rw (disk_there _ _ _ home) at (append-close.ensures.appends _ _ w (lent_there _ _ _ home w refl refl))) _ c.advanced.ensures
+    appended x.tip (rw (disk_there _ _ _ home) at (append-close.ensures.appends _ _ w (lent_there _ _ _ home w refl refl)))

@@ -16,8 +16,8 @@ page_copy-requires c =
     let b = small pre.serving in
     (b.disks, omega (arith, b.pages, pre.in_slot.page_in), b.copies)
 
-pub append_change-added-requires : goal.append_change-added-requires
-append_change-added-requires c =
+pub append_change-requires : goal.append_change-requires
+append_change-requires c =
     let x = c.args in
     let pre = c.requires in
     (home_lies pre.serving (tip_home x.disk x.tip (small pre.serving).below c.home_at-home.ensures x.sizes refl), encodable pre.serving pre.in_slot _ _)
@@ -29,5 +29,4 @@ returns c =
     λ anchor pages backups.
     let w = world_of anchor pages backups x.logs.now x.work.now in
     rw (← c.page_copy.ensures x.sizes refl)
-    (appended x.tip (rw (disk_there _ _ _ home) at (c.append_change-added.ensures.appends _ _ w (lent_there _ _ _ home w refl refl))) _
-    c.advanced.ensures)
+    (appended x.tip (rw (disk_there _ _ _ home) at (c.append_change.ensures.appends _ _ w (lent_there _ _ _ home w refl refl))))

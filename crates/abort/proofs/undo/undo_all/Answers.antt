@@ -3,9 +3,6 @@
 use mathlib.Core.Path.{◌≡◌, sym, ◌∙◌}
 use mathlib.Core.List.{[]}
 use native.Mathlib.Omega.{arith}
-use lib.Seq.{take_all}
-use borrow.Author.Tests.{not-true, not-false}
-use Rattle.model.proofs.Booleans.{true_false}
 use Rattle.abort.proofs.Tips.{tip_sized, tip_end}
 use Rattle.abort.proofs.Disks.{small}
 use Rattle.abort.proofs.Undone.{did_lengths}
@@ -18,17 +15,13 @@ overflow_add-end c =
     let pre = c.requires in
     omega (arith, tip_end _ c.args.tip (small pre.undoable.serving).below, pre.undoable.serving.end_small)
 
-pub overflow_add-k : goal.overflow_add-k
-overflow_add-k c = let pre = c.requires in omega (arith, pre.noted.all, all_few _ _ _ _ _ _ _ _ pre.undoable)
-
 pub loop-k-init : goal.loop-k-init
 loop-k-init c =
-    let pre = c.requires in (
-      omega arith,
-      rw (take_all _ _ (all_held _ _ _ _ _ _ _ _ pre.undoable pre.noted))
-          (pending_start _ _ _ _ _ _ _ _ _ (all_takeable _ _ _ _ _ _ _ _ pre.undoable) (tip_sized _ _)),
-      rw (take_all _ _ (all_held _ _ _ _ _ _ _ _ pre.undoable pre.noted)) (omega arith),
-      omega (arith, pre.noted.all, all_few _ _ _ _ _ _ _ _ pre.undoable),
+    let pre = c.requires in
+    let held = all_held _ _ _ _ _ _ _ _ pre.undoable pre.noted c.div_ceil-groups.ensures in (
+      rw held (pending_start _ _ _ _ _ _ _ _ _ (all_takeable _ _ _ _ _ _ _ _ pre.undoable) (tip_sized _ _)),
+      rw held (omega arith),
+      omega (arith, pre.noted.all, all_few _ _ _ _ _ _ _ _ pre.undoable, c.div_ceil-groups.ensures),
     )
 
 pub overflow_mul-k : goal.overflow_mul-k
@@ -38,7 +31,7 @@ overflow_mul-k c =
     let turn = c.loop-k in
     let some = c.loop-k-test.true in
     let few = all_few _ _ _ _ _ _ _ _ ok in
-    omega (arith, few, noted.all, turn.invariant.0)
+    omega (arith, few, noted.all, turn.auto.k, c.div_ceil-groups.ensures)
 
 pub overflow_sub-notes : goal.overflow_sub-notes
 overflow_sub-notes c =
@@ -46,7 +39,7 @@ overflow_sub-notes c =
     let noted = c.requires.noted in
     let turn = c.loop-k in
     let some = c.loop-k-test.true in
-    omega (arith, turn.invariant.0, some)
+    omega (arith, turn.auto.k, c.div_ceil-groups.ensures, some)
 
 pub offset_bounds-notes-k : goal.offset_bounds-notes-k
 offset_bounds-notes-k c =
@@ -55,7 +48,7 @@ offset_bounds-notes-k c =
     let turn = c.loop-k in
     let some = c.loop-k-test.true in
     let few = all_few _ _ _ _ _ _ _ _ ok in
-    omega (arith, few, noted.all, turn.invariant.0)
+    omega (arith, few, noted.all, turn.auto.k, c.div_ceil-groups.ensures)
 
 pub bounds-notes-k : goal.bounds-notes-k
 bounds-notes-k c =
@@ -64,7 +57,7 @@ bounds-notes-k c =
     let turn = c.loop-k in
     let some = c.loop-k-test.true in
     let few = all_few _ _ _ _ _ _ _ _ ok in
-    omega (arith, few, noted.all, turn.invariant.0, some)
+    omega (arith, few, noted.all, turn.auto.k, c.div_ceil-groups.ensures, some)
 
 pub group_from-group-requires : goal.group_from-group-requires
 group_from-group-requires c =
@@ -72,59 +65,55 @@ group_from-group-requires c =
     let noted = c.requires.noted in
     let turn = c.loop-k in
     let some = c.loop-k-test.true in
-    let size = c.smaller-n.ensures in
+    let size = c.min-n.ensures in
     let ends = tip_end _ c.args.tip (small ok.serving).below in
-    let p = turn.invariant.1 in
+    let p = turn.invariant.0 in
     record {
       serving = (p.serving, omega (arith, ends, p.longer), omega (arith, size));
-      n_in_bounds = rw (← ends) (omega (arith, size, here_many _ _ _ _ _ _ _ _ ok turn.k (omega (arith, some)) p noted turn.invariant.0));
+      n_in_bounds = rw (← ends) (omega (arith, size, here_many _ _ _ _ _ _ _ _ ok turn.k (omega (arith, some)) p noted (omega (arith, turn.auto.k, c.div_ceil-groups.ensures))));
     }
 
-pub undo_group-part-requires : goal.undo_group-part-requires
-undo_group-part-requires c =
+pub undo_group-requires : goal.undo_group-requires
+undo_group-requires c =
     let ok = c.requires.undoable in
     let noted = c.requires.noted in
     let turn = c.loop-k in
     let some = c.loop-k-test.true in
     let ends = tip_end _ c.args.tip (small ok.serving).below in
     let got = rw (← ends) at c.group_from-group.ensures in
-    let size = c.smaller-n.ensures in
-    (omega (arith, got.many, size), group_takeable _ _ _ _ _ _ _ _ ok turn.k (omega (arith, some)) turn.invariant.1 noted turn.invariant.0 size got)
+    let size = c.min-n.ensures in
+    (omega (arith, got.many, size), group_takeable _ _ _ _ _ _ _ _ ok turn.k (omega (arith, some)) turn.invariant.0 noted (omega (arith, turn.auto.k, c.div_ceil-groups.ensures)) size got)
 
-pub shape_of-pages-then-not-part : goal.shape_of-pages-then-not-part
-shape_of-pages-then-not-part c =
-    (did_lengths (c.undo_group-part.ensures.by_index [] [])).pages ∙ c.loop-k.invariant.1.page_words_lem ∙ sym c.requires.undoable.page_words_lem
+pub shape_of-pages-in_err-part : goal.shape_of-pages-in_err-part
+shape_of-pages-in_err-part c =
+    (did_lengths (c.undo_group.ensures.by_index [] [])).pages ∙ c.loop-k.invariant.0.page_words_lem ∙ sym c.requires.undoable.page_words_lem
 
-pub shape_of-logs-then-not-part : goal.shape_of-logs-then-not-part
-shape_of-logs-then-not-part c =
-    (did_lengths (c.undo_group-part.ensures.by_index [] [])).logs ∙ c.loop-k.invariant.1.serving.log_words_lem ∙ sym c.requires.undoable.serving.log_words_lem
+pub shape_of-logs-in_err-part : goal.shape_of-logs-in_err-part
+shape_of-logs-in_err-part c =
+    (did_lengths (c.undo_group.ensures.by_index [] [])).logs ∙ c.loop-k.invariant.0.serving.log_words_lem ∙ sym c.requires.undoable.serving.log_words_lem
 
-pub shape_of-work-then-not-part : goal.shape_of-work-then-not-part
-shape_of-work-then-not-part c =
-    (did_lengths (c.undo_group-part.ensures.by_index [] [])).work ∙ c.loop-k.invariant.1.serving.work_words_lem ∙ sym c.requires.undoable.serving.work_words_lem
+pub shape_of-work-in_err-part : goal.shape_of-work-in_err-part
+shape_of-work-in_err-part c =
+    (did_lengths (c.undo_group.ensures.by_index [] [])).work ∙ c.loop-k.invariant.0.serving.work_words_lem ∙ sym c.requires.undoable.serving.work_words_lem
 
-pub returns-then-not-part : goal.returns-then-not-part
-returns-then-not-part c =
+pub returns-in_err-part : goal.returns-in_err-part
+returns-in_err-part c =
     let ok = c.requires.undoable in
     let noted = c.requires.noted in
     let turn = c.loop-k in
     let some = c.loop-k-test.true in
     let ends = tip_end _ c.args.tip (small ok.serving).below in
     let got = rw (← ends) at c.group_from-group.ensures in
-    let size = c.smaller-n.ensures in
-    let part = c.undo_group-part.ensures in
-    let cut = not-true _ c.if-not-part.true in
-    record {
+    let size = c.min-n.ensures in
+    rw c.from_residual.ensures
+    (record {
       by_index = λ anchor backups.
-          group_cut _ _ _ _ _ _ _ _ ok turn.k (omega (arith, some)) turn.invariant.1 noted turn.invariant.0 size got anchor backups (part.by_index anchor backups) cut;
-      counts = λ f. true_false f cut;
-    }
+          group_cut _ _ _ _ _ _ _ _ ok turn.k (omega (arith, some)) turn.invariant.0 noted (omega (arith, turn.auto.k, c.div_ceil-groups.ensures)) size got anchor backups (c.in_err-part.ensures.by_index anchor backups);
+      counts = tt;
+    })
 
 pub overflow_add-ones : goal.overflow_add-ones
-overflow_add-ones c = omega (arith, c.loop-k.invariant.3, c.loop-k-test.true, c.undo_group-part.ensures.counts.1)
-
-pub loop-k-smaller : goal.loop-k-smaller
-loop-k-smaller c = let some = c.loop-k-test.true in omega arith
+overflow_add-ones c = omega (arith, c.loop-k.invariant.2, c.loop-k-test.true, c.in_ok-part.ensures.counts.1)
 
 pub loop-k-preserved : goal.loop-k-preserved
 loop-k-preserved c =
@@ -134,23 +123,21 @@ loop-k-preserved c =
     let some = c.loop-k-test.true in
     let ends = tip_end _ c.args.tip (small ok.serving).below in
     let got = rw (← ends) at c.group_from-group.ensures in
-    let size = c.smaller-n.ensures in
-    let part = c.undo_group-part.ensures in
-    let whole = not-false _ c.if-not-part.false in (
-      omega (arith, turn.invariant.0),
-      group_step _ _ _ _ _ _ _ _ ok turn.k (omega (arith, some)) turn.invariant.1 noted turn.invariant.0 size got whole part.by_index,
-      group_counted _ _ _ _ _ _ _ _ ok turn.k (omega (arith, some)) turn.invariant.1 noted turn.invariant.0 size got turn.ones turn.invariant.2 (part.counts.0 whole),
-      omega (arith, turn.invariant.3, some, part.counts.1),
+    let size = c.min-n.ensures in
+    let part = c.in_ok-part.ensures in (
+      group_step _ _ _ _ _ _ _ _ ok turn.k (omega (arith, some)) turn.invariant.0 noted (omega (arith, turn.auto.k, c.div_ceil-groups.ensures)) size got part.by_index,
+      group_counted _ _ _ _ _ _ _ _ ok turn.k (omega (arith, some)) turn.invariant.0 noted (omega (arith, turn.auto.k, c.div_ceil-groups.ensures)) size got turn.ones turn.invariant.1 part.counts.0,
+      omega (arith, turn.invariant.2, some, part.counts.1),
     )
 
 pub shape_of-pages : goal.shape_of-pages
-shape_of-pages c = c.loop-k.invariant.1.page_words_lem ∙ sym c.requires.undoable.page_words_lem
+shape_of-pages c = c.loop-k.invariant.0.page_words_lem ∙ sym c.requires.undoable.page_words_lem
 
 pub shape_of-logs : goal.shape_of-logs
-shape_of-logs c = c.loop-k.invariant.1.serving.log_words_lem ∙ sym c.requires.undoable.serving.log_words_lem
+shape_of-logs c = c.loop-k.invariant.0.serving.log_words_lem ∙ sym c.requires.undoable.serving.log_words_lem
 
 pub shape_of-work : goal.shape_of-work
-shape_of-work c = c.loop-k.invariant.1.serving.work_words_lem ∙ sym c.requires.undoable.serving.work_words_lem
+shape_of-work c = c.loop-k.invariant.0.serving.work_words_lem ∙ sym c.requires.undoable.serving.work_words_lem
 
 pub returns : goal.returns
 returns c =
@@ -159,6 +146,6 @@ returns c =
     let none : turn.k ≡ 0 = omega arith in
     let all = all_updates _ _ _ _ _ _ _ _ ok in
     record {
-      by_index = λ anchor backups. rw all (pending_last _ _ _ _ _ _ _ _ _ (all_takeable _ _ _ _ _ _ _ _ ok) (rw none at turn.invariant.1) anchor backups);
-      counts = λ f. rw all (all_counted _ _ turn.ones (rw none at turn.invariant.2));
+      by_index = λ anchor backups. rw all (pending_last _ _ _ _ _ _ _ _ _ (all_takeable _ _ _ _ _ _ _ _ ok) (rw none at turn.invariant.0) anchor backups);
+      counts = rw all (all_counted _ _ turn.ones (rw none at turn.invariant.1));
     }

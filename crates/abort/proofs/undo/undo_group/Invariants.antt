@@ -8,9 +8,6 @@ use Rattle.abort.proofs.Pending.{Pending, Counted}
 use Rattle.abort.proofs.undo.undo_group.Given as goal
 
 abbrev pub invariant-loop-n : goal.invariant-loop-n
-invariant-loop-n l = (l.n ≤ 128) × (length l.at ≡ 128)
+invariant-loop-n l = (length l.at ≡ 128)
     × Pending l.sizes l.disk l.number (only_log l.disk l.initial.after) l.initial.pages l.initial.logs l.initial.work l.initial.budget (take l.initial.n l.at) (only_log l.disk l.after) l.pages l.logs l.work l.budget (take l.n l.at)
     × Counted (reader l.sizes (only_log l.disk l.initial.after) l.disk l.initial.logs l.initial.work) (take l.initial.n l.at) l.ones (take l.n l.at) × (l.ones + 2048 * l.n ≤ 262144)
-
-abbrev pub decreases-loop-n : goal.decreases-loop-n
-decreases-loop-n l = l.n

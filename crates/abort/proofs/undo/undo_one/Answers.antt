@@ -1,7 +1,6 @@
 -- `abort::undo::undo_one` meets its contract: the record's append, then the XOR into the slot. Assumes nothing.
 use mathlib.Core.Path.{refl, sym}
 use native.Mathlib.Omega.{arith}
-use borrow.Author.Tests.{not-true, not-false}
 use Rattle.model.specs.Word.{part}
 use Rattle.model.proofs.Geometry.{slot_end_total}
 use Rattle.abort.specs.Undo.{update_at}
@@ -25,8 +24,8 @@ slice_bounds-words-end c = lent_fits _ _ _ _ c.difference_at-ones.ensures.0
 pub slice_bounds-log_compensation-end : goal.slice_bounds-log_compensation-end
 slice_bounds-log_compensation-end c = sym (lent_difference _ _ _ _ c.difference_at-ones.ensures.0)
 
-pub log_compensation-progress-requires : goal.log_compensation-progress-requires
-log_compensation-progress-requires c =
+pub log_compensation-requires : goal.log_compensation-requires
+log_compensation-requires c =
     let pre = c.requires in
     let difference-at = c.difference_at-ones in
     record {
@@ -34,15 +33,14 @@ log_compensation-progress-requires c =
       in_slot = rw (lent_difference _ _ _ _ difference-at.ensures.0) pre.slotted;
     }
 
-pub returns-then-not-done : goal.returns-then-not-done
+pub returns-in_err-tip : goal.returns-in_err-tip
 unfolding update_at
-returns-then-not-done c =
-    let difference-at = c.difference_at-ones in
-    let log-compensation = c.log_compensation-progress in
-    record {
-      by_index = λ anchor backups. compensated_cut _ _ _ _ _ _ difference-at.ensures.0 (log-compensation.ensures anchor _ backups) (not-true _ c.if-not-done.true);
-      counts = (λ f. counts_one _ difference-at.ensures.1, difference-at.ensures.2);
-    }
+returns-in_err-tip c =
+    rw c.from_residual.ensures
+    (record {
+      by_index = λ anchor backups. compensated_cut _ _ _ _ _ _ c.difference_at-ones.ensures.0 (c.in_err-tip.ensures anchor _ backups);
+      counts = (tt, tt);
+    })
 
 pub slot_base-at-requires : goal.slot_base-at-requires
 slot_base-at-requires c =
@@ -66,10 +64,8 @@ pub returns : goal.returns
 unfolding update_at part
 returns c =
     let difference-at = c.difference_at-ones in
-    let log-compensation = c.log_compensation-progress in
-    let test1 = c.if-not-done in
     let slot-base = c.slot_base-at in
     record {
-      by_index = λ anchor backups. compensated_whole _ _ _ _ _ _ difference-at.ensures.0 (log-compensation.ensures anchor _ backups) (not-false _ test1.false) refl slot-base.ensures.0 _ c.xor_in.ensures;
-      counts = (λ f. counts_one _ difference-at.ensures.1, difference-at.ensures.2);
+      by_index = λ anchor backups. compensated_whole _ _ _ _ _ _ difference-at.ensures.0 (c.in_ok-tip.ensures anchor _ backups) refl slot-base.ensures.0 _ c.xor_in.ensures;
+      counts = (counts_one _ difference-at.ensures.1, difference-at.ensures.2);
     }

@@ -1,10 +1,9 @@
 -- `access::change::log_change` meets its contract: behind what is buffered, or after a flush, which may be cut. Assumes nothing.
-use mathlib.Core.Path.{refl, sym, ◌∙◌}
+use mathlib.Core.Path.{sym, ◌∙◌}
 use native.Mathlib.Omega.{arith}
 use lib.ListN.{length}
 use Rattle.model.specs.Word.{xors, part}
 use Rattle.model.specs.Record.{encode}
-use Rattle.model.proofs.Booleans.{true_false}
 use Rattle.disk_log.specs.Write.{change_of}
 use Rattle.disk_log.proofs.Words.{change_size}
 use Rattle.disk_log.proofs.Append.{put_fits, put_cut, put_flushed}
@@ -29,7 +28,7 @@ returns-then-fill-n-le64 c =
     ∙ sym (change_size c.requires.1 c.words_of-n.ensures) in
     let put = c.put_change-ones.ensures in (
       λ s l w lent. rw long at (put_fits lent words (omega (arith, long, c.if-fill-n-le64.true)) x.budget.now _ put.0),
-      λ finished. put.1,
+      put.1,
     )
 
 pub returns-then-not-flush_disk : goal.returns-then-not-flush_disk
@@ -40,7 +39,7 @@ returns-then-not-flush_disk c =
     record_length x.at x.value.now x.pages.now c.requires.2 x.head
     ∙ sym (change_size c.requires.1 c.words_of-n.ensures) in (
       λ s l w lent. put_cut lent words (omega (arith, long, c.if-fill-n-le64.false)) (c.flush_disk.ensures s l w lent) (c.if-not-flush_disk.true),
-      λ finished. true_false finished refl,
+      tt,
     )
 
 pub returns : goal.returns
@@ -52,5 +51,5 @@ returns c =
     ∙ sym (change_size c.requires.1 c.words_of-n.ensures) in
     let put = c.put_change-ones-2.ensures in (
       λ s l w lent. rw long at (put_flushed lent words (omega (arith, long, c.if-fill-n-le64.false)) (c.flush_disk.ensures s l w lent) _ (c.if-not-flush_disk.false) put.0),
-      λ finished. put.1,
+      put.1,
     )

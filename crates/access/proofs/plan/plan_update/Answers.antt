@@ -1,85 +1,117 @@
 -- `access::plan::plan_update` meets its contract: one row after the other. Assumes nothing.
-use mathlib.Core.Path.{refl, sym, ◌∙◌}
+use mathlib.Core.Path.{refl}
+use Rattle.std.proofs.lemmas.Result.{err_from_is_err_and}
 use Rattle.model.specs.World.{world_of}
-use Rattle.access.proofs.FirstRows.{own, some_ready, numbers_fit}
-use Rattle.access.proofs.PlanRows.{early_none, update_first, update_early, update_late}
-use Rattle.access.proofs.PlanMade.{planned_refused, some_disk_low, some_entry_small, some_slot_small, planned_made}
+use Rattle.access.proofs.FirstRows.{ready, own, numbers_fit}
+use Rattle.access.proofs.PlanRows.{update_first, update_early, update_late}
+use Rattle.access.proofs.PlanReady.{disk_low, entry_small, slot_small}
+use Rattle.access.proofs.PlanMade.{planned_refused, planned_made}
 use borrow.Author.Rules.{rules}
 use Rattle.access.proofs.plan.plan_update.Goals as goal
 
-pub returns-then-first-ne0 : goal.returns-then-first-ne0
-returns-then-first-ne0 c h told starts tails =
+pub returns-in_err-check_lent : goal.returns-in_err-check_lent
+returns-in_err-check_lent c =
     let x = c.args in
     let w = world_of x.anchor.now x.pages.now x.backups.now x.logs.now x.work.now in
-    planned_refused c.lent_refusal-first.result _ c.no_plan.ensures c.if-first-ne0.true
-    (λ value long. update_first h w told c.lent_refusal-first.ensures x.number x.page x.slot value c.if-first-ne0.true)
+    let p = err_from_is_err_and c.from_residual.result c.from_residual.ensures.1 in
+    let refusal = c.in_err-check_lent.field-0.0 in
+    rw (p.1, p.2) (planned_refused refusal (λ value long. update_first x.carried.now w x.number x.page x.slot value refusal c.in_err-check_lent.ensures))
 
-pub find_slot-found-requires : goal.find_slot-found-requires
-find_slot-found-requires c =
+pub find_slot-asked-requires : goal.find_slot-asked-requires
+find_slot-asked-requires c =
     let x = c.args in
     let w = world_of x.anchor.now x.pages.now x.backups.now x.logs.now x.work.now in
-    numbers_fit w x.stage x.count x.disks x.ring x.total x.tails c.lent_refusal-first.ensures c.if-first-ne0.false
+    numbers_fit x.carried.now w c.in_ok-check_lent.ensures
 
-pub find_entry-entry-requires : goal.find_entry-entry-requires
-find_entry-entry-requires c =
+pub find_entry-opened-requires : goal.find_entry-opened-requires
+find_entry-opened-requires c =
     let x = c.args in
     let w = world_of x.anchor.now x.pages.now x.backups.now x.logs.now x.work.now in
-    ((some_ready w x.stage x.count x.disks x.ring x.total x.tails c.lent_refusal-first.ensures c.if-first-ne0.false).counts.disks_max, (numbers_fit w x.stage x.count x.disks x.ring x.total x.tails c.lent_refusal-first.ensures c.if-first-ne0.false).2, search rules)
+    let first = c.in_ok-check_lent.ensures in
+    ((ready x.carried.now w first).counts.disks_max, (numbers_fit x.carried.now w first).2, search rules)
 
-pub returns-then-early-ne0 : goal.returns-then-early-ne0
-returns-then-early-ne0 c h told starts tails =
+pub returns-in_err-found : goal.returns-in_err-found
+returns-in_err-found c =
     let x = c.args in
     let w = world_of x.anchor.now x.pages.now x.backups.now x.logs.now x.work.now in
-    planned_refused c.early_refusal-early.result _ c.no_plan-then-early-ne0.ensures c.if-early-ne0.true
+    let first = c.in_ok-check_lent.ensures in
+    let mine = own x.carried.now w first in
+    let p = err_from_is_err_and c.from_residual-in_err-found.result c.from_residual-in_err-found.ensures.1 in
+    let refusal = c.in_err-found.field-0.0 in
+    rw (p.1, p.2)
+    (planned_refused refusal
     (λ value long.
-    update_early h w told c.lent_refusal-first.ensures x.number x.page x.slot value c.if-first-ne0.false (c.find_slot-found.ensures h (own h w told c.lent_refusal-first.ensures c.if-first-ne0.false) told.same_pages told.same_total) (c.find_entry-entry.ensures h (own h w told c.lent_refusal-first.ensures c.if-first-ne0.false) told.same_disks tails) long c.early_refusal-early.ensures c.if-early-ne0.true)
+    update_early x.carried.now w x.number x.page x.slot value first (c.find_slot-asked.ensures x.carried.now mine refl refl)
+    (c.find_entry-opened.ensures x.carried.now mine refl refl) long c.both.ensures refusal c.in_err-found.was))
 
-pub offset_bounds-starts-d : goal.offset_bounds-starts-d
-offset_bounds-starts-d c =
+pub offset_bounds-carried-entry : goal.offset_bounds-carried-entry
+offset_bounds-carried-entry c =
     let x = c.args in
     let w = world_of x.anchor.now x.pages.now x.backups.now x.logs.now x.work.now in
-    let low = some_disk_low w x.stage x.count x.disks x.ring x.total x.tails c.lent_refusal-first.ensures c.if-first-ne0.false c.find_slot-found.ensures c.find_entry-entry.ensures (early_none _ _ _ _ (sym c.early_refusal-early.ensures ∙ c.if-early-ne0.false)).0 (early_none _ _ _ _ (sym c.early_refusal-early.ensures ∙ c.if-early-ne0.false)).1 in
+    let first = c.in_ok-check_lent.ensures in
+    let mine = own x.carried.now w first in
+    let both = c.both.ensures.ready _ _ c.in_ok-found.was in
+    let low = disk_low x.carried.now w mine (ready x.carried.now w first) ((c.find_entry-opened.ensures x.carried.now mine refl refl).ready _ both.1) in
     search (rules, low)
 
-pub bounds-starts-d : goal.bounds-starts-d
-bounds-starts-d c =
+pub bounds-carried-entry : goal.bounds-carried-entry
+bounds-carried-entry c =
     let x = c.args in
     let w = world_of x.anchor.now x.pages.now x.backups.now x.logs.now x.work.now in
-    let low = some_disk_low w x.stage x.count x.disks x.ring x.total x.tails c.lent_refusal-first.ensures c.if-first-ne0.false c.find_slot-found.ensures c.find_entry-entry.ensures (early_none _ _ _ _ (sym c.early_refusal-early.ensures ∙ c.if-early-ne0.false)).0 (early_none _ _ _ _ (sym c.early_refusal-early.ensures ∙ c.if-early-ne0.false)).1 in
-    search (rules, low)
+    let first = c.in_ok-check_lent.ensures in
+    let mine = own x.carried.now w first in
+    let both = c.both.ensures.ready _ _ c.in_ok-found.was in
+    disk_low x.carried.now w mine (ready x.carried.now w first) ((c.find_entry-opened.ensures x.carried.now mine refl refl).ready _ both.1)
 
-pub late_refusal-late-requires : goal.late_refusal-late-requires
-late_refusal-late-requires c =
+pub check_late-requires : goal.check_late-requires
+check_late-requires c =
     let x = c.args in
     let w = world_of x.anchor.now x.pages.now x.backups.now x.logs.now x.work.now in
-    let small = some_slot_small w x.stage x.count x.disks x.ring x.total x.tails c.lent_refusal-first.ensures c.if-first-ne0.false c.find_slot-found.ensures c.find_entry-entry.ensures (early_none _ _ _ _ (sym c.early_refusal-early.ensures ∙ c.if-early-ne0.false)).0 (early_none _ _ _ _ (sym c.early_refusal-early.ensures ∙ c.if-early-ne0.false)).1 in
-    let entry = some_entry_small w x.stage x.count x.disks x.ring x.total x.tails c.lent_refusal-first.ensures c.if-first-ne0.false c.find_slot-found.ensures c.find_entry-entry.ensures (early_none _ _ _ _ (sym c.early_refusal-early.ensures ∙ c.if-early-ne0.false)).0 (early_none _ _ _ _ (sym c.early_refusal-early.ensures ∙ c.if-early-ne0.false)).1 in
+    let first = c.in_ok-check_lent.ensures in
+    let known = ready x.carried.now w first in
+    let mine = own x.carried.now w first in
+    let both = c.both.ensures.ready _ _ c.in_ok-found.was in
+    let entry = (c.find_entry-opened.ensures x.carried.now mine refl refl).ready _ both.1 in
+    let small = slot_small x.carried.now w mine known entry (c.find_slot-asked.ensures x.carried.now mine refl refl) both.0 in
     record {
       disks_bound = (small.0, small.2, small.3, small.4);
-      sum_bound = entry.2;
+      sum_bound = (entry_small x.carried.now w mine known entry).2;
     }
 
-pub returns-then-late-ne0 : goal.returns-then-late-ne0
-returns-then-late-ne0 c h told starts tails =
+pub returns-in_err-check_late : goal.returns-in_err-check_late
+returns-in_err-check_late c =
     let x = c.args in
     let w = world_of x.anchor.now x.pages.now x.backups.now x.logs.now x.work.now in
-    planned_refused c.late_refusal-late.result _ c.no_plan-then-late-ne0.ensures c.if-late-ne0.true
+    let first = c.in_ok-check_lent.ensures in
+    let mine = own x.carried.now w first in
+    let p = err_from_is_err_and c.from_residual-in_err-check_late.result c.from_residual-in_err-check_late.ensures.1 in
+    let refusal = c.in_err-check_late.field-0.0 in
+    rw (p.1, p.2)
+    (planned_refused refusal
     (λ value long.
-    update_late h w told c.lent_refusal-first.ensures x.number x.page x.slot value c.if-first-ne0.false (c.find_slot-found.ensures h (own h w told c.lent_refusal-first.ensures c.if-first-ne0.false) told.same_pages told.same_total) (c.find_entry-entry.ensures h (own h w told c.lent_refusal-first.ensures c.if-first-ne0.false) told.same_disks tails) long c.early_refusal-early.ensures c.if-early-ne0.false
-    (rw starts refl) (c.late_refusal-late.ensures h (own h w told c.lent_refusal-first.ensures c.if-first-ne0.false) told.same_disks))
+    update_late x.carried.now w x.number x.page x.slot value first (c.find_slot-asked.ensures x.carried.now mine refl refl)
+    (c.find_entry-opened.ensures x.carried.now mine refl refl) long c.both.ensures c.in_ok-found.was refl (c.in_err-check_late.ensures x.carried.now mine refl)))
 
 pub make_plan-requires : goal.make_plan-requires
 make_plan-requires c =
     let x = c.args in
     let w = world_of x.anchor.now x.pages.now x.backups.now x.logs.now x.work.now in
+    let first = c.in_ok-check_lent.ensures in
+    let known = ready x.carried.now w first in
+    let mine = own x.carried.now w first in
+    let both = c.both.ensures.ready _ _ c.in_ok-found.was in
+    let entry = (c.find_entry-opened.ensures x.carried.now mine refl refl).ready _ both.1 in
     record {
-      disks_bound = some_slot_small w x.stage x.count x.disks x.ring x.total x.tails c.lent_refusal-first.ensures c.if-first-ne0.false c.find_slot-found.ensures c.find_entry-entry.ensures (early_none _ _ _ _ (sym c.early_refusal-early.ensures ∙ c.if-early-ne0.false)).0 (early_none _ _ _ _ (sym c.early_refusal-early.ensures ∙ c.if-early-ne0.false)).1;
-      place_bound = some_entry_small w x.stage x.count x.disks x.ring x.total x.tails c.lent_refusal-first.ensures c.if-first-ne0.false c.find_slot-found.ensures c.find_entry-entry.ensures (early_none _ _ _ _ (sym c.early_refusal-early.ensures ∙ c.if-early-ne0.false)).0 (early_none _ _ _ _ (sym c.early_refusal-early.ensures ∙ c.if-early-ne0.false)).1;
+      disks_bound = slot_small x.carried.now w mine known entry (c.find_slot-asked.ensures x.carried.now mine refl refl) both.0;
+      place_bound = entry_small x.carried.now w mine known entry;
     }
 
 pub returns : goal.returns
-returns c h told starts tails =
+returns c =
     let x = c.args in
     let w = world_of x.anchor.now x.pages.now x.backups.now x.logs.now x.work.now in
-    planned_made h w told c.lent_refusal-first.ensures x.number x.page x.slot c.if-first-ne0.false (c.find_slot-found.ensures h (own h w told c.lent_refusal-first.ensures c.if-first-ne0.false) told.same_pages told.same_total) (c.find_entry-entry.ensures h (own h w told c.lent_refusal-first.ensures c.if-first-ne0.false) told.same_disks tails) c.early_refusal-early.ensures c.if-early-ne0.false
-    (rw starts refl) (c.late_refusal-late.ensures h (own h w told c.lent_refusal-first.ensures c.if-first-ne0.false) told.same_disks) c.if-late-ne0.false _ c.make_plan.ensures
+    let first = c.in_ok-check_lent.ensures in
+    let mine = own x.carried.now w first in
+    rw c.make_plan.ensures
+    (planned_made x.carried.now w x.number x.page x.slot first (c.find_slot-asked.ensures x.carried.now mine refl refl)
+    (c.find_entry-opened.ensures x.carried.now mine refl refl) c.both.ensures c.in_ok-found.was refl (c.in_ok-check_late.ensures x.carried.now mine refl))

@@ -5,16 +5,16 @@ use Rattle.access.proofs.SlotBounds.{page_bounds, slot_beyond, slot_high, page_u
 use Rattle.access.proofs.slots.find_slot.Goals as goal
 
 pub returns-then-page-pages : goal.returns-then-page-pages
-returns-then-page-pages c h own pages total = slot_beyond h _ own _ _ pages total _ c.no_slot.ensures c.if-page-pages.true
+returns-then-page-pages c h own pages total = slot_beyond h _ own _ _ pages total c.if-page-pages.true
 
 pub returns-then-slot-slots : goal.returns-then-slot-slots
 returns-then-slot-slots c h own pages total =
-    slot_high h _ own _ _ pages total c.if-page-pages.false c.requires.0 _ c.no_slot-then-slot-slots.ensures c.if-slot-slots.true
+    slot_high h _ own _ _ pages total c.if-page-pages.false c.requires.0 c.if-slot-slots.true
 
 pub returns-then-not-page_fits : goal.returns-then-not-page_fits
 returns-then-not-page_fits c h own pages total =
     page_unfit h _ own _ _ pages total c.if-page-pages.false c.requires.0
-    c.if-slot-slots.false _ c.no_slot-then-not-page_fits.ensures c.page_fits.ensures (c.if-not-page_fits.true)
+    c.if-slot-slots.false c.page_fits.ensures (c.if-not-page_fits.true)
 
 pub overflow_mul-result : goal.overflow_mul-result
 overflow_mul-result c =

@@ -6,6 +6,7 @@ use Rattle.model.specs.View.{core_of}
 use Rattle.model.proofs.View.Head.{carried_back}
 use Rattle.layout.specs.Raw.{counts_of}
 use Rattle.access.proofs.SlotBounds.{owner_at_lem, own_slot, others_slot}
+use borrow.Author.Tests.{eq-eqb}
 use borrow.Author.Rules.{rules}
 use Rattle.access.proofs.slots.is_locked.Goals as goal
 
@@ -29,12 +30,13 @@ bounds-work-owner_place c =
 pub returns-then-owner-number : goal.returns-then-owner-number
 returns-then-owner-number c h own same =
     let x = c.args in
-    own_slot h x.work.now x.at x.number
-    (c.owner_place.ensures (core_of h x.work.now).sizes (ap (λ (k : Carried). k.disks) (carried_back h x.work.now) ∙ same)) c.if-owner-number.true
-
-pub returns : goal.returns
-returns c h own same =
-    let x = c.args in
     others_slot h x.work.now x.at x.number
-    (c.owner_place.ensures (core_of h x.work.now).sizes (ap (λ (k : Carried). k.disks) (carried_back h x.work.now) ∙ same)) c.if-owner-number.false
+    (c.owner_place.ensures (core_of h x.work.now).sizes (ap (λ (k : Carried). k.disks) (carried_back h x.work.now) ∙ same)) c.if-owner-number.true
     (c.is_open.ensures h own)
+
+pub returns-else-owner-number : goal.returns-else-owner-number
+returns-else-owner-number c h own same =
+    let x = c.args in
+    rw (eq-eqb _ _ c.if-owner-number.false)
+    (own_slot h x.work.now x.at x.number
+    (c.owner_place.ensures (core_of h x.work.now).sizes (ap (λ (k : Carried). k.disks) (carried_back h x.work.now) ∙ same)) c.if-owner-number.false)

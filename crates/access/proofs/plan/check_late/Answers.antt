@@ -1,9 +1,9 @@
--- `access::plan::late_refusal` meets its contract: held by another, without room, or neither. Assumes nothing.
+-- `access::plan::check_late` meets its contract: held by another, without room, or neither. Assumes nothing.
 use mathlib.Core.Path.{refl}
 use native.Mathlib.Omega.{arith}
 use Rattle.model.specs.Record.{update_kind}
 use Rattle.model.proofs.RecordSizes.{words_most}
-use Rattle.access.proofs.plan.late_refusal.Goals as goal
+use Rattle.access.proofs.plan.check_late.Goals as goal
 
 pub returns-then-is_locked : goal.returns-then-is_locked
 returns-then-is_locked c h own same = rw (← c.is_locked.ensures h own same, c.if-is_locked.true) refl
