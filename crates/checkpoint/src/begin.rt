@@ -6,7 +6,8 @@ ghost use Rattle.model.specs.Checkpoint.{checkpoint_begin_task};
 ghost use Rattle.model.specs.Call.{checkpoint_begin, Gives};
 
 use crate::ends::ends_of;
-use frame::checks::common_refusal;
+use frame::checks::check_common;
+use frame::refusal::Refusal;
 use frame::settle::{finish, refuse};
 use frame::stages::When;
 use model::{Checkpoint, Core, Reply, Stage};
@@ -36,12 +37,11 @@ pub fn begin(
     ensures { Gives checkpoint_begin core (world_of anchor.now pages.now backups.now logs.now work.now)
         result 0 (world_of anchor.now pages.now backups.now logs.now work.now) }
 {
-    let refusal = common_refusal(When::Open, core, anchor, pages, backups, logs, work);
-    if refusal != 0 {
+    if let Err(refusal) = check_common(When::Open, core, anchor, pages, backups, logs, work) {
         return refuse(core, refusal);
     }
     if core.epoch >= LIMIT {
-        return refuse(core, 13);
+        return refuse(core, Refusal::Spent);
     }
     finish(marked(core), 0)
 }

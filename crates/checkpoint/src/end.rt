@@ -4,14 +4,14 @@ ghost use Rattle.model.specs.World.{World, world_of};
 ghost use Rattle.model.specs.State.{limit, serving_sound};
 ghost use Rattle.model.specs.Checkpoint.{per_disk, new_start, checkpoint_end_task};
 ghost use Rattle.model.specs.Call.{checkpoint_end, Gives};
-ghost use Rattle.device.specs.Ran.{Ran};
 ghost use Rattle.frame.specs.Settle.{Concludes};
 ghost use Rattle.checkpoint.specs.Lent.{Endable};
 
 use crate::ends::ends_of;
 use crate::flush::flush_all;
 use crate::starts::new_starts;
-use frame::checks::common_refusal;
+use frame::checks::check_common;
+use frame::refusal::Refusal;
 use frame::settle::{refuse, settle};
 use frame::stages::When;
 use frame::states::no_checkpoint;
@@ -37,27 +37,6 @@ fn closed(core: Core, starts: [u64; 8]) -> Core
     }
 }
 
-// All stores of the call; true if all are made.
-fn store_end(
-    core: Core,
-    starts: [u64; 8],
-    anchor: &mut [u64],
-    logs: &mut [u64],
-    work: &[u64],
-    budget: &mut u64,
-) -> bool
-    requires { Endable core anchor.old logs.old work.now × (starts ≡ per_disk core.sizes (new_start core)) }
-    ensures { (pages backups : List ℕ) → Ran budget.old budget.new
-        (checkpoint_end_task core (world_of anchor.old pages backups logs.old work.now)).actions
-        (world_of anchor.old pages backups logs.old work.now)
-        (world_of anchor.new pages backups logs.new work.now) result }
-{
-    if !flush_all(core, logs, work, budget) {
-        return false;
-    }
-    switch_to(anchor, core.epoch + 1, core.sizes.disks, starts, budget)
-}
-
 // The new starts, the stores, and the reply.
 fn flush_and_switch(
     core: Core,
@@ -74,7 +53,8 @@ fn flush_and_switch(
 {
     let before = *budget;
     let starts = new_starts(core);
-    let whole = store_end(core, starts, anchor, logs, work, budget);
+    let whole = flush_all(core, logs, work, budget)
+        && switch_to(anchor, core.epoch + 1, core.sizes.disks, starts, budget);
     settle(whole, before, *budget, 0, closed(core, starts))
 }
 
@@ -90,13 +70,11 @@ pub fn end(
     ensures { Gives (checkpoint_end budget.old) core (world_of anchor.old pages.now backups.now logs.old work.now)
         result budget.new (world_of anchor.new pages.now backups.now logs.new work.now) }
 {
-    let refusal = common_refusal(When::Copying, core, anchor, pages, backups, logs, work);
-    if refusal != 0 {
+    if let Err(refusal) = check_common(When::Copying, core, anchor, pages, backups, logs, work) {
         return refuse(core, refusal);
     }
-    let checkpoint = core.checkpoint;
-    if checkpoint.copied < core.sizes.pages {
-        return refuse(core, 15);
+    if core.checkpoint.copied < core.sizes.pages {
+        return refuse(core, Refusal::OutOfTurn);
     }
     flush_and_switch(core, anchor, logs, work, budget)
 }

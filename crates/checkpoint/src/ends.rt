@@ -10,13 +10,10 @@ pub fn ends_of(core: Core) -> [u64; 8]
     requires { serving_sound core ≡ true }
     ensures { result ≡ per_disk core.sizes (end_of core.logs) }
 {
-    let disks = core.sizes.disks as usize;
     let logs = core.logs;
     let mut ends = [0u64; 8];
-    let mut d: usize = 0;
-    while d < disks {
+    for d in 0..core.sizes.disks as usize {
         ends[d] = logs.tails[d] + logs.fills[d];
-        d += 1;
     }
     ends
 }

@@ -20,14 +20,11 @@ pub fn flush_all(core: Core, logs: &mut [u64], work: &[u64], budget: &mut u64) -
 {
     let sizes = core.sizes;
     let state = core.logs;
-    let disks = sizes.disks;
-    let mut d: u64 = 0;
-    while d < disks {
+    for d in 0..sizes.disks {
         let home = home_of(sizes, state, d);
         if !flush_disk(logs, work, home, budget) {
             return false;
         }
-        d += 1;
     }
     true
 }

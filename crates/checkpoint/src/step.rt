@@ -7,7 +7,8 @@ ghost use Rattle.frame.specs.Settle.{Concludes};
 ghost use Rattle.checkpoint.specs.Lent.{Steppable};
 
 use crate::copy::copy_page;
-use frame::checks::common_refusal;
+use frame::checks::check_common;
+use frame::refusal::Refusal;
 use frame::settle::{refuse, settle};
 use frame::stages::When;
 use model::{Checkpoint, Core, Reply};
@@ -60,13 +61,11 @@ pub fn step(
     ensures { Gives (checkpoint_step budget.old) core (world_of anchor.now pages.now backups.old logs.now work.old)
         result budget.new (world_of anchor.now pages.now backups.new logs.now work.new) }
 {
-    let refusal = common_refusal(When::Copying, core, anchor, pages, backups, logs, work);
-    if refusal != 0 {
+    if let Err(refusal) = check_common(When::Copying, core, anchor, pages, backups, logs, work) {
         return refuse(core, refusal);
     }
-    let checkpoint = core.checkpoint;
-    if checkpoint.copied >= core.sizes.pages {
-        return refuse(core, 15);
+    if core.checkpoint.copied >= core.sizes.pages {
+        return refuse(core, Refusal::OutOfTurn);
     }
     copy_next(core, pages, backups, work, budget)
 }

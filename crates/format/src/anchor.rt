@@ -51,7 +51,5 @@ pub fn store_anchor(anchor: &mut [u64], raw: RawSizes, budget: &mut u64) -> bool
     if !store_front(anchor, raw.pages, raw.disks, raw.ring, budget) {
         return false;
     }
-    let slots = raw.slots;
-    let widths = raw.widths;
-    store_arrays(anchor, slots, widths, budget)
+    store_arrays(anchor, raw.slots, raw.widths, budget)
 }

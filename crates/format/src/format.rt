@@ -5,6 +5,7 @@ ghost use Rattle.layout.specs.Raw.{sizes_of};
 
 use crate::devices::store_devices;
 use crate::memory::make_fresh;
+use frame::refusal::Refusal;
 use frame::settle::{refuse, settle};
 use frame::stages::is_shut;
 use frame::states::open_core;
@@ -27,15 +28,14 @@ pub fn format(
     ensures { Gives (format (sizes_of raw) budget.old) core (world_of anchor.old pages.old backups.old logs.old work.old)
         result budget.new (world_of anchor.new pages.new backups.new logs.new work.new) }
 {
-    let stage = core.stage;
-    if !is_shut(stage) {
-        return refuse(core, 1);
+    if !is_shut(core.stage) {
+        return refuse(core, Refusal::Stage);
     }
     if anchor.len() != ANCHOR_WORDS {
-        return refuse(core, 2);
+        return refuse(core, Refusal::AnchorLength);
     }
     if !in_bounds(raw) {
-        return refuse(core, 4);
+        return refuse(core, Refusal::Sizes);
     }
     let sizes = narrow(raw);
     let bases = bases_of(sizes);
@@ -49,7 +49,7 @@ pub fn format(
         logs.len(),
         work.len(),
     ) {
-        return refuse(core, 5);
+        return refuse(core, Refusal::Length);
     }
     let before = *budget;
     let next = open_core(sizes, bases, 1, [0u64; 8]);

@@ -17,14 +17,11 @@ pub fn store_tails(sizes: Sizes, logs: &mut [u64], budget: &mut u64) -> bool
         (world_of anchor memory backups logs.old work)
         (world_of anchor memory backups logs.new work) result }
 {
-    let disks = sizes.disks;
-    let mut d: u64 = 0;
-    while d < disks {
+    for d in 0..sizes.disks {
         let at = disk_at(sizes.ring, d) as usize;
         if !store_word(logs, at, 0, budget) {
             return false;
         }
-        d += 1;
     }
     true
 }

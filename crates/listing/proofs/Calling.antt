@@ -13,7 +13,7 @@ use Rattle.model.specs.declared.Answer.TheVariants.{Finished, Refused}
 use Rattle.model.specs.Below.{join_below}
 use Rattle.model.specs.Sizes.{log_words}
 use Rattle.model.specs.Anchor.{sizes_on, start_on}
-use Rattle.model.specs.Refusal.{row, accepted, rejected, verdict, answer_by}
+use Rattle.model.specs.Refusal.{Verdict, row, accepted, rejected, verdict, answer_by}
 use Rattle.model.specs.Causes.{when_shut, retained_from, log_rows}
 use Rattle.model.specs.Checkpoint.{per_disk}
 use Rattle.model.specs.Transaction.{filled}
@@ -24,43 +24,46 @@ use Rattle.model.proofs.Members.{Every, first_of, others_of}
 use Rattle.model.proofs.PerDisk.{get_or_per_disk}
 use Rattle.model.proofs.Verdict.{verdict_append, refused_append}
 use Rattle.model.proofs.Listing.{lines_long, list_accepted}
-use Rattle.replay.specs.declared.image.Finding.{Finding}
-use Rattle.replay.specs.Parts.{anchor_refusal, finding_of}
+use Rattle.frame.specs.declared.refusal.Refusal.{Refusal}
+use Rattle.frame.specs.declared.refusal.Refusal.TheVariants.{Stage as WrongStage, Length, OutOfRange}
+use Rattle.frame.specs.declared.refusal.TurnedAway.{TurnedAway}
+use Rattle.frame.specs.Refusal.{number_of, with_zeros, verdict_in}
+use Rattle.frame.proofs.Refusals.{numbered, ok_same}
+use Rattle.std.specs.Prelude.{Result, Ok, Err}
+use Rattle.replay.specs.Parts.{anchor_refusal}
 use Rattle.replay.proofs.Checks.{image_verdict, rows_read}
-use Rattle.listing.specs.declared.call.Found.{Found}
 use Rattle.listing.specs.Laid.{laid}
 use Rattle.listing.specs.Sheets.{LaidAll}
-use Rattle.listing.specs.Call.{found_of, last_rows, Lists}
+use Rattle.listing.specs.Call.{last_rows, Lists}
 use Rattle.listing.proofs.Laid.{Lines, laid_past, laid_line_lem, laid_over_lem}
 
 -- Rows 6, 7 and 8, of what the code has read and found.
 module _ (anchor logs : List ℕ) (first : ℕ) (s : Sizes) (same : s ≡ sizes_on anchor) (few : s.disks ≤ 8) {starts : List ℕ}
-    (from : starts ≡ per_disk s (start_on anchor)) (found : Finding)
-    (checked : verdict (log_rows s (λ d. get_or starts d 0) logs) ≡ finding_of found) (out : List ℕ) where
+    (from : starts ≡ per_disk s (start_on anchor)) {told : Verdict}
+    (checked : verdict (log_rows s (λ d. get_or starts d 0) logs) ≡ told) (out : List ℕ) where
   start_is : (d : ℕ) → d < s.disks → get_or starts d 0 ≡ start_on anchor d
   start_is d h = rw from (get_or_per_disk s (start_on anchor) d few h)
 
-  logs_verdict : verdict (log_rows s (start_on anchor) logs) ≡ finding_of found
+  logs_verdict : verdict (log_rows s (start_on anchor) logs) ≡ told
   logs_verdict = ap verdict (sym (rows_read s anchor logs few from)) ∙ checked
 
-  pub logs_refused : (found.number ≡ 0 → ⊥)
-      → Lists (last_rows anchor logs first) (listing anchor logs) first out (record { number = found.number; first = found.first; second = found.second; lines = 0 }) out
-  unfolding last_rows finding_of found_of
-  logs_refused ne =
-      let no : verdict (log_rows s (start_on anchor) logs) ≡ rejected found.number found.first found.second = logs_verdict ∙ rw (ne_eqb found.number 0 ne) in
-      let is = refused_append (log_rows s (start_on anchor) logs) (row 8 (leb (length (listing anchor logs)) first) ∷ []) _ _ _ no in
-      record { told = rw (← same, is, ne_eqb found.number 0 ne); count = λ e. absurd (ne e); bytes = rw (← same, is) }
+  pub logs_refused : (away : TurnedAway) → told ≡ rejected (number_of away.refusal) away.first away.second
+      → Lists (last_rows anchor logs first) (listing anchor logs) first out (Err away) out
+  unfolding last_rows
+  logs_refused away some =
+      let is =
+      refused_append (log_rows s (start_on anchor) logs) (row 8 (leb (length (listing anchor logs)) first) ∷ []) _ _ _ (logs_verdict ∙ some) in
+      record { told = rw (← same, is); count = λ n e. cc; bytes = rw (← same, is) }
 
-  module _ (none : found.number ≡ 0) where
+  module _ (none : told ≡ accepted) where
     pub logs_right : verdict (log_rows s (λ d. get_or starts d 0) logs) ≡ accepted
-    unfolding finding_of
-    logs_right = checked ∙ rw (eq-eqb found.number 0 none)
+    logs_right = checked ∙ none
 
     last_verdict : verdict (last_rows anchor logs first) ≡ verdict (row 8 (leb (length (listing anchor logs)) first) ∷ [])
-    unfolding last_rows finding_of
+    unfolding last_rows
     last_verdict =
         rw (← same) (verdict_append (log_rows s (start_on anchor) logs) (row 8 (leb (length (listing anchor logs)) first) ∷ [])
-        (logs_verdict ∙ rw (eq-eqb found.number 0 none)))
+        (logs_verdict ∙ none))
 
     module _ {lines : ℕ} {after : List ℕ}
         (all : LaidAll first (join_below (λ d. listed_in d (retained_from s (λ e. get_or starts e 0) logs d)) s.disks) lines out after) where
@@ -77,36 +80,35 @@ module _ (anchor logs : List ℕ) (first : ℕ) (s : Sizes) (same : s ≡ sizes_
       laid_all = rw listed_all at all.bytes
 
       pub lines_past : lines ≤ first
-          → Lists (last_rows anchor logs first) (listing anchor logs) first out (record { number = 8; first = 0; second = 0; lines = 0 }) after
-      unfolding verdict found_of
+          → Lists (last_rows anchor logs first) (listing anchor logs) first out (Err (with_zeros OutOfRange)) after
+      unfolding verdict
       lines_past h =
           let past : length (listing anchor logs) ≤ first = omega (arith, counted) in
           record {
             told = rw (last_verdict, le-leb _ _ past);
-            count = λ e. absurd (omega (arith, e));
+            count = λ n e. cc;
             bytes = rw (last_verdict, le-leb _ _ past) (laid_all ∙ laid_past first (listing anchor logs) out past);
           }
 
       pub lines_laid : first < lines
-          → Lists (last_rows anchor logs first) (listing anchor logs) first out (record { number = 0; first = 0; second = 0; lines = lines }) after
-      unfolding verdict found_of
+          → Lists (last_rows anchor logs first) (listing anchor logs) first out (Ok lines) after
+      unfolding verdict
       lines_laid h =
           let there : first < length (listing anchor logs) = omega (arith, counted) in
-          record { told = rw (last_verdict, lt-leb _ _ there); count = λ e. counted; bytes = rw (last_verdict, lt-leb _ _ there) laid_all }
+          record { told = rw (last_verdict, lt-leb _ _ there); count = λ n e. sym (ok_same e) ∙ counted; bytes = rw (last_verdict, lt-leb _ _ there) laid_all }
 
 -- Rows 1 to 5.
 module _ (stage : Stage) (wrong : Bool) (anchor logs : List ℕ) (first : ℕ) (out : List ℕ) where
-  abbrev Told : Found → List ℕ → Type 0
+  abbrev Told : Result ℕ TurnedAway → List ℕ → Type 0
   Told r after = Lists (list_rows stage wrong anchor logs first) (listing anchor logs) first out r after
 
-  turned : (n : ℕ) → (n ≡ 0 → ⊥) → verdict (list_rows stage wrong anchor logs first) ≡ rejected n 0 0
-      → Told (record { number = n; first = 0; second = 0; lines = 0 }) out
-  unfolding found_of
-  turned n some e = record { told = e ∙ rw (ne_eqb n 0 some); count = λ z. absurd (some z); bytes = rw e }
+  turned : (refusal : Refusal) → verdict (list_rows stage wrong anchor logs first) ≡ rejected (number_of refusal) 0 0
+      → Told (Err (with_zeros refusal)) out
+  turned refusal e = record { told = e; count = λ n is. cc; bytes = rw e }
 
-  pub list_stage : when_shut stage ≡ false → Told (record { number = 1; first = 0; second = 0; lines = 0 }) out
+  pub list_stage : when_shut stage ≡ false → Told (Err (with_zeros WrongStage)) out
   unfolding list_rows verdict
-  list_stage e = turned 1 (λ z. omega (arith, z)) (rw e)
+  list_stage e = turned WrongStage (rw e)
 
   module _ (shut : when_shut stage ≡ true) {n : ℕ} (refusal : n ≡ anchor_refusal anchor) where
     first_rows : verdict (list_rows stage wrong anchor logs first)
@@ -114,15 +116,15 @@ module _ (stage : Stage) (wrong : Bool) (anchor logs : List ℕ) (first : ℕ) (
     unfolding list_rows last_rows verdict
     first_rows = rw shut (image_verdict (lent_wrong wrong logs) anchor logs (row 8 (leb (length (listing anchor logs)) first) ∷ []) refusal)
 
-    pub list_anchor : (n ≡ 0 → ⊥) → Told (record { number = n; first = 0; second = 0; lines = 0 }) out
-    list_anchor some = turned n some (first_rows ∙ rw (ne_eqb n 0 some))
+    pub list_anchor : (r : Refusal) → number_of r ≡ n → Told (Err (with_zeros r)) out
+    list_anchor r e = turned r (first_rows ∙ rw (← e, ne_eqb (number_of r) 0 (numbered r)))
 
     module _ (none : n ≡ 0) where
-      pub list_lent : lent_wrong wrong logs (sizes_on anchor) ≡ true → Told (record { number = 5; first = 0; second = 0; lines = 0 }) out
+      pub list_lent : lent_wrong wrong logs (sizes_on anchor) ≡ true → Told (Err (with_zeros Length)) out
       unfolding verdict
-      list_lent e = turned 5 (λ z. omega (arith, z)) (first_rows ∙ rw (eq-eqb n 0 none, e))
+      list_lent e = turned Length (first_rows ∙ rw (eq-eqb n 0 none, e))
 
-      pub list_rest : lent_wrong wrong logs (sizes_on anchor) ≡ false → {r : Found} {after : List ℕ}
+      pub list_rest : lent_wrong wrong logs (sizes_on anchor) ≡ false → {r : Result ℕ TurnedAway} {after : List ℕ}
           → Lists (last_rows anchor logs first) (listing anchor logs) first out r after → Told r after
       unfolding verdict
       list_rest e l =
@@ -148,23 +150,21 @@ lines_of [] h = tt
 lines_of (x ∷ xs) h = (first_of h, lines_of xs (others_of h))
 
 -- What the calls answer and leave, once the rows are told.
-module _ (stage : Stage) (wrong : Bool) (anchor logs : List ℕ) (first : ℕ) (out after : List ℕ) (r : Found)
+module _ (stage : Stage) (wrong : Bool) (anchor logs : List ℕ) (first : ℕ) (out after : List ℕ) {r : Result ℕ TurnedAway}
     (l : Lists (list_rows stage wrong anchor logs first) (listing anchor logs) first out r after) where
-  module _ (some : r.number ≡ 0 → ⊥) where
-    refused : verdict (list_rows stage wrong anchor logs first) ≡ rejected r.number r.first r.second
-    unfolding found_of
-    refused = l.told ∙ rw (ne_eqb r.number 0 some)
+  module _ {away : TurnedAway} (some : r ≡ Err away) where
+    refused : verdict (list_rows stage wrong anchor logs first) ≡ rejected (number_of away.refusal) away.first away.second
+    refused = l.told ∙ ap verdict_in some
 
-    pub answers_refused : (value : ℕ) → Refused r.number r.first r.second ≡ answer_by (verdict (list_rows stage wrong anchor logs first)) value
+    pub answers_refused : (value : ℕ) → Refused (number_of away.refusal) away.first away.second ≡ answer_by (verdict (list_rows stage wrong anchor logs first)) value
     answers_refused value = rw refused
 
     pub leaves_bytes : (text : List ℕ) → after ≡ filled (verdict (list_rows stage wrong anchor logs first)) text out
     leaves_bytes text = l.bytes ∙ rw refused
 
-  module _ (none : r.number ≡ 0) where
+  module _ {lines : ℕ} (none : r ≡ Ok lines) where
     taken : verdict (list_rows stage wrong anchor logs first) ≡ accepted
-    unfolding found_of
-    taken = l.told ∙ rw (eq-eqb r.number 0 none)
+    taken = l.told ∙ ap verdict_in none
 
     pub answers_taken : (value : ℕ) → Finished 0 value ≡ answer_by (verdict (list_rows stage wrong anchor logs first)) value
     answers_taken value = rw taken
@@ -189,10 +189,10 @@ module _ (stage : Stage) (wrong : Bool) (anchor logs : List ℕ) (first : ℕ) (
     unfolding lines_from
     leaves_lines = laid_now _ (laid_over_lem first (listing anchor logs) out all_lines)
 
-    pub line_there : first < r.lines
-    line_there = omega (arith, l.count none, image.2)
+    pub line_there : first < lines
+    line_there = omega (arith, l.count lines none, image.2)
 
-    pub lines_counted : length (lines_from anchor logs first (length out)) ≡ min (length out / 73) (r.lines - first)
+    pub lines_counted : length (lines_from anchor logs first (length out)) ≡ min (length out / 73) (lines - first)
     unfolding lines_from
     lines_counted =
-        length-take (length out / 73) (drop first (listing anchor logs)) ∙ ap (min (length out / 73)) (length-drop first (listing anchor logs) ∙ rw (l.count none))
+        length-take (length out / 73) (drop first (listing anchor logs)) ∙ ap (min (length out / 73)) (length-drop first (listing anchor logs) ∙ rw (l.count lines none))

@@ -7,57 +7,31 @@ ghost use Rattle.model.specs.Listing.{listing, list_rows, not_a_line, not_lines,
 ghost use Rattle.listing.specs.Call.{last_rows, Lists};
 
 use crate::pages::lay_disks;
+use frame::refusal::{Refusal, TurnedAway};
 use frame::stages::is_shut;
 use layout::disks::disk_at;
 use model::{Answer, Sizes, Stage};
-use replay::image::{anchor_refusal, anchor_sizes, check_logs, current_starts, tails_on};
+use replay::image::{anchor_sizes, check_anchor, check_logs, current_starts, tails_on};
 
-// A row that applies, and the values it returns; 0 for none, and then how many lines the listing has.
-#[derive(Clone, Copy)]
-pub struct Found {
-    pub number: u64,
-    pub first: u64,
-    pub second: u64,
-    pub lines: u64,
-}
-
-fn refused(number: u64) -> Found
-    ensures { result ≡ record { number = number; first = 0; second = 0; lines = 0 } }
-{
-    Found {
-        number,
-        first: 0,
-        second: 0,
-        lines: 0,
-    }
-}
-
-// Rows 6, 7 and 8, and the lines where none applies. Past the last line there is nothing to write.
-fn list_on(sizes: Sizes, first: u64, anchor: &[u64], logs: &[u64], out: &mut [u8]) -> Found
+// Rows 6, 7 and 8, and how many lines the listing has where none applies. Past the last line there is nothing to write.
+fn list_on(
+    sizes: Sizes,
+    first: u64,
+    anchor: &[u64],
+    logs: &[u64],
+    out: &mut [u8],
+) -> Result<u64, TurnedAway>
     requires { (sizes ≡ sizes_on anchor.now) × (sizes_in_bounds sizes ≡ true) × (length anchor.now ≡ anchor_words) × (length logs.now ≡ log_words sizes) }
     ensures { Lists (last_rows anchor.now logs.now first) (listing anchor.now logs.now) first out.old result out.new }
 {
     let starts = current_starts(sizes.disks, anchor);
     let tails = tails_on(sizes, logs);
-    let found = check_logs(sizes, starts, tails, logs);
-    if found.number != 0 {
-        return Found {
-            number: found.number,
-            first: found.first,
-            second: found.second,
-            lines: 0,
-        };
-    }
+    check_logs(sizes, starts, tails, logs)?;
     let lines = lay_disks(sizes, starts, logs, out, first);
     if lines <= first {
-        return refused(8);
+        return Err(TurnedAway::from(Refusal::OutOfRange));
     }
-    Found {
-        number: 0,
-        first: 0,
-        second: 0,
-        lines,
-    }
+    Ok(lines)
 }
 
 // Rows 1 to 5 come first.
@@ -68,22 +42,19 @@ fn list(
     anchor: &[u64],
     logs: &[u64],
     out: &mut [u8],
-) -> Found
+) -> Result<u64, TurnedAway>
     ensures { Lists (list_rows stage wrong anchor.now logs.now first) (listing anchor.now logs.now) first out.old result out.new }
 {
     if !is_shut(stage) {
-        return refused(1);
+        return Err(TurnedAway::from(Refusal::Stage));
     }
-    let refusal = anchor_refusal(anchor);
-    if refusal != 0 {
-        return refused(refusal);
-    }
+    check_anchor(anchor)?;
     let sizes = anchor_sizes(anchor);
     if logs.len() as u64 != disk_at(sizes.ring, sizes.disks) {
-        return refused(5);
+        return Err(TurnedAway::from(Refusal::Length));
     }
     if wrong {
-        return refused(5);
+        return Err(TurnedAway::from(Refusal::Length));
     }
     list_on(sizes, first, anchor, logs, out)
 }
@@ -94,17 +65,12 @@ pub fn list_line(stage: Stage, number: u64, anchor: &[u64], logs: &[u64], out: &
     ensures out_after { out.new ≡ line_after stage anchor.now logs.now number out.old }
 {
     let wrong = out.len() != 73;
-    let found = list(stage, wrong, number, anchor, logs, out);
-    if found.number != 0 {
-        return Answer::Refused {
-            number: found.number,
-            first: found.first,
-            second: found.second,
-        };
-    }
-    Answer::Finished {
-        stores: 0,
-        value: 0,
+    match list(stage, wrong, number, anchor, logs, out) {
+        Ok(_) => Answer::Finished {
+            stores: 0,
+            value: 0,
+        },
+        Err(away) => away.answer(),
     }
 }
 
@@ -116,15 +82,11 @@ pub fn list_lines(stage: Stage, first: u64, anchor: &[u64], logs: &[u64], out: &
 {
     let room = out.len() as u64 / 73;
     let wrong = out.len() % 73 != 0;
-    let found = list(stage, wrong, first, anchor, logs, out);
-    if found.number != 0 {
-        return Answer::Refused {
-            number: found.number,
-            first: found.first,
-            second: found.second,
-        };
+    match list(stage, wrong, first, anchor, logs, out) {
+        Ok(lines) => Answer::Finished {
+            stores: 0,
+            value: room.min(lines - first),
+        },
+        Err(away) => away.answer(),
     }
-    let left = found.lines - first;
-    let value = if left < room { left } else { room };
-    Answer::Finished { stores: 0, value }
 }

@@ -151,8 +151,7 @@ pub fn lay_disks(sizes: Sizes, starts: [u64; 8], logs: &[u64], out: &mut [u8], f
     let slots = sizes.slots;
     let widths = sizes.widths;
     let mut sheet = Sheet { line: 0, left: 0 };
-    let mut d: u64 = 0;
-    while d < disks {
+    for d in 0..disks {
         let place = disk_at(sizes.ring, d);
         let ring = ring_words(logs, place, ring_of(sizes, d));
         let tail = logs[place as usize];
@@ -167,7 +166,6 @@ pub fn lay_disks(sizes: Sizes, starts: [u64; 8], logs: &[u64], out: &mut [u8], f
             first,
             sheet,
         );
-        d += 1;
     }
     sheet.line
 }

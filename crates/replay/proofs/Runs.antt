@@ -4,15 +4,15 @@ use mathlib.Core.List.{List, [], ◌∷◌, ◌++◌}
 use Prim.Native.Nat.{ℕ, ◌+◌, ◌-◌, ◌%◌, ◌≤◌, ◌<◌}
 use native.Mathlib.Omega.{arith}
 use native.Mathlib.Decide.{ℕ_discrete}
-use lib.ListN.{length, get_or, set, take, drop, length-append}
-use lib.Seq.{sets, take-add, drop-drop, get_or-set_same, get_or-set_other}
+use lib.ListN.{length, get_or, set, length-append}
+use lib.Seq.{sets, get_or-set_same, get_or-set_other}
 use Rattle.model.specs.Below.{sum_below}
 use Rattle.model.specs.Word.{◌⊕◌, xors, part}
 use Rattle.model.specs.Decode.{span}
 use Rattle.model.specs.Image.{xor_at}
 use Rattle.model.proofs.Xor.{length_xors_same}
 use Rattle.model.proofs.Parts.{length_part, part_sets_behind}
-use Rattle.words.proofs.Laws.{sets_append}
+use Rattle.words.proofs.Laws.{sets_append, part_add}
 use Rattle.disk_log.specs.Ring.{read_ring}
 use Rattle.disk_log.proofs.Rings.{span_run, span_round}
 
@@ -22,10 +22,6 @@ xors_append [] y [] b e = refl
 xors_append [] y (v ∷ a) b e = absurd (omega arith)
 xors_append (u ∷ x) y [] b e = absurd (omega arith)
 xors_append (u ∷ x) y (v ∷ a) b e = ap (λ (r : List ℕ). (u ⊕ v) ∷ r) (xors_append x y a b (omega arith))
-
-part_add : (at m n : ℕ) (l : List ℕ) → part at (m + n) l ≡ part at m l ++ part (at + m) n l
-unfolding part
-part_add at m n l = take-add m n (drop at l) ∙ ap (λ (r : List ℕ). take m (drop at l) ++ take n r) (drop-drop m at l)
 
 pub xor_append : (l : List ℕ) (at : ℕ) (a b : List ℕ) → at + (length a + length b) ≤ length l
     → xor_at (at + length a) b (xor_at at a l) ≡ xor_at at (a ++ b) l

@@ -1,4 +1,5 @@
 -- Restart step: its rows 7, 8 and 15, and what a step does when none applies.
+use Rattle.std.specs.Prelude.{None}
 use mathlib.Core.Path.{◌≡◌, refl, ap, ◌∙◌}
 use mathlib.Core.Bool.{Bool, true, false, cond}
 use mathlib.Core.Logic.{◌⊎◌, inl, inr}
@@ -11,7 +12,7 @@ use Rattle.model.specs.declared.Decoded.{Decoded}
 use Rattle.model.specs.declared.Decoded.TheVariants.{Change, Close, Malformed}
 use Rattle.model.specs.declared.Fate.{Fate}
 use Rattle.model.specs.declared.Fate.TheVariants.{Closed, Unclosed, Unreadable}
-use Rattle.model.specs.declared.Fault.TheVariants.{NoFault, BadRecord}
+use Rattle.model.specs.Record.{bad_record}
 use Rattle.model.specs.Word.{part}
 use Rattle.model.specs.Sizes.{page_base, page_words, slot_base}
 use Rattle.model.specs.Anchor.{backup_at}
@@ -38,11 +39,11 @@ module _ (c : Core) (w : World) (source : ℕ) where
   unfolding StepsOn
   steps_refused number first second e = rw e
 
-  pub fault_refused : (disk p : ℕ) → step_fault c w source ≡ BadRecord disk p → StepsOn c w source (refused_with c 7 disk p) w
+  pub fault_refused : (disk p : ℕ) → step_fault c w source ≡ bad_record disk p → StepsOn c w source (refused_with c 7 disk p) w
   unfolding step_rest verdict
   fault_refused disk p e = steps_refused 7 disk p (rw e)
 
-  none_refused : step_fault c w source ≡ NoFault → source ≤ c.sizes.disks → remaining c source ≡ 0
+  none_refused : step_fault c w source ≡ None → source ≤ c.sizes.disks → remaining c source ≡ 0
       → StepsOn c w source (refused_with c 15 0 0) w
   unfolding step_rest verdict source_missing
   none_refused e h z = steps_refused 15 0 0 (rw (e, le-ltb c.sizes.disks source h, eq-eqb (remaining c source) 0 z))
@@ -52,7 +53,7 @@ module _ (c : Core) (w : World) (source : ℕ) where
   step_missing h = steps_refused 8 0 0 (rw (le-ltb source c.sizes.disks (omega arith), lt-ltb c.sizes.disks source h))
 
   -- A step that none refuses.
-  steps_taken : {actions : List Action} {k : Core} {v : World} → step_fault c w source ≡ NoFault → source ≤ c.sizes.disks
+  steps_taken : {actions : List Action} {k : Core} {v : World} → step_fault c w source ≡ None → source ≤ c.sizes.disks
       → 0 < remaining c source → restart_step_task c w source ≡ record { actions = actions; core = k; value = 0 }
       → perform actions w ≡ v → StepsOn c w source (finished k) v
   unfolding StepsOn step_rest verdict source_missing
@@ -65,7 +66,7 @@ pub not_told : {m : ℕ} → (m ≡ 0) ⊎ (m ≡ 1) → m ≡ 2 → ⊥
 not_told (inl e) z = omega arith
 not_told (inr e) z = omega arith
 
-pub fate_sound : (disk : ℕ) (f : Fate) → ((p : ℕ) → f ≡ Unreadable p → ⊥) → fate_fault disk f ≡ NoFault
+pub fate_sound : (disk : ℕ) (f : Fate) → ((p : ℕ) → f ≡ Unreadable p → ⊥) → fate_fault disk f ≡ None
 fate_sound disk Closed unmet = refl
 fate_sound disk Unclosed unmet = refl
 fate_sound disk (Unreadable p) unmet = absurd (unmet p refl)
@@ -123,7 +124,7 @@ module _ (c : Core) (w : World) (disk : ℕ) (h : disk < c.sizes.disks) where
 
 -- The backup.
 module _ (c : Core) (w : World) where
-  pub no_fault : step_fault c w c.sizes.disks ≡ NoFault
+  pub no_fault : step_fault c w c.sizes.disks ≡ None
   unfolding step_fault
   no_fault = rw (le-ltb c.sizes.disks c.sizes.disks (omega arith))
 

@@ -1,4 +1,5 @@
 -- Rows 6 and 7: the lowest disk whose tail is wrong, and the records once all tails are right.
+use Rattle.std.specs.Prelude.{None, Option}
 use mathlib.Core.Path.{◌≡◌, sym, ◌∙◌}
 use mathlib.Core.Bool.{Bool, true, false, ◌||◌}
 use mathlib.Core.List.{List}
@@ -8,8 +9,8 @@ use lib.Dec.{ltb}
 use lib.ListN.{get_or}
 use borrow.Author.Tests.{lt-ltb, le-ltb, ltb-false}
 use Rattle.model.specs.declared.Sizes.{Sizes}
-use Rattle.model.specs.declared.Fault.{Fault}
-use Rattle.model.specs.declared.Fault.TheVariants.{NoFault, BadRecord}
+use Rattle.model.specs.declared.BadRecord.{BadRecord}
+use Rattle.model.specs.Record.{bad_record}
 use Rattle.model.specs.Below.{first_below}
 use Rattle.model.specs.Sizes.{ring_of}
 use Rattle.model.specs.State.{limit}
@@ -64,11 +65,11 @@ module _ (s : Sizes) (few : s.disks ≤ 8) (start : ℕ → ℕ) (logs : List �
         let low : Bool = ltb (tail_in s logs d) (start d) || ltb (start d + ring_of s d) (tail_in s logs d) in
         ltb-false limit (tail_in s logs d) (or_none low (ltb limit (tail_in s logs d)) none).1
 
-    module _ {fault : Fault} (checked : fault ≡ fault_from s start logs s.disks 0) where
-      pub logs_fault : {d p : ℕ} → fault ≡ BadRecord d p → verdict (log_rows s start logs) ≡ rejected 7 d p
+    module _ {fault : Option BadRecord} (checked : fault ≡ fault_from s start logs s.disks 0) where
+      pub logs_fault : {d p : ℕ} → fault ≡ bad_record d p → verdict (log_rows s start logs) ≡ rejected 7 d p
       unfolding verdict
       logs_fault e = rw (← lowest, le-ltb disk s.disks h, ← checked, e)
 
-      pub logs_right : fault ≡ NoFault → verdict (log_rows s start logs) ≡ accepted
+      pub logs_right : fault ≡ None → verdict (log_rows s start logs) ≡ accepted
       unfolding verdict
       logs_right e = rw (← lowest, le-ltb disk s.disks h, ← checked, e)

@@ -6,8 +6,6 @@ use Rattle.model.specs.Sizes.{sizes_in_bounds}
 use Rattle.model.specs.Anchor.{anchor_words, epoch_word, epoch_on, sizes_on, start_word, backup_at}
 use Rattle.model.specs.World.{Action, store, anchor, backups, each}
 use Rattle.model.specs.State.{limit}
-use Rattle.model.specs.Refusal.{Verdict, accepted, rejected}
-use Rattle.replay.specs.declared.image.Finding.{Finding}
 
 -- rows 2 to 4 of restart begin: the number of the first that applies, 0 where none does
 unfoldable pub anchor_refusal : List ℕ → ℕ
@@ -17,10 +15,6 @@ anchor_refusal words =
 -- 6. "tail below start, more than W above it, or above 2^62"
 unfoldable pub tail_out : ℕ → ℕ → ℕ → Bool
 tail_out ring start tail = ltb tail start || ltb (start + ring) tail || ltb limit tail
-
--- the verdict that a finding tells
-unfoldable pub finding_of : Finding → Verdict
-finding_of r = cond (eqb r.number 0) accepted (rejected r.number r.first r.second)
 
 -- the stores of restart end: all pages, the starts, and then the number of checkpoint `epoch`
 unfoldable pub checkpoint_stores : Sizes → ℕ → List ℕ → List ℕ → List Action

@@ -9,7 +9,7 @@ use layout::places::words_in_slots;
 use model::Sizes;
 use words::xor_in;
 
-// The first word of each page.
+// The first word of each page, of any sizes: `layout::bases::bases_of` asks for sizes in bounds.
 pub fn page_bases(sizes: Sizes) -> [u64; 64]
     ensures { (length result ≡ 64) × ((page : ℕ) → page < 64 → get_or result page 0 ≡ page_base sizes page) }
 {
@@ -17,12 +17,10 @@ pub fn page_bases(sizes: Sizes) -> [u64; 64]
     let widths = sizes.widths;
     let mut bases = [0u64; 64];
     let mut sum: u64 = 0;
-    let mut i: usize = 0;
-    while i < 64 {
+    for i in 0..64 {
         bases[i] = sum;
         let words = words_in_slots(slots[i], widths[i]);
         sum += words as u64;
-        i += 1;
     }
     bases
 }

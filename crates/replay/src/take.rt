@@ -23,12 +23,10 @@ fn xor_span(pages: &mut [u64], at: u64, logs: &[u64], extent: Extent, from: u64,
     let ring = extent.ring;
     let tail = extent.tail;
     let none = &logs[0..0];
-    let mut i: u64 = 0;
-    while i < n {
+    for i in 0..n {
         let word = read_word(logs, place, ring, tail, none, from + i);
         let here = (at + i) as usize;
         pages[here] ^= word;
-        i += 1;
     }
 }
 

@@ -15,7 +15,7 @@ use Rattle.model.specs.Anchor.{epoch_on, sizes_on, start_on}
 use Rattle.model.specs.World.{World, pages, write, each}
 use Rattle.model.specs.Memory.{lengths_right}
 use Rattle.model.specs.State.{limit, replaying_core}
-use Rattle.model.specs.Refusal.{row, rejected, verdict}
+use Rattle.model.specs.Refusal.{Verdict, row, accepted, rejected, verdict}
 use Rattle.model.specs.Causes.{when_shut, stage_forbids, lengths_wrong, tail_in, log_rows, spent}
 use Rattle.model.specs.Checkpoint.{per_disk}
 use Rattle.model.specs.Restart.{restart_begin_rows, restart_begin_task}
@@ -26,8 +26,7 @@ use Rattle.model.proofs.Storeless.{storeless_finishes}
 use Rattle.model.proofs.Restart.Words.{with_pages}
 use Rattle.frame.specs.Settle.{refused_with}
 use Rattle.frame.proofs.Verdicts.{refusal_given}
-use Rattle.replay.specs.declared.image.Finding.{Finding}
-use Rattle.replay.specs.Parts.{anchor_refusal, finding_of}
+use Rattle.replay.specs.Parts.{anchor_refusal}
 use Rattle.replay.specs.Step.{finished}
 use Rattle.restart.specs.Begin.{begin_rest, BeginsOn}
 use Rattle.replay.proofs.Storeless.{nothing_spent}
@@ -61,27 +60,25 @@ module _ (c : Core) (w : World) where
 
 -- Rows 6, 7 and 13, of what the code has read and found.
 module _ (c : Core) (w : World) (s : Sizes) (same : s ≡ sizes_on w.anchor) (few : s.disks ≤ 8) {starts : List ℕ}
-    (from : starts ≡ per_disk s (start_on w.anchor)) (found : Finding)
-    (checked : verdict (log_rows s (λ d. get_or starts d 0) w.logs) ≡ finding_of found) where
-  rows_verdict : verdict (log_rows s (start_on w.anchor) w.logs) ≡ finding_of found
+    (from : starts ≡ per_disk s (start_on w.anchor)) {told : Verdict}
+    (checked : verdict (log_rows s (λ d. get_or starts d 0) w.logs) ≡ told) where
+  rows_verdict : verdict (log_rows s (start_on w.anchor) w.logs) ≡ told
   rows_verdict = ap verdict (sym (rows_read s w.anchor w.logs few from)) ∙ checked
 
-  pub begin_refused : (found.number ≡ 0 → ⊥) → BeginsOn c w (refused_with c found.number found.first found.second) w
-  unfolding BeginsOn begin_rest finding_of
-  begin_refused h =
+  pub begin_refused : {number first second : ℕ} → told ≡ rejected number first second → BeginsOn c w (refused_with c number first second) w
+  unfolding BeginsOn begin_rest
+  begin_refused {number} {first} {second} some =
       rw (
         ← same,
-        refused_append (log_rows s (start_on w.anchor) w.logs) (row 13 (spent (epoch_on w.anchor)) ∷ []) found.number found.first found.second
-            (rows_verdict ∙ rw (ne_eqb found.number 0 h)),
+        refused_append (log_rows s (start_on w.anchor) w.logs) (row 13 (spent (epoch_on w.anchor)) ∷ []) number first second (rows_verdict ∙ some),
       )
 
   -- no row applies to the logs
-  module _ (none : found.number ≡ 0) where
+  module _ (none : told ≡ accepted) where
     rest_verdict : verdict (begin_rest w) ≡ verdict (row 13 (spent (epoch_on w.anchor)) ∷ [])
-    unfolding begin_rest finding_of
+    unfolding begin_rest
     rest_verdict =
-        rw (← same) (verdict_append (log_rows s (start_on w.anchor) w.logs) (row 13 (spent (epoch_on w.anchor)) ∷ [])
-        (rows_verdict ∙ rw (eq-eqb found.number 0 none)))
+        rw (← same) (verdict_append (log_rows s (start_on w.anchor) w.logs) (row 13 (spent (epoch_on w.anchor)) ∷ []) (rows_verdict ∙ none))
 
     pub begin_spent : limit ≤ epoch_on w.anchor → BeginsOn c w (refused_with c 13 0 0) w
     unfolding BeginsOn verdict spent

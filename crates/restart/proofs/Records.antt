@@ -1,7 +1,7 @@
 -- The next record of a log, read by the words of the head.
 use mathlib.Core.Path.{◌≡◌, refl, sym, ap, ◌∙◌}
 use mathlib.Core.List.{List, []}
-use mathlib.Core.Bool.{Bool, true, false, cond}
+use mathlib.Core.Bool.{Bool, true, cond}
 use Prim.Native.Nat.{ℕ, ◌+◌, ◌*◌, ◌≤◌, ◌<◌}
 use native.Mathlib.Omega.{arith}
 use lib.ListN.{get_or}
@@ -32,6 +32,7 @@ use Rattle.layout.proofs.Laws.{product_max}
 use Rattle.replay.specs.Step.{StepsOn}
 use Rattle.replay.proofs.Facts.{replaying, sizes_bounded}
 use Rattle.replay.proofs.Stepping.{step_malformed, step_close, step_unreadable, step_change}
+use Rattle.std.specs.Prelude.{Ok, Err}
 use Rattle.restart.specs.Step.{OnDisk, taken_by}
 use Rattle.restart.proofs.Extents.{decoded_there, fate_there, found}
 
@@ -97,11 +98,11 @@ module _ {h : Carried} {disk : ℕ} {pages logs work : List ℕ} (on : OnDisk h 
         below : position_of c disk < tail
         below = omega (arith, same, low)
 
-        pub taken_malformed : r ≡ Malformed → StepsOn c (world_of anchor pages backups logs body) disk (taken_by c disk true position) (world_of anchor pages backups logs body)
+        pub taken_malformed : r ≡ Malformed → StepsOn c (world_of anchor pages backups logs body) disk (taken_by c disk (Err position)) (world_of anchor pages backups logs body)
         taken_malformed told = rw same at (step_malformed c w disk on.on.disk_in below (next_is anchor pages backups body same got ∙ told))
 
         pub taken_close : {kind number next : ℕ} → r ≡ Close kind number next
-            → StepsOn c (world_of anchor pages backups logs body) disk (taken_by c disk false next) (world_of anchor pages backups logs body)
+            → StepsOn c (world_of anchor pages backups logs body) disk (taken_by c disk (Ok next)) (world_of anchor pages backups logs body)
         taken_close told = step_close c w disk on.on.disk_in below (next_is anchor pages backups body same got ∙ told)
 
         module _ {kind page slot number copy width next : ℕ} (told : r ≡ Change kind page slot number copy width next) where
@@ -125,13 +126,13 @@ module _ {h : Carried} {disk : ℕ} {pages logs work : List ℕ} (on : OnDisk h 
               → f ≡ fate_in number (scan s (read_log s logs d e.tail []) e.end next))
             where
               pub taken_unreadable : {p : ℕ} → f ≡ Unreadable p
-                  → StepsOn c (world_of anchor pages backups logs body) disk (taken_by c disk true p) (world_of anchor pages backups logs body)
+                  → StepsOn c (world_of anchor pages backups logs body) disk (taken_by c disk (Err p)) (world_of anchor pages backups logs body)
               taken_unreadable bad = step_unreadable c w disk on.on.disk_in below changed (fate_is anchor pages backups body number next fated ∙ bad)
 
               pub taken_change : ((p : ℕ) → f ≡ Unreadable p → ⊥) → {b : Bool} → b ≡ replays c.epoch f copy → (at : ℕ) → at ≡ slot_base c.sizes page slot → {after : List ℕ}
                   → ((s : Sizes) (d : ℕ) → LiesAt s d e.place e.ring
                   → after ≡ cond b (xor_at at (span (read_log s logs d e.tail []) (position + 3) width) pages) pages)
-                  → StepsOn c (world_of anchor pages backups logs body) disk (taken_by c disk false next) (world_of anchor after backups logs body)
+                  → StepsOn c (world_of anchor pages backups logs body) disk (taken_by c disk (Ok next)) (world_of anchor after backups logs body)
               unfolding read_disk
               taken_change unmet is_replayed at place {after} did =
                   step_change c w disk on.on.disk_in below changed (fate_is anchor pages backups body number next fated) unmet is_replayed

@@ -107,6 +107,17 @@ module _ (h : Carried) (w : World) (source : ℕ) {r : ℕ}
             passed ∙ rw (ok, eq-eqb (length w.anchor) anchor_words right) refl in
             rw rest did
 
+-- the test that the code makes is the whole one
+replay_test : (c : Core) → when_replaying c.stage ≡ true → sound c ≡ replay_sound c
+unfolding sound
+replay_test c = go c.stage
+  where
+    go : (s : Stage) → when_replaying s ≡ true → sound_in s c ≡ replay_sound c
+    go Shut e = true_false refl (sym e)
+    go Replaying e = refl
+    go Open e = true_false refl (sym e)
+    go Copying e = true_false refl (sym e)
+
 -- what the first checks leave beside
 refused_by_lem : (allowed counts lengths anchor : Bool) → ◌≡◌ {A = ℕ} (cond (allowed && counts) (cond lengths 0 (cond anchor 5 2)) 1) 0 → (counts ≡ true) × (lengths ≡ true)
 refused_by_lem false counts lengths anchor e = absurd (omega (arith, e))
@@ -137,6 +148,16 @@ module _ (h : Carried) (w : World) {r : ℕ}
         eqb-true _ _
         (all_four (eqb (length w.pages) h.total) (eqb (length w.backups) (2 * h.total)) (eqb (length w.logs) (log_words (counts_of 0 h.disks h.ring)))
         (eqb (length w.work - head_words) (work_words (counts_of 0 h.disks h.ring) h.total)) tests.1).1
+
+    -- the whole test of the state is that of the replaying state that the words show
+    pub tested : {right : Bool}
+        → ((h' : Carried) → own_work h' w.work ≡ true → h'.pages ≡ h.pages → h'.disks ≡ h.disks → h'.total ≡ h.total → h'.epoch ≡ h.epoch
+        → h'.tails ≡ h.tails → counts_in_bounds (core_of h' w.work).sizes ≡ true → right ≡ replay_sound (core_of h' w.work))
+        → sound (core_of h w.work) ≡ right
+    unfolding core_of
+    tested told =
+        let ready = first_ready when_replaying h w answer none in
+        replay_test (core_of h w.work) ready.stage ∙ sym (told h (first_own when_replaying refl h w ready) refl refl refl refl refl counts_in)
 
     -- where the whole test passes, a step may be made
     module _ (ok : sound (core_of h w.work) ≡ true) where
@@ -177,17 +198,6 @@ unfolding body_of
 missing_to h w source high e =
     to_refused h w source (body_of w) (step_missing (core_of h w.work) (body_of w) source (omega (arith, high, ap (λ (x : Carried). x.disks) (carried_back h w.work))))
     (sym (take-append-drop head_words w.work)) e
-
--- the test that the code makes is the whole one
-pub replay_test : (c : Core) → when_replaying c.stage ≡ true → sound c ≡ replay_sound c
-unfolding sound
-replay_test c = go c.stage
-  where
-    go : (s : Stage) → when_replaying s ≡ true → sound_in s c ≡ replay_sound c
-    go Shut e = true_false refl (sym e)
-    go Replaying e = refl
-    go Open e = true_false refl (sym e)
-    go Copying e = true_false refl (sym e)
 
 -- where a backup begins
 module _ (s : Sizes) (epoch : ℕ) where

@@ -1,5 +1,5 @@
 -- A restart step on a state in two parts: what its functions rely on, and what they give.
-use Rattle.std.specs.Prelude.{◌≡◌, List, Bool, true, cond, ℕ, ◌*◌, length}
+use Rattle.std.specs.Prelude.{◌≡◌, List, true, ℕ, ◌*◌, length, Result, Ok, Err}
 use Rattle.model.specs.declared.Core.{Core}
 use Rattle.model.specs.declared.Carried.{Carried}
 use Rattle.model.specs.declared.Handed.{Handed}
@@ -25,8 +25,9 @@ pub record OnBackup (h : Carried) (pages backups work : List ℕ) : Type 0 where
   pub backup_words : length backups ≡ 2 * total (core_of h work).sizes
 
 -- what a record comes to: it is malformed, or so is one that is read ahead; or the log goes on behind it
-abbrev pub taken_by : Core → ℕ → (malformed : Bool) → (position : ℕ) → Reply
-taken_by c disk malformed position = cond malformed (refused_with c 7 disk position) (finished (moved_to c disk position))
+abbrev pub taken_by : Core → ℕ → Result ℕ ℕ → Reply
+taken_by c disk (Ok next) = finished (moved_to c disk next)
+taken_by c disk (Err malformed) = refused_with c 7 disk malformed
 
 -- What a step gives once its first rows have passed.
 unfoldable pub StepsTo : Carried → World → (source : ℕ) → Handed → World → Type 0

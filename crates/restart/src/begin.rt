@@ -7,6 +7,7 @@ ghost use Rattle.model.specs.World.{world_of};
 ghost use Rattle.model.specs.Call.{Gives, restart_begin};
 ghost use Rattle.restart.specs.Begin.{BeginsOn};
 
+use frame::refusal::Refusal;
 use frame::settle::{finish, refuse, refuse_at};
 use frame::stages::is_shut;
 use frame::states::replaying_core;
@@ -14,7 +15,7 @@ use layout::anchor::EPOCH_WORD;
 use layout::bases::bases_of;
 use layout::bounds::lengths_right;
 use model::{Bases, Core, Reply, Sizes};
-use replay::image::{anchor_refusal, anchor_sizes, check_logs, current_starts, tails_on};
+use replay::image::{anchor_sizes, check_anchor, check_logs, current_starts, tails_on};
 use table::room::LIMIT;
 use words::fill_words;
 
@@ -32,13 +33,12 @@ fn begin_on(
 {
     let starts = current_starts(sizes.disks, anchor);
     let tails = tails_on(sizes, logs);
-    let found = check_logs(sizes, starts, tails, logs);
-    if found.number != 0 {
-        return refuse_at(core, found.number, found.first, found.second);
+    if let Err(away) = check_logs(sizes, starts, tails, logs) {
+        return refuse_at(core, away.refusal, away.first, away.second);
     }
     let epoch = anchor[EPOCH_WORD];
     if epoch >= LIMIT {
-        return refuse(core, 13);
+        return refuse(core, Refusal::Spent);
     }
     let words = bases.total as usize;
     fill_words(pages, 0, words, 0);
@@ -57,12 +57,10 @@ pub fn begin(
     ensures { Gives restart_begin core (world_of anchor.now pages.old backups.now logs.now work.now)
         result 0 (world_of anchor.now pages.new backups.now logs.now work.now) }
 {
-    let stage = core.stage;
-    if !is_shut(stage) {
-        return refuse(core, 1);
+    if !is_shut(core.stage) {
+        return refuse(core, Refusal::Stage);
     }
-    let refusal = anchor_refusal(anchor);
-    if refusal != 0 {
+    if let Err(refusal) = check_anchor(anchor) {
         return refuse(core, refusal);
     }
     let sizes = anchor_sizes(anchor);
@@ -76,7 +74,7 @@ pub fn begin(
         logs.len(),
         work.len(),
     ) {
-        return refuse(core, 5);
+        return refuse(core, Refusal::Length);
     }
     begin_on(core, sizes, bases, anchor, pages, logs)
 }

@@ -10,7 +10,8 @@ ghost use Rattle.frame.specs.Settle.{Concludes};
 ghost use Rattle.replay.specs.Step.{Replays};
 
 use crate::remain::is_done;
-use frame::checks::common_refusal;
+use frame::checks::check_common;
+use frame::refusal::Refusal;
 use frame::settle::{refuse, settle};
 use frame::stages::When;
 use frame::states::open_core;
@@ -33,8 +34,7 @@ fn open_replayed(
         (world_of anchor.old pages.now backups.old logs work.old) (world_of anchor.new pages.now backups.new logs work.new) result }
 {
     let sizes = core.sizes;
-    let logs = core.logs;
-    let tails = logs.tails;
+    let tails = core.logs.tails;
     let epoch = core.epoch + 1;
     let before = *budget;
     let opened = open_core(sizes, core.bases, epoch, tails);
@@ -57,12 +57,11 @@ pub fn end(
     ensures { Gives (restart_end budget.old) core (world_of anchor.old pages.now backups.old logs.now work.old)
         result budget.new (world_of anchor.new pages.now backups.new logs.now work.new) }
 {
-    let refusal = common_refusal(When::Replaying, core, anchor, pages, backups, logs, work);
-    if refusal != 0 {
+    if let Err(refusal) = check_common(When::Replaying, core, anchor, pages, backups, logs, work) {
         return refuse(core, refusal);
     }
     if !is_done(core) {
-        return refuse(core, 15);
+        return refuse(core, Refusal::OutOfTurn);
     }
     open_replayed(core, anchor, pages, backups, work, budget)
 }

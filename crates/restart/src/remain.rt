@@ -7,7 +7,6 @@ ghost use Rattle.model.specs.View.{head_words, core_of};
 use head::own::is_own;
 use head::places::{PAGE_AT, POSITIONS_AT};
 use model::{Carried, Core};
-use words::saturating_sub;
 
 // A word of the head; 0 where the work memory is not the state's own.
 fn head_word(own: bool, work: &[u64], at: usize) -> u64
@@ -21,18 +20,16 @@ fn head_word(own: bool, work: &[u64], at: usize) -> u64
 pub fn remaining(carried: Carried, source: u64, work: &[u64]) -> u64
     ensures { result ≡ remaining (core_of carried work.now) source }
 {
-    let stage = carried.stage;
-    let own = is_own(stage, carried.disks, carried.total, work.len());
+    let own = is_own(carried.stage, carried.disks, carried.total, work.len());
     if source < carried.disks {
         if source >= 8 {
             return 0;
         }
         let d = source as usize;
-        let tails = carried.tails;
-        return saturating_sub(tails[d], head_word(own, work, POSITIONS_AT + d));
+        return carried.tails[d].saturating_sub(head_word(own, work, POSITIONS_AT + d));
     }
     if source == carried.disks {
-        return saturating_sub(carried.pages, head_word(own, work, PAGE_AT));
+        return carried.pages.saturating_sub(head_word(own, work, PAGE_AT));
     }
     0
 }
@@ -41,12 +38,10 @@ fn logs_done(disks: u64, tails: [u64; 8], positions: [u64; 8]) -> bool
     requires { disks ≤ 8 }
     ensures { result ≡ all_below (λ d. eqb (get_or tails d 0 - get_or positions d 0) 0) disks }
 {
-    let mut d: u64 = 0;
-    while d < disks {
-        if positions[d as usize] < tails[d as usize] {
+    for d in 0..disks as usize {
+        if positions[d] < tails[d] {
             return false;
         }
-        d += 1;
     }
     true
 }
@@ -56,12 +51,6 @@ pub fn is_done(core: Core) -> bool
     requires { core.sizes.disks ≤ 8 }
     ensures { result ≡ all_below (λ i. eqb (remaining core i) 0) (core.sizes.disks + 1) }
 {
-    let logs = core.logs;
-    let replay = core.replay;
-    let tails = logs.tails;
-    let positions = replay.positions;
-    if !logs_done(core.sizes.disks, tails, positions) {
-        return false;
-    }
-    core.sizes.pages <= replay.page
+    logs_done(core.sizes.disks, core.logs.tails, core.replay.positions)
+        && core.sizes.pages <= core.replay.page
 }

@@ -14,25 +14,19 @@ ghost use Rattle.restart.specs.Step.{OnDisk, OnBackup, taken_by, StepsTo};
 use disk_log::read::{Extent, decode_at};
 use disk_log::scan::fate_from;
 use frame::handed::{finished, refused, unreadable};
-use frame::lent::refusal_when;
+use frame::lent::check_when;
+use frame::refusal::Refusal;
 use frame::replaying::replay_right;
 use frame::stages::is_replaying;
 use head::places::{BASES_AT, PAGE_AT, POSITIONS_AT, SLOTS_AT, WIDTHS_AT};
 use layout::anchor::ANCHOR_WORDS;
 use layout::disks::disk_at;
-use model::{Carried, Decoded, Fate, Handed};
+use model::{BadRecord, Carried, Decoded, Fate, Handed};
 use replay::record::is_replayed;
 use replay::take::replay_span;
 use words::xor_in;
 
-// What was made of a record: the position of the next one, or of a malformed one.
-#[derive(Clone, Copy)]
-struct Taken {
-    malformed: bool,
-    position: u64,
-}
-
-// The record at `position`, below the tail, XORed in if it is to be.
+// The record at `position`, below the tail, XORed in if it is to be: where the next one stands, or a malformed one as an error.
 fn take_record(
     carried: Carried,
     disk: u64,
@@ -40,14 +34,13 @@ fn take_record(
     pages: &mut [u64],
     logs: &[u64],
     work: &[u64],
-) -> Taken
+) -> Result<u64, u64>
     requires { OnDisk carried disk pages.old logs.now work.now × (position_of (core_of carried work.now) disk ≡ position)
         × (position < tail_of (core_of carried work.now).logs disk) }
     ensures { (anchor backups body : List ℕ) → StepsOn (core_of carried work.now) (world_of anchor pages.old backups logs.now body) disk
-        (taken_by (core_of carried work.now) disk result.malformed result.position) (world_of anchor pages.new backups logs.now body) }
+        (taken_by (core_of carried work.now) disk result) (world_of anchor pages.new backups logs.now body) }
 {
-    let tails = carried.tails;
-    let tail = tails[disk as usize];
+    let tail = carried.tails[disk as usize];
     let slots = &work[SLOTS_AT..WIDTHS_AT];
     let widths = &work[WIDTHS_AT..BASES_AT];
     let none = &logs[0..0];
@@ -59,14 +52,8 @@ fn take_record(
     };
     let here = decode_at(carried.pages, slots, widths, logs, extent, none, position);
     match here {
-        Decoded::Malformed => Taken {
-            malformed: true,
-            position,
-        },
-        Decoded::Close { next, .. } => Taken {
-            malformed: false,
-            position: next,
-        },
+        Decoded::Malformed => Err(position),
+        Decoded::Close { next, .. } => Ok(next),
         Decoded::Change {
             page,
             slot,
@@ -87,19 +74,13 @@ fn take_record(
                 number,
             );
             if let Fate::Unreadable { position: p } = fate {
-                return Taken {
-                    malformed: true,
-                    position: p,
-                };
+                return Err(p);
             }
             let replays = is_replayed(carried.epoch, fate, copy);
             let at = work[BASES_AT + page as usize] + slot * width;
             let from = position + 3;
             replay_span(replays, pages, at, logs, extent, from, width);
-            Taken {
-                malformed: false,
-                position: next,
-            }
+            Ok(next)
         }
     }
 }
@@ -117,18 +98,18 @@ fn log_step(
         result (world_of anchor pages.new backups logs.now work.new) }
 {
     let d = disk as usize;
-    let tails = carried.tails;
-    let tail = tails[d];
+    let tail = carried.tails[d];
     let position = work[POSITIONS_AT + d];
     if tail <= position {
-        return refused(carried, 15);
+        return refused(carried, Refusal::OutOfTurn);
     }
-    let taken = take_record(carried, disk, position, pages, logs, work);
-    if taken.malformed {
-        return unreadable(carried, disk, taken.position);
+    match take_record(carried, disk, position, pages, logs, work) {
+        Err(position) => unreadable(carried, BadRecord { disk, position }),
+        Ok(next) => {
+            work[POSITIONS_AT + d] = next;
+            finished(carried, 0, 0)
+        }
     }
-    work[POSITIONS_AT + d] = taken.position;
-    finished(carried, 0, 0)
 }
 
 // Where the backup of checkpoint `epoch` begins, by T.
@@ -139,6 +120,7 @@ fn backup_start(epoch: u64, words: u64) -> u64
 }
 
 // XORs the next page of the backup in.
+// Like `log_step` it stops at an end and moves a position; one function for both would take all between as a closure, and be no plainer.
 fn backup_step(carried: Carried, pages: &mut [u64], backups: &[u64], work: &mut [u64]) -> Handed
     requires { OnBackup carried pages.old backups.now work.old }
     ensures { (anchor logs : List ℕ) → StepsTo carried (world_of anchor pages.old backups.now logs work.old) carried.disks
@@ -146,7 +128,7 @@ fn backup_step(carried: Carried, pages: &mut [u64], backups: &[u64], work: &mut 
 {
     let page = work[PAGE_AT];
     if carried.pages <= page {
-        return refused(carried, 15);
+        return refused(carried, Refusal::OutOfTurn);
     }
     let at = page as usize;
     let base = work[BASES_AT + at];
@@ -169,36 +151,29 @@ pub fn step(
     ensures { Serves (restart_step source) carried (world_of anchor.now pages.old backups.now logs.now work.old)
         result 0 (world_of anchor.now pages.new backups.now logs.now work.new) }
 {
-    let stage = carried.stage;
-    let allowed = is_replaying(stage);
-    let refusal = refusal_when(
-        allowed,
-        carried.pages,
-        carried.disks,
-        carried.ring,
-        carried.total,
-        anchor.len(),
-        pages.len(),
-        backups.len(),
-        logs.len(),
-        work.len(),
-    );
-    if refusal != 0 {
+    if let Err(refusal) = check_when(
+        is_replaying(carried.stage),
+        &carried,
+        anchor,
+        pages,
+        backups,
+        logs,
+        work,
+    ) {
         return refused(carried, refusal);
     }
-    let tails = carried.tails;
     if !replay_right(
         work,
         carried.pages,
         carried.disks,
         carried.total,
         carried.epoch,
-        tails,
+        carried.tails,
     ) {
-        return refused(carried, 1);
+        return refused(carried, Refusal::Stage);
     }
     if anchor.len() != ANCHOR_WORDS {
-        return refused(carried, 2);
+        return refused(carried, Refusal::AnchorLength);
     }
     if source < carried.disks {
         return log_step(carried, source, pages, logs, work);
@@ -206,5 +181,5 @@ pub fn step(
     if source == carried.disks {
         return backup_step(carried, pages, backups, work);
     }
-    refused(carried, 8)
+    refused(carried, Refusal::OutOfRange)
 }

@@ -68,8 +68,8 @@ module _ (numbers : List ℕ) (closed : List Bool) (used number : ℕ) {i : ℕ}
             (rw (get_or-set_other numbers i j (get_or numbers (used - 1) 0) 0 a, get_or-set_other numbers i k (get_or numbers (used - 1) 0) 0 b) at e)
 
 -- nothing is remembered at first
-pub remembers_none : (fate : ℕ → Fate) (numbers : List ℕ) (closed : List Bool) → Remembers fate numbers closed 0
-remembers_none fate numbers closed = record { right = λ j l. absurd (omega arith); once = λ j k l n e. absurd (omega arith) }
+pub remembers_begun : {numbers : List ℕ} {closed : List Bool} {used : ℕ} → used ≡ 0 → (fate : ℕ → Fate) → Remembers fate numbers closed used
+remembers_begun none fate = record { right = λ j l. absurd (omega (arith, none, l)); once = λ j k l n e. absurd (omega (arith, none, l)) }
 
 -- the same fates, read from a later position
 pub remembers_later : {fate later : ℕ → Fate} {numbers : List ℕ} {closed : List Bool} {used : ℕ} → ((n : ℕ) → later n ≡ fate n)

@@ -1,4 +1,5 @@
 -- A run, a step at a time: it goes on after a step that is taken, and stops before one that is refused.
+use Rattle.std.specs.Prelude.{None}
 use mathlib.Core.Path.{◌≡◌, refl, sym, ap, ◌∙◌}
 use mathlib.Core.List.{List, []}
 use mathlib.Core.Bool.{true}
@@ -9,7 +10,6 @@ use lib.ListN.{length}
 use borrow.Author.Tests.{eq-eqb, ne_eqb, le-ltb}
 use Rattle.model.specs.declared.Core.{Core}
 use Rattle.model.specs.declared.Reply.{Reply}
-use Rattle.model.specs.declared.Fault.TheVariants.{NoFault}
 use Rattle.model.specs.World.{World, Action, perform, finishes}
 use Rattle.model.specs.Refusal.{Verdict, accepted, rejected, verdict, Task, Result, conclude}
 use Rattle.model.specs.Causes.{stage_forbids, anchor_wrong, lengths_wrong, source_missing}
@@ -132,7 +132,7 @@ run_refused source most c w number first second did = go (verdict (step_rest c w
     go (rejected a b f) e d = d
 
 -- a step that is not refused
-pub step_accepted : (source : ℕ) (c : Core) (w : World) → step_fault c w source ≡ NoFault → source ≤ c.sizes.disks → 0 < remaining c source
+pub step_accepted : (source : ℕ) (c : Core) (w : World) → step_fault c w source ≡ None → source ≤ c.sizes.disks → 0 < remaining c source
     → verdict (step_rest c w source) ≡ accepted
 unfolding step_rest verdict source_missing
 step_accepted source c w e h left =

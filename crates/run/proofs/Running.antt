@@ -1,4 +1,5 @@
 -- A run of a log, a record at a time, read by ring index.
+use Rattle.std.specs.Prelude.{Option}
 use mathlib.Core.Path.{◌≡◌, refl, sym, ap, ◌∙◌}
 use mathlib.Core.List.{List, []}
 use mathlib.Core.Bool.{Bool, cond}
@@ -10,7 +11,7 @@ use lib.Seq.{set-get_or, set-set, get_or-set_same, get_or-set_other}
 use Rattle.model.specs.declared.Core.{Core}
 use Rattle.model.specs.declared.Decoded.{Decoded}
 use Rattle.model.specs.declared.Decoded.TheVariants.{Change, Close, Malformed}
-use Rattle.model.specs.declared.Fault.{Fault}
+use Rattle.model.specs.declared.BadRecord.{BadRecord}
 use Rattle.model.specs.declared.Fate.{Fate}
 use Rattle.model.specs.declared.Fate.TheVariants.{Closed, Unclosed, Unreadable}
 use Rattle.model.specs.Sizes.{slot_base}
@@ -96,7 +97,7 @@ module _ (c : Core) (w : World) (disk : ℕ) (h : disk < c.sizes.disks) (long : 
       ∙ ap (fate_in number) (ring_scan c.sizes w.logs disk tail lies.inside lies.some next)
 
   -- row 7 of the next step
-  pub fault_at_lem : {r : Fault} → position_of c disk < tail
+  pub fault_at_lem : {r : Option BadRecord} → position_of c disk < tail
       → r ≡ fault_at c.sizes word tail disk (position_of c disk) (decode_at c.sizes word tail (position_of c disk)) → step_fault c w disk ≡ r
   unfolding next_record read_disk fate_from
   fault_at_lem l is =

@@ -113,6 +113,24 @@ module _ {fate ahead : ℕ → Fate} {sought : ℕ} {numbers : List ℕ} {closed
             let below_too : k < count = omega (arith, r, c) in
             m.once j k low below_too (sym (away j low) ∙ e ∙ away k below_too)
 
+    -- put behind the others, or left out where there is no room
+    pub search_after : (b : Bool) → (count < 16 → fate n ≡ or_ahead b (later n)) → ((i : ℕ) → i < count → get_or numbers i 0 ≡ n → ⊥)
+        → used < count → count ≤ 16 → length numbers ≡ 16 → length closed ≡ 16 → {numbers_after : List ℕ} {closed_after : List Bool} {count_after : ℕ}
+        → (count ≡ 16 → (numbers_after ≡ numbers) × (closed_after ≡ closed) × (count_after ≡ count))
+        → (count < 16 → (numbers_after ≡ set numbers count n) × (closed_after ≡ set closed count b) × (count_after ≡ count + 1))
+        → Searched fate later sought numbers_after closed_after used count_after
+    search_after b told absent below room long wide {numbers_after} {closed_after} {count_after} full put = go (dec_lt count 16)
+      where
+        go : Dec (count < 16) → Searched fate later sought numbers_after closed_after used count_after
+        go (yes l) =
+            let e = put l in
+            rw (e.0, e.1, e.2)
+            (search_put b (told l) absent (omega (arith, below)) (λ x. absurd (omega (arith, x, below))) (omega (arith, l, long)) (omega (arith, l, wide)) l)
+        go (no h) =
+            let all : count ≡ 16 = omega (arith, h, room) in
+            let e = full all in
+            rw (e.0, e.1, e.2) (search_full all absent)
+
     -- a number that was met, and is closed here
     pub search_closed : {i : ℕ} → i < count → get_or numbers i 0 ≡ n → ahead n ≡ Closed → count ≤ length closed
         → Searched fate later sought numbers (set closed i true) used count
@@ -175,10 +193,14 @@ module _ {fate ahead : ℕ → Fate} {sought : ℕ} {numbers : List ℕ} {closed
 
 -- the sought number is put behind those that are remembered
 pub search_begun : {fate : ℕ → Fate} {numbers : List ℕ} {closed : List Bool} {used : ℕ} (sought : ℕ)
-    → ((i : ℕ) → i < used → get_or numbers i 0 ≡ sought → ⊥) → Remembers fate numbers closed used → used < length numbers → used < length closed → used < 16
-    → Searched fate fate sought (set numbers used sought) (set closed used false) used (used + 1)
-search_begun sought absent m long wide room =
-    search_put (search_none sought m) sought (λ x ne. refl) false refl absent (omega arith) (λ e. refl) long wide room
+    → ((i : ℕ) → i < used → get_or numbers i 0 ≡ sought → ⊥) → Remembers fate numbers closed used → length numbers ≡ 16 → length closed ≡ 16 → used < 16
+    → {numbers_after : List ℕ} {closed_after : List Bool} {first used_after : ℕ} → first ≡ used
+    → (used < 16 → (numbers_after ≡ set numbers used sought) × (closed_after ≡ set closed used false) × (used_after ≡ used + 1))
+    → Searched fate fate sought numbers_after closed_after first used_after
+search_begun sought absent m long wide room at put =
+    let e = put room in
+    rw (at, e.0, e.1, e.2)
+    (search_put (search_none sought m) sought (λ x ne. refl) false refl absent (omega arith) (λ e. refl) (omega (arith, room, long)) (omega (arith, room, wide)) room)
 
 -- one more is closed
 pub closed_more : (closed : List Bool) (from i : ℕ) → ((j : ℕ) → from ≤ j → j < i → get_or closed j false ≡ true) → get_or closed i false ≡ true

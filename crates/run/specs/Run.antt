@@ -1,12 +1,12 @@
 -- Restart run: many steps of one source.
-use Rattle.std.specs.Prelude.{◌≡◌, List, Bool, true, false, cond, ℕ, ◌+◌, ◌≤◌, ◌<◌, length, get_or}
+use Rattle.std.specs.Prelude.{◌≡◌, List, Bool, true, false, cond, ℕ, ◌+◌, ◌≤◌, ◌<◌, length, get_or, None, Option}
 use Rattle.model.specs.declared.Core.{Core}
 use Rattle.model.specs.declared.Reply.{Reply}
 use Rattle.model.specs.declared.Sizes.{Sizes}
 use Rattle.model.specs.declared.Decoded.{Decoded}
 use Rattle.model.specs.declared.Decoded.TheVariants.{Change, Close, Malformed}
-use Rattle.model.specs.declared.Fault.{Fault}
-use Rattle.model.specs.declared.Fault.TheVariants.{NoFault, BadRecord}
+use Rattle.model.specs.declared.BadRecord.{BadRecord}
+use Rattle.model.specs.Record.{bad_record}
 use Rattle.model.specs.declared.Fate.{Fate}
 use Rattle.model.specs.declared.Fate.TheVariants.{Closed, Unclosed, Unreadable}
 use Rattle.model.specs.Sizes.{ring_of, disk_at, page_base, slot_base, total}
@@ -100,7 +100,7 @@ pub record DiskRing (s : Sizes) (logs : List ℕ) (disk : ℕ) (ring : List ℕ)
   pub some : 0 < ring_of s disk
 
 -- Row 7 of a step: the record's own fault, or that of the search ahead for its transaction's close.
-abbrev pub fault_at : Sizes → (ℕ → ℕ) → (tail disk p : ℕ) → Decoded → Fault
+abbrev pub fault_at : Sizes → (ℕ → ℕ) → (tail disk p : ℕ) → Decoded → Option BadRecord
 fault_at s read tail disk p (Change kind page slot number copy width next) = fate_fault disk (fate_in number (scan s read tail next))
-fault_at s read tail disk p (Close kind number next) = NoFault
-fault_at s read tail disk p Malformed = BadRecord disk p
+fault_at s read tail disk p (Close kind number next) = None
+fault_at s read tail disk p Malformed = bad_record disk p

@@ -1,22 +1,25 @@
 // Restart run: steps of one source, as many as are asked for, or until the next would be refused.
-ghost use Rattle.std.specs.Prelude.{◌≡◌, List, ℕ, ◌*◌, ◌<◌, min, length, get_or};
+ghost use Rattle.std.specs.Prelude.{◌≡◌, List, ℕ, ◌*◌, ◌<◌, length, get_or};
 ghost use Rattle.model.specs.Sizes.{total};
 ghost use Rattle.model.specs.World.{world_of};
 ghost use Rattle.model.specs.State.{tail_of};
-ghost use Rattle.model.specs.Restart.{moved_to};
+ghost use Rattle.model.specs.Scan.{scan, fate_in};
+ghost use Rattle.model.specs.Restart.{position_of, moved_to};
 ghost use Rattle.model.specs.Call.{Gives, restart_run};
-ghost use Rattle.disk_log.specs.Ring.{Ring};
+ghost use Rattle.disk_log.specs.Ring.{read_ring, Ring};
 ghost use Rattle.replay.specs.Step.{Replays, OnLog};
-ghost use Rattle.run.specs.Run.{RunsOn, Passes, RanOn, DiskRing};
+ghost use Rattle.run.specs.Run.{Remembers, RunsOn, Passes, RanOn, DiskRing};
 
+use crate::fates::Fates;
 use crate::fault::record_fault;
 use crate::record::take_record;
 use disk_log::ring::{advance, ring_words};
-use frame::checks::common_refusal;
+use frame::checks::check_common;
+use frame::refusal::Refusal;
 use frame::settle::{finish, refuse, refuse_at};
 use frame::stages::When;
 use layout::disks::disk_at;
-use model::{Core, Fault, Replay, Reply};
+use model::{Core, Replay, Reply};
 use replay::record::move_on;
 use replay::ring::page_bases;
 use replay::take::xor_page;
@@ -37,9 +40,18 @@ pub struct Ran {
     pub made: u64,
 }
 
-// Takes the next records of a log, whose ring is handed in.
-fn run_ring(core: Core, disk: u64, ring: &[u64], most: u64, pages: &mut [u64]) -> Ran
-    requires { Replays core × (disk < core.sizes.disks) × (length pages.old ≡ total core.sizes) × Ring ring.now (tail_of core.logs disk) }
+// Takes the next records of a log, whose ring is handed in, with the fates that are remembered of it.
+fn run_ring(
+    core: Core,
+    disk: u64,
+    ring: &[u64],
+    most: u64,
+    fates: &mut Fates,
+    pages: &mut [u64],
+) -> Ran
+    requires { Replays core × (disk < core.sizes.disks) × (length pages.old ≡ total core.sizes) × Ring ring.now (tail_of core.logs disk)
+        × Remembers (λ n. fate_in n (scan core.sizes (read_ring ring.now) (tail_of core.logs disk) (position_of core disk)))
+        fates.old.numbers fates.old.closed fates.old.used }
     ensures { (anchor backups logs work : List ℕ) → DiskRing core.sizes logs disk ring.now
         → Passes core (world_of anchor pages.old backups logs work)
         → RanOn disk most core (world_of anchor pages.old backups logs work) result.made (moved_to core disk result.position) (world_of anchor pages.new backups logs work) }
@@ -50,36 +62,17 @@ fn run_ring(core: Core, disk: u64, ring: &[u64], most: u64, pages: &mut [u64]) -
     let bases = page_bases(sizes);
     let tails = core.logs.tails;
     let tail = tails[disk as usize];
-    let mut numbers = [0u64; 16];
-    let mut closed = [false; 16];
-    let mut used: usize = 0;
     let mut p = next_position(core.replay, disk);
     let mut at = p % ring.len() as u64;
     let mut made: u64 = 0;
-    while made < most {
-        if tail <= p {
+    while made < most && p < tail {
+        let Some(next) = take_record(
+            fates, &slots, &widths, &bases, ring, tail, p, at, core.epoch, pages,
+        ) else {
             return Ran { position: p, made };
-        }
-        let taken = take_record(
-            &mut numbers,
-            &mut closed,
-            used,
-            &slots,
-            &widths,
-            &bases,
-            ring,
-            tail,
-            p,
-            at,
-            core.epoch,
-            pages,
-        );
-        if taken.next == p {
-            return Ran { position: p, made };
-        }
-        used = taken.used;
-        at = advance(at, taken.next - p, ring.len() as u64);
-        p = taken.next;
+        };
+        at = advance(at, next - p, ring.len() as u64);
+        p = next;
         made += 1;
     }
     Ran { position: p, made }
@@ -98,28 +91,20 @@ fn run_log(core: Core, disk: u64, most: u64, pages: &mut [u64], logs: &[u64]) ->
     let tail = tails[disk as usize];
     let position = next_position(core.replay, disk);
     if tail <= position {
-        return refuse(core, 15);
+        return refuse(core, Refusal::OutOfTurn);
     }
     let place = disk_at(sizes.ring, disk);
     let ring = ring_words(logs, place, sizes.ring);
-    let fault = record_fault(&slots, &widths, ring, disk, tail, position);
+    let mut fates = Fates::new();
+    let fault = record_fault(&mut fates, &slots, &widths, ring, disk, tail, position);
     match fault {
-        Fault::BadRecord {
-            disk: bad,
-            position: p,
-        } => refuse_at(core, 7, bad, p),
-        Fault::NoFault => {
-            let ran = run_ring(core, disk, ring, most, pages);
+        Some(bad) => refuse_at(core, Refusal::Malformed, bad.disk, bad.position),
+        None => {
+            let ran = run_ring(core, disk, ring, most, &mut fates, pages);
             let moved = move_on(core, disk, ran.position);
             finish(moved.core, ran.made)
         }
     }
-}
-
-fn lesser(a: u64, b: u64) -> u64
-    ensures { result ≡ min a b }
-{
-    if a < b { a } else { b }
 }
 
 // Steps of the backup: its next pages.
@@ -133,24 +118,22 @@ fn run_backup(core: Core, most: u64, pages: &mut [u64], backups: &[u64]) -> Repl
     let positions = replay.positions;
     let first = replay.page;
     if sizes.pages <= first {
-        return refuse(core, 15);
+        return refuse(core, Refusal::OutOfTurn);
     }
-    let count = lesser(most, sizes.pages - first);
-    let mut made: u64 = 0;
-    while made < count {
+    let count = most.min(sizes.pages - first);
+    for made in 0..count {
         xor_page(pages, backups, sizes, core.epoch, first + made);
-        made += 1;
     }
     let moved = Replay {
         positions,
-        page: first + made,
+        page: first + count,
     };
     finish(
         Core {
             replay: moved,
             ..core
         },
-        made,
+        count,
     )
 }
 
@@ -168,8 +151,7 @@ pub fn run(
     ensures { Gives (restart_run source most) core (world_of anchor.now pages.old backups.now logs.now work.now)
         result 0 (world_of anchor.now pages.new backups.now logs.now work.now) }
 {
-    let refusal = common_refusal(When::Replaying, core, anchor, pages, backups, logs, work);
-    if refusal != 0 {
+    if let Err(refusal) = check_common(When::Replaying, core, anchor, pages, backups, logs, work) {
         return refuse(core, refusal);
     }
     let disks = core.sizes.disks;
@@ -179,5 +161,5 @@ pub fn run(
     if source == disks {
         return run_backup(core, most, pages, backups);
     }
-    refuse(core, 8)
+    refuse(core, Refusal::OutOfRange)
 }

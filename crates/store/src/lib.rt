@@ -1,4 +1,5 @@
 // The store's calls. A state is made by these and by nothing else: its field is private.
+// The five slices are lent one by one, and no struct has them: which of them a call may write differs from call to call, and is told by its `&mut`.
 #![tactic(auto)]
 
 pub mod checkpoints;

@@ -9,7 +9,7 @@ use borrow.Author.Rules.{rules}
 use Rattle.checkpoint.proofs.ends.ends_of.Goals as goal
 
 pub loop-d-init : goal.loop-d-init
-loop-d-init c = (omega arith, disks_max _ c.requires, eight_none _)
+loop-d-init c = (disks_max _ c.requires, eight_none _)
 
 pub overflow_add-ends : goal.overflow_add-ends
 unfolding end_of tail_of fill_of
@@ -17,7 +17,7 @@ overflow_add-ends c = omega (arith, (disk_sound_lem c.args.core c.loop-d.d c.req
 
 pub loop-d-preserved : goal.loop-d-preserved
 unfolding end_of tail_of fill_of
-loop-d-preserved c = (omega arith, omega arith, rw c.loop-d.invariant.2 (eight_more (end_of c.args.core.logs) c.loop-d.d _ (omega arith) refl))
+loop-d-preserved c = (omega arith, rw c.loop-d.invariant.1 (eight_more (end_of c.args.core.logs) c.loop-d.d _ (omega arith) refl))
 
 pub returns : goal.returns
-returns c = c.loop-d.invariant.2 ∙ eight_per_disk _ _ _ (omega arith)
+returns c = c.loop-d.invariant.1 ∙ eight_per_disk _ _ _ (omega arith)

@@ -11,7 +11,7 @@ use borrow.Author.Rules.{rules}
 use Rattle.checkpoint.proofs.flush.flush_all.Goals as goal
 
 pub loop-d-init : goal.loop-d-init
-loop-d-init c = (omega arith, refl, λ anchor pages backups. ran_zero _ _ _)
+loop-d-init c = (refl, λ anchor pages backups. ran_zero _ _ _)
 
 pub home_of-home-requires : goal.home_of-home-requires
 home_of-home-requires c =
@@ -23,7 +23,7 @@ flush_disk-requires c =
     within_there c.args.core c.loop-d.d c.home_of-home.ensures.value _ _
     (record {
       state = c.requires.state;
-      log_words_lem = c.loop-d.invariant.1 ∙ c.requires.log_words_lem;
+      log_words_lem = c.loop-d.invariant.0 ∙ c.requires.log_words_lem;
       work_words_lem = c.requires.work_words_lem;
     })
     c.loop-d-test.true
@@ -35,18 +35,17 @@ returns-then-not-flush_disk c =
     λ anchor pages backups.
     let w = world_of anchor pages backups c.loop-d.logs c.args.work.now in
     ran_stop (flush core.sizes core.logs c.args.work.now) core.sizes.disks c.loop-d.d (omega arith)
-    (c.loop-d.invariant.2 anchor pages backups) (c.if-not-flush_disk.true)
+    (c.loop-d.invariant.1 anchor pages backups) (c.if-not-flush_disk.true)
     (rw (disk_there _ _ _ home) at (c.flush_disk.ensures core.sizes core.logs w (lent_there _ _ _ home w refl refl)))
 
 pub loop-d-preserved : goal.loop-d-preserved
 loop-d-preserved c =
     let core = c.args.core in
     let home = c.home_of-home.ensures.value in (
-      omega arith,
       search rules,
       λ anchor pages backups.
           let w = world_of anchor pages backups c.loop-d.logs c.args.work.now in
-          ran_next (flush core.sizes core.logs c.args.work.now) c.loop-d.d (c.loop-d.invariant.2 anchor pages backups)
+          ran_next (flush core.sizes core.logs c.args.work.now) c.loop-d.d (c.loop-d.invariant.1 anchor pages backups)
           (c.if-not-flush_disk.false)
           (rw (disk_there _ _ _ home) at (c.flush_disk.ensures core.sizes core.logs w (lent_there _ _ _ home w refl refl))),
     )
@@ -54,4 +53,4 @@ loop-d-preserved c =
 pub returns : goal.returns
 returns c =
     let last : c.loop-d.d ≡ c.args.core.sizes.disks = omega arith in
-    λ anchor pages backups. rw last at (c.loop-d.invariant.2 anchor pages backups)
+    λ anchor pages backups. rw last at (c.loop-d.invariant.1 anchor pages backups)

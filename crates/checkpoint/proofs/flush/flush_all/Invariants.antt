@@ -1,5 +1,5 @@
 -- `checkpoint::flush::flush_all` meets its contract: the disks passed are flushed whole. Assumes nothing.
-use Prim.Native.Nat.{ℕ, ◌-◌, ◌≤◌}
+use Prim.Native.Nat.{ℕ}
 use mathlib.Core.Path.{◌≡◌}
 use mathlib.Core.List.{List}
 use mathlib.Core.Bool.{true}
@@ -11,9 +11,6 @@ use Rattle.device.specs.Ran.{Ran}
 use Rattle.checkpoint.proofs.flush.flush_all.Given as goal
 
 abbrev pub invariant-loop-d : goal.invariant-loop-d
-invariant-loop-d l = (l.d ≤ l.disks) × (length l.logs ≡ length l.initial.logs)
+invariant-loop-d l = (length l.logs ≡ length l.initial.logs)
     × ((anchor pages backups : List ℕ)
     → Ran l.initial.budget l.budget (join_below (flush l.sizes l.state l.work) l.d) (world_of anchor pages backups l.initial.logs l.work) (world_of anchor pages backups l.logs l.work) true)
-
-abbrev pub decreases-loop-d : goal.decreases-loop-d
-decreases-loop-d l = l.disks - l.d

@@ -1,11 +1,7 @@
 -- `checkpoint::starts::least_first` meets its contract: the least of the places passed. Assumes nothing.
-use Prim.Native.Nat.{◌-◌, ◌≤◌}
 use mathlib.Core.Path.{◌≡◌}
 use Rattle.model.specs.Checkpoint.{least_first}
 use Rattle.checkpoint.proofs.starts.least_first.Given as goal
 
 abbrev pub invariant-loop-i : goal.invariant-loop-i
-invariant-loop-i l = (l.i ≤ 16) × (l.least ≡ least_first l.table l.disk l.remembered l.i)
-
-abbrev pub decreases-loop-i : goal.decreases-loop-i
-decreases-loop-i l = 16 - l.i
+invariant-loop-i l = l.least ≡ least_first l.table l.disk l.remembered l.i

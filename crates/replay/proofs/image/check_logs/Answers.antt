@@ -1,33 +1,32 @@
 -- `replay::image::check_logs` meets its contract: the tails, then the records. Assumes nothing.
+use mathlib.Core.Path.{sym}
+use native.Mathlib.Omega.{arith}
 use lib.ListN.{get_or}
+use mathlib.Core.Path.{refl}
 use Rattle.model.proofs.Bounds.{bounded}
 use Rattle.disk_log.proofs.Ready.{checkable}
-use Rattle.replay.specs.Parts.{finding_of}
 use Rattle.replay.proofs.Tails.{logs_tail, tail_limit, logs_fault, logs_right}
 use Rattle.replay.proofs.image.check_logs.Goals as goal
 
-pub wrong_tail-disk-requires : goal.wrong_tail-disk-requires
-wrong_tail-disk-requires c = (bounded _ c.requires.0).disks_max
+pub wrong_tail-requires : goal.wrong_tail-requires
+wrong_tail-requires c = (bounded _ c.requires.0).disks_max
 
-pub returns-then-disk-disks : goal.returns-then-disk-disks
-unfolding finding_of
-returns-then-disk-disks c =
-    logs_tail c.args.sizes (bounded _ c.requires.0).disks_max _ _ c.requires.2 c.wrong_tail-disk.ensures c.if-disk-disks.true
+pub returns-in-Some : goal.returns-in-Some
+returns-in-Some c =
+    logs_tail c.args.sizes (bounded _ c.requires.0).disks_max _ _ c.requires.2 c.in-Some.ensures.1 c.in-Some.ensures.0
 
-pub check_disks-fault-requires : goal.check_disks-fault-requires
-check_disks-fault-requires c =
+pub check_disks-requires : goal.check_disks-requires
+check_disks-requires c =
     let b = bounded _ c.requires.0 in
     checkable c.args.sizes b c.args.logs.now c.requires.1
-    (tail_limit c.args.sizes b.disks_max (λ d. get_or c.args.starts d 0) c.args.logs.now c.requires.2 c.wrong_tail-disk.ensures c.if-disk-disks.false)
+    (tail_limit c.args.sizes b.disks_max (λ d. get_or c.args.starts d 0) c.args.logs.now c.requires.2 (sym c.in_default.ensures) (omega arith))
 
-pub returns-in-BadRecord : goal.returns-in-BadRecord
-unfolding finding_of
-returns-in-BadRecord c =
-    logs_fault c.args.sizes (bounded _ c.requires.0).disks_max _ _ c.requires.2 c.wrong_tail-disk.ensures c.if-disk-disks.false
-    c.check_disks-fault.ensures c.in-BadRecord.is
+pub returns-in-Some-check_disks : goal.returns-in-Some-check_disks
+returns-in-Some-check_disks c =
+    logs_fault c.args.sizes (bounded _ c.requires.0).disks_max _ _ c.requires.2 (sym c.in_default.ensures) (omega arith)
+    c.in-Some-check_disks.ensures refl
 
-pub returns-in-NoFault : goal.returns-in-NoFault
-unfolding finding_of
-returns-in-NoFault c =
-    logs_right c.args.sizes (bounded _ c.requires.0).disks_max _ _ c.requires.2 c.wrong_tail-disk.ensures c.if-disk-disks.false
-    c.check_disks-fault.ensures c.in-NoFault.is
+pub returns-in-None : goal.returns-in-None
+returns-in-None c =
+    logs_right c.args.sizes (bounded _ c.requires.0).disks_max _ _ c.requires.2 (sym c.in_default.ensures) (omega arith)
+    c.in-None.ensures refl

@@ -8,13 +8,7 @@ use Rattle.model.proofs.Ring.{disk_within}
 use Rattle.replay.proofs.image.tails_on.Goals as goal
 
 pub loop-d-init : goal.loop-d-init
-loop-d-init c = (omega arith, eight_none _)
-
-pub disk_at-at-requires : goal.disk_at-at-requires
-disk_at-at-requires c = (omega arith, c.requires.1)
-
-pub offset_bounds-logs-at : goal.offset_bounds-logs-at
-offset_bounds-logs-at c = omega (arith, c.disk_at-at.ensures.1)
+loop-d-init c = eight_none _
 
 pub bounds-logs-at : goal.bounds-logs-at
 bounds-logs-at c =
@@ -23,7 +17,7 @@ bounds-logs-at c =
 pub loop-d-preserved : goal.loop-d-preserved
 unfolding tail_in tail_word
 loop-d-preserved c =
-    (omega arith, rw c.loop-d.invariant.1 (eight_more _ _ _ (omega arith) (rw (c.disk_at-at.ensures.0 c.args.sizes refl) refl)))
+    rw c.loop-d.invariant (eight_more _ _ _ (omega arith) (rw (c.disk_at-at.ensures.0 c.args.sizes refl) refl))
 
 pub returns : goal.returns
-returns c = c.loop-d.invariant.1 ∙ eight_per_disk c.args.sizes _ _ (omega arith)
+returns c = c.loop-d.invariant ∙ eight_per_disk c.args.sizes _ _ (omega arith)

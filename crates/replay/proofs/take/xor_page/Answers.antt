@@ -22,7 +22,3 @@ xor_in-requires c =
       n_in_bounds = page_fits _ _ pre.1 base n pre.2;
       n_in_bounds_2 = copy_fits _ _ pre.1 base n _ c.backup_at.ensures.1 pre.3;
     }
-
-pub returns : goal.returns
-returns c =
-    rw (c.page_base-base.ensures.0, c.page_words-n.ensures.0, c.backup_at.ensures.0) at c.xor_in.ensures

@@ -16,16 +16,13 @@ tails_on-tails-requires c =
     let b = bounded _ pre.1 in
     (b.disks_max, b.ring_max, omega (arith, pre.4))
 
-pub check_logs-found-requires : goal.check_logs-found-requires
-check_logs-found-requires c = let pre = c.requires in (pre.1, pre.4, c.tails_on-tails.ensures)
-
-pub returns-then-found-ne0 : goal.returns-then-found-ne0
-returns-then-found-ne0 c =
+pub returns-in-Err : goal.returns-in-Err
+returns-in-Err c =
     λ backups work.
     let a = c.args in
     let pre = c.requires in
     rw c.refuse_at.ensures (begin_refused a.core _ a.sizes pre.0 (bounded _ pre.1).disks_max
-    (c.current_starts-starts.ensures _ refl) _ c.check_logs-found.ensures c.if-found-ne0.true)
+    (c.current_starts-starts.ensures _ refl) c.in-Err.ensures refl)
 
 pub returns-then-epoch-ge-LIMIT : goal.returns-then-epoch-ge-LIMIT
 unfolding epoch_on
@@ -34,14 +31,11 @@ returns-then-epoch-ge-LIMIT c =
     let a = c.args in
     let pre = c.requires in
     rw c.refuse.ensures (begin_spent a.core _ a.sizes pre.0 (bounded _ pre.1).disks_max
-    (c.current_starts-starts.ensures _ refl) _ c.check_logs-found.ensures c.if-found-ne0.false c.if-epoch-ge-LIMIT.true)
+    (c.current_starts-starts.ensures _ refl) c.in_default.ensures refl c.if-epoch-ge-LIMIT.true)
 
 pub fill_words-requires : goal.fill_words-requires
 fill_words-requires c =
     omega (arith, total_made c.args.sizes c.requires.5, c.requires.3)
-
-pub replaying_core-requires : goal.replaying_core-requires
-replaying_core-requires c = c.requires.5
 
 pub returns : goal.returns
 unfolding epoch_on
@@ -50,5 +44,5 @@ returns c =
     let a = c.args in
     let pre = c.requires in
     rw c.finish.ensures (begin_taken a.core _ a.sizes pre.0 (bounded _ pre.1).disks_max
-    (c.current_starts-starts.ensures _ refl) _ c.check_logs-found.ensures c.if-found-ne0.false c.tails_on-tails.ensures
+    (c.current_starts-starts.ensures _ refl) c.in_default.ensures refl c.tails_on-tails.ensures
     (omega (arith, c.if-epoch-ge-LIMIT.false)) (rw (total_made a.sizes pre.5) at c.fill_words.ensures) c.replaying_core.ensures)

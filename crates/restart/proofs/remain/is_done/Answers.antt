@@ -2,9 +2,8 @@
 use Rattle.restart.proofs.Remaining.{done_split}
 use Rattle.restart.proofs.remain.is_done.Goals as goal
 
-pub returns-then-not-logs_done : goal.returns-then-not-logs_done
-returns-then-not-logs_done c = rw (done_split, ← c.logs_done.ensures, c.if-not-logs_done.true)
+pub returns-then-logs_done : goal.returns-then-logs_done
+returns-then-logs_done c = rw (done_split, ← c.logs_done.ensures, c.if-logs_done.true)
 
-pub returns : goal.returns
-returns c =
-    rw (done_split, ← c.logs_done.ensures, c.if-not-logs_done.false)
+pub returns-else-logs_done : goal.returns-else-logs_done
+returns-else-logs_done c = rw (done_split, ← c.logs_done.ensures, c.if-logs_done.false)

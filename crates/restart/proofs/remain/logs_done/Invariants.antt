@@ -1,5 +1,5 @@
 -- `restart::remain::logs_done` meets its contract: of the logs passed nothing remains. Assumes nothing.
-use Prim.Native.Nat.{◌-◌, ◌≤◌}
+use Prim.Native.Nat.{◌-◌}
 use mathlib.Core.Path.{◌≡◌}
 use mathlib.Core.Bool.{true}
 use lib.Dec.{eqb}
@@ -8,7 +8,4 @@ use Rattle.model.specs.Below.{all_below}
 use Rattle.restart.proofs.remain.logs_done.Given as goal
 
 abbrev pub invariant-loop-d : goal.invariant-loop-d
-invariant-loop-d l = (l.d ≤ l.disks) × (all_below (λ i. eqb (get_or l.tails i 0 - get_or l.positions i 0) 0) l.d ≡ true)
-
-abbrev pub decreases-loop-d : goal.decreases-loop-d
-decreases-loop-d l = l.disks - l.d
+invariant-loop-d l = all_below (λ i. eqb (get_or l.tails i 0 - get_or l.positions i 0) 0) l.d ≡ true

@@ -30,9 +30,6 @@ offset_bounds-work-at c = omega (arith, page_low c.requires c.if-carried-page.fa
 pub bounds-work-at : goal.bounds-work-at
 bounds-work-at c = omega (arith, page_low c.requires c.if-carried-page.false, own_long _ _ c.requires.own)
 
-pub overflow_add-n : goal.overflow_add-n
-overflow_add-n c = omega (arith, page_low c.requires c.if-carried-page.false)
-
 pub offset_bounds-work-at-2 : goal.offset_bounds-work-at-2
 offset_bounds-work-at-2 c = omega (arith, page_low c.requires c.if-carried-page.false)
 
@@ -61,9 +58,6 @@ xor_in-requires c =
       n_in_bounds = page_inside c.requires c.if-carried-page.false;
       n_in_bounds_2 = copy_inside c.requires c.if-carried-page.false _ c.backup_start.ensures.1;
     }
-
-pub overflow_add-work : goal.overflow_add-work
-overflow_add-work c = omega (arith, page_low c.requires c.if-carried-page.false)
 
 pub bounds-work-216-2 : goal.bounds-work-216-2
 bounds-work-216-2 c = omega (arith, own_long _ _ c.requires.own)

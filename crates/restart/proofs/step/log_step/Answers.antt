@@ -13,11 +13,11 @@ use Rattle.restart.proofs.Records.{position_here}
 use Rattle.restart.proofs.Steps.{moved_words, to_refused, to_finished, replaying_open}
 use Rattle.restart.proofs.step.log_step.Goals as goal
 
-pub offset_bounds-tails-d : goal.offset_bounds-tails-d
-offset_bounds-tails-d c = let few = eight c.requires.on in omega arith
+pub offset_bounds-carried-d : goal.offset_bounds-carried-d
+offset_bounds-carried-d c = let few = eight c.requires.on in omega arith
 
-pub bounds-tails-d : goal.bounds-tails-d
-bounds-tails-d c = eight c.requires.on
+pub bounds-carried-d : goal.bounds-carried-d
+bounds-carried-d c = eight c.requires.on
 
 pub overflow_add-position : goal.overflow_add-position
 overflow_add-position c = let few = eight c.requires.on in omega arith
@@ -39,38 +39,32 @@ returns-then-tail-position c =
     (step_none (core_of x.carried x.work.now) (body_of w) x.disk c.requires.on.disk_in (omega (arith, here, c.if-tail-position.true)))
     (sym (take-append-drop head_words x.work.now)) c.refused.ensures
 
-pub take_record-taken-requires : goal.take_record-taken-requires
+pub take_record-requires : goal.take_record-requires
 unfolding tail_of core_of
-take_record-taken-requires c =
+take_record-requires c =
     let x = c.args in
     (c.requires, position_here x.carried x.work.now c.requires.own x.disk (eight c.requires.on), c.if-tail-position.false)
 
-pub returns-then-taken : goal.returns-then-taken
+pub returns-in-Err : goal.returns-in-Err
 unfolding body_of
-returns-then-taken c =
+returns-in-Err c =
     let x = c.args in
     λ anchor backups.
     to_refused x.carried (world_of anchor x.pages.now backups x.logs.now x.work.now) x.disk _
-    (rw c.if-taken.true at (c.take_record-taken.ensures anchor backups (drop head_words x.work.now)))
+    (c.in-Err.ensures anchor backups (drop head_words x.work.now))
     (sym (take-append-drop head_words x.work.now)) c.unreadable.ensures
 
-pub overflow_add-work : goal.overflow_add-work
-overflow_add-work c = let few = eight c.requires.on in omega arith
+pub bounds-work-d-in-Ok : goal.bounds-work-d-in-Ok
+bounds-work-d-in-Ok c = omega (arith, eight c.requires.on, own_long _ _ c.requires.own)
 
-pub offset_bounds-work-d-2 : goal.offset_bounds-work-d-2
-offset_bounds-work-d-2 c = let few = eight c.requires.on in omega arith
-
-pub bounds-work-d-2 : goal.bounds-work-d-2
-bounds-work-d-2 c = omega (arith, eight c.requires.on, own_long _ _ c.requires.own)
-
-pub returns : goal.returns
+pub returns-in-Ok : goal.returns-in-Ok
 unfolding body_of
-returns c =
+returns-in-Ok c =
     let x = c.args in
-    let next = c.take_record-taken.result.position in
+    let next = c.in-Ok.next in
     let h = x.carried in
     λ anchor backups.
     to_finished h (world_of anchor x.pages.now backups x.logs.now x.work.now) x.disk (moved_to (core_of h x.work.now) x.disk next) _
-    (rw c.if-taken.false at (c.take_record-taken.ensures anchor backups (drop head_words x.work.now)))
+    (c.in-Ok.ensures anchor backups (drop head_words x.work.now))
     (replaying_open h x.work.now c.requires.on.replays x.disk next).0 (replaying_open h x.work.now c.requires.on.replays x.disk next).1
     (moved_words h x.work.now c.requires.own x.disk next (eight c.requires.on)) c.finished.ensures

@@ -12,11 +12,11 @@ use Rattle.restart.proofs.Extents.{log_readable, slot_place_lem, slot_fits_lem, 
 use Rattle.restart.proofs.Records.{of_log, extent_is, taken_malformed, taken_close, taken_unreadable, taken_change, changed, slot_at, slot_small}
 use Rattle.restart.proofs.step.take_record.Goals as goal
 
-pub offset_bounds-tails-disk : goal.offset_bounds-tails-disk
-offset_bounds-tails-disk c = let few = eight c.requires.0.on in omega arith
+pub offset_bounds-carried-disk : goal.offset_bounds-carried-disk
+offset_bounds-carried-disk c = let few = eight c.requires.0.on in omega arith
 
-pub bounds-tails-disk : goal.bounds-tails-disk
-bounds-tails-disk c = eight c.requires.0.on
+pub bounds-carried-disk : goal.bounds-carried-disk
+bounds-carried-disk c = eight c.requires.0.on
 
 pub slice_bounds-slots-end : goal.slice_bounds-slots-end
 slice_bounds-slots-end c = omega (arith, own_long _ _ c.requires.0.own)

@@ -1,40 +1,54 @@
--- `run::fault::record_fault` meets its contract: by the record, and by its transaction's fate. Assumes nothing.
-use mathlib.Core.Path.{refl}
+-- `run::fault::record_fault` meets its contract: by the record, and by its transaction's fate.
+use mathlib.Core.Path.{refl, sym}
+use mathlib.Core.Logic.{inl, inr}
 use native.Mathlib.Omega.{arith}
 use Rattle.disk_log.specs.Ring.{read_ring}
 use Rattle.disk_log.proofs.Rings.{entries_long}
+use Rattle.disk_log.proofs.Scanning.{fate_change}
 use Rattle.replay.proofs.Stepping.{fate_sound}
 use Rattle.run.proofs.Faults.{fault_ahead, fault_close, fault_malformed}
-use mathlib.Core.Logic.{inl, inr}
+use Rattle.run.proofs.Memory.{remembers_begun, remembers_later}
 use Rattle.run.proofs.fault.record_fault.Goals as goal
 
 pub nonzero_rem-at : goal.nonzero_rem-at
-nonzero_rem-at c = omega (arith, c.requires.1.ring_min)
+nonzero_rem-at c = omega (arith, c.requires.2.ring_min)
 
-pub decode_ring-here-requires : goal.decode_ring-here-requires
-decode_ring-here-requires c =
+pub decode_ring-requires : goal.decode_ring-requires
+decode_ring-requires c =
     let pre = c.requires in
-    let long = entries_long pre.0 in
-    (long.0, long.1, pre.1, record { before_tail = pre.2; at_is = refl })
+    let long = entries_long pre.1 in
+    (long.0, long.1, pre.2, record { before_tail = pre.3; at_is = refl })
+
+pub search_ahead-fate-requires : goal.search_ahead-fate-requires
+search_ahead-fate-requires c = let pre = c.requires in (omega (arith, pre.0), pre.1, pre.2)
 
 pub returns-in-Closed : goal.returns-in-Closed
 returns-in-Closed c =
     let a = c.args in
     λ s e.
-    fault_ahead s (read_ring a.ring.now) a.tail a.disk a.p (c.decode_ring-here.ensures s e) c.in-Change.is (c.fate_in_ring-fate.ensures s e)
-    (fate_sound a.disk c.fate_in_ring-fate.result (λ q x. elim c.in-Closed.is [ inl a ↦ cc | inr a ↦ cc ]))
+    let dec = c.decode_ring.ensures s e in
+    let told = c.search_ahead-fate.ensures s e (λ i l x. absurd (omega (arith, l, c.requires.0))) (remembers_begun c.requires.0 _) in (
+      fault_ahead s (read_ring a.ring.now) a.tail a.disk a.p dec c.in-Change.is told.0
+          (fate_sound a.disk c.search_ahead-fate.result (λ q x. elim c.in-Closed.is [ inl a ↦ cc | inr a ↦ cc ])),
+      remembers_later (λ n. sym (fate_change _ _ _ dec c.requires.3 n c.in-Change.is)) told.1,
+    )
 
 pub returns-in-Unreadable : goal.returns-in-Unreadable
 returns-in-Unreadable c =
     let a = c.args in
-    λ s e. fault_ahead s (read_ring a.ring.now) a.tail a.disk a.p (c.decode_ring-here.ensures s e) c.in-Change.is (c.fate_in_ring-fate.ensures s e) (rw c.in-Unreadable.is)
+    λ s e.
+    let dec = c.decode_ring.ensures s e in
+    let told = c.search_ahead-fate.ensures s e (λ i l x. absurd (omega (arith, l, c.requires.0))) (remembers_begun c.requires.0 _) in (
+      fault_ahead s (read_ring a.ring.now) a.tail a.disk a.p dec c.in-Change.is told.0 (rw c.in-Unreadable.is),
+      remembers_later (λ n. sym (fate_change _ _ _ dec c.requires.3 n c.in-Change.is)) told.1,
+    )
 
 pub returns-in-Close : goal.returns-in-Close
 returns-in-Close c =
     let a = c.args in
-    λ s e. fault_close s (read_ring a.ring.now) a.tail a.disk a.p (c.decode_ring-here.ensures s e) c.in-Close.is
+    λ s e. (fault_close s (read_ring a.ring.now) a.tail a.disk a.p (c.decode_ring.ensures s e) c.in-Close.is, remembers_begun c.requires.0 _)
 
 pub returns-in-Malformed : goal.returns-in-Malformed
 returns-in-Malformed c =
     let a = c.args in
-    λ s e. fault_malformed s (read_ring a.ring.now) a.tail a.disk a.p (c.decode_ring-here.ensures s e) c.in-Malformed.is
+    λ s e. (fault_malformed s (read_ring a.ring.now) a.tail a.disk a.p (c.decode_ring.ensures s e) c.in-Malformed.is, remembers_begun c.requires.0 _)

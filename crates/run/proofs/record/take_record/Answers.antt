@@ -1,4 +1,4 @@
--- `run::record::take_record` meets its contract: what stands at p, and its transaction's fate. Assumes nothing.
+-- `run::record::take_record` meets its contract: what stands at p, and its transaction's fate.
 use Prim.Native.Nat.{◌+◌}
 use mathlib.Core.Path.{refl, sym}
 use native.Mathlib.Omega.{arith}
@@ -9,109 +9,103 @@ use Rattle.run.proofs.Memory.{remembers_later}
 use Rattle.run.proofs.Taking.{takes_malformed, takes_close, takes_unreadable, takes_change}
 use Rattle.run.proofs.record.take_record.Goals as goal
 
-pub decode_ring-here-requires : goal.decode_ring-here-requires
-decode_ring-here-requires c =
+pub decode_ring-requires : goal.decode_ring-requires
+decode_ring-requires c =
     let pre = c.requires in
-    let long = entries_long (record { sizes = pre.6.sizes; are = pre.6.are.entries }) in
-    (long.0, long.1, pre.3, pre.4)
+    let long = entries_long (record { sizes = pre.3.sizes; are = pre.3.are.entries }) in
+    (long.0, long.1, pre.0, pre.1)
 
-pub recall-known-requires : goal.recall-known-requires
-recall-known-requires c =
+pub recall-fate-requires : goal.recall-fate-requires
+recall-fate-requires c =
     let pre = c.requires in
-    (pre.0, pre.1, pre.2, record { sizes = pre.6.sizes; are = pre.6.are.entries }, pre.3)
+    (record { sizes = pre.3.sizes; are = pre.3.are.entries }, pre.0)
 
 pub returns-in-Unreadable : goal.returns-in-Unreadable
 returns-in-Unreadable c =
     let pre = c.requires in
     record {
-      used_bound = (pre.0, omega arith, omega arith, omega (arith, pre.4.before_tail));
+      onward = tt;
       takes = λ s laid m.
-          let dec = c.decode_ring-here.ensures s laid.entries in
+          let dec = c.decode_ring.ensures s laid.entries in
           let e = c.in-Change.is in
-          let told = c.recall-known.ensures.1 s laid.entries (remembers_later (λ n. fate_change _ _ _ dec pre.4.before_tail n e) m) in
-          (takes_unreadable s _ _ _ _ dec _ e told.0 c.in-Unreadable.is, λ ne. absurd (ne refl));
+          let told = c.recall-fate.ensures s laid.entries (remembers_later (λ n. fate_change _ _ _ dec pre.1.before_tail n e) m) in
+          takes_unreadable s _ _ _ _ dec _ e told.0 c.in-Unreadable.is;
     }
 
 pub offset_bounds-bases-page : goal.offset_bounds-bases-page
 offset_bounds-bases-page c =
     let pre = c.requires in
-    let laid = pre.6 in
-    let got = got_change _ _ _ (c.decode_ring-here.ensures laid.sizes laid.are.entries) c.in-Change.is in
+    let laid = pre.3 in
+    let got = got_change _ _ _ (c.decode_ring.ensures laid.sizes laid.are.entries) c.in-Change.is in
     omega (arith, got.page_lt)
 
 pub bounds-bases-page : goal.bounds-bases-page
 bounds-bases-page c =
     let pre = c.requires in
-    let laid = pre.6 in
-    let got = got_change _ _ _ (c.decode_ring-here.ensures laid.sizes laid.are.entries) c.in-Change.is in
-    omega (arith, got.page_lt, pre.5)
+    let laid = pre.3 in
+    let got = got_change _ _ _ (c.decode_ring.ensures laid.sizes laid.are.entries) c.in-Change.is in
+    omega (arith, got.page_lt, pre.2)
 
 pub overflow_mul-to : goal.overflow_mul-to
 overflow_mul-to c =
     let pre = c.requires in
-    let laid = pre.6 in
-    let got = got_change _ _ _ (c.decode_ring-here.ensures laid.sizes laid.are.entries) c.in-Change.is in
+    let laid = pre.3 in
+    let got = got_change _ _ _ (c.decode_ring.ensures laid.sizes laid.are.entries) c.in-Change.is in
     omega (arith, (slot_sum laid.sizes laid.are.entries.bounds got refl).0)
 
 pub overflow_add-to : goal.overflow_add-to
 overflow_add-to c =
     let pre = c.requires in
-    let laid = pre.6 in
-    let got = got_change _ _ _ (c.decode_ring-here.ensures laid.sizes laid.are.entries) c.in-Change.is in
+    let laid = pre.3 in
+    let got = got_change _ _ _ (c.decode_ring.ensures laid.sizes laid.are.entries) c.in-Change.is in
     let sum = slot_sum laid.sizes laid.are.entries.bounds got (laid.are.base _ got.page_lt) in
     omega (arith, sum.1, sum.2, sum.3)
 
 pub advance-from-requires : goal.advance-from-requires
 advance-from-requires c =
-    let ring = c.requires.3 in
-    (within ring c.args.p c.requires.4.at_is, omega (arith, ring.ring_min), ring.ring_max)
+    let ring = c.requires.0 in
+    (within ring c.args.p c.requires.1.at_is, omega (arith, ring.ring_min), ring.ring_max)
 
 pub replay_ring-requires : goal.replay_ring-requires
 replay_ring-requires c =
     let pre = c.requires in
-    let laid = pre.6 in
-    let got = got_change _ _ _ (c.decode_ring-here.ensures laid.sizes laid.are.entries) c.in-Change.is in
+    let laid = pre.3 in
+    let got = got_change _ _ _ (c.decode_ring.ensures laid.sizes laid.are.entries) c.in-Change.is in
     let sum = slot_sum laid.sizes laid.are.entries.bounds got (laid.are.base _ got.page_lt) in
     let short = change_short _ laid.are.entries.bounds got in
-    (c.advance-from.ensures.0, omega (arith, pre.3.ring_min, short.1, got.next_eq), omega (arith, sum.1, sum.2, laid.are.words))
+    (c.advance-from.ensures.0, omega (arith, pre.0.ring_min, short.1, got.next_eq), omega (arith, sum.1, sum.2, laid.are.words))
 
 pub returns-in_default : goal.returns-in_default
 returns-in_default c =
     let pre = c.requires in
-    let laid = pre.6 in
-    let got = got_change _ _ _ (c.decode_ring-here.ensures laid.sizes laid.are.entries) c.in-Change.is in
+    let laid = pre.3 in
+    let got = got_change _ _ _ (c.decode_ring.ensures laid.sizes laid.are.entries) c.in-Change.is in
     let short = change_short _ laid.are.entries.bounds got in
-    let recall = c.recall-known in
     record {
-      used_bound = (recall.ensures.0, omega (arith, short.0), short.1, short.2);
+      onward = short;
       takes = λ s laid m.
-          let dec = c.decode_ring-here.ensures s laid.entries in
+          let dec = c.decode_ring.ensures s laid.entries in
           let e = c.in-Change.is in
-          let told = recall.ensures.1 s laid.entries (remembers_later (λ n. fate_change _ _ _ dec pre.4.before_tail n e) m) in
+          let told = c.recall-fate.ensures s laid.entries (remembers_later (λ n. fate_change _ _ _ dec pre.1.before_tail n e) m) in
           let change = got_change _ _ _ dec e in
           let sum = slot_sum s laid.entries.bounds change (laid.base _ change.page_lt) in
-          let after = rw sum.1 at (c.replay_ring.ensures (c.args.p + 3) (c.advance-from.ensures.1 _ pre.4.at_is)) in
-          (takes_change s _ _ _ _ dec _ e told.0 (λ q x. c.in_default.not-Unreadable q x) c.is_replayed-replays.ensures after, λ _. told.1);
+          let after = rw sum.1 at (c.replay_ring.ensures (c.args.p + 3) (c.advance-from.ensures.1 _ pre.1.at_is)) in
+          (takes_change s _ _ _ _ dec _ e told.0 (λ q x. c.in_default.not-Unreadable q x) c.is_replayed-replays.ensures after, told.1);
     }
 
 pub returns-in-Close : goal.returns-in-Close
 returns-in-Close c =
     let pre = c.requires in
-    let forget = c.forget-used in
-    let laid = pre.6 in
-    let short = close_short (got_close _ _ _ (c.decode_ring-here.ensures laid.sizes laid.are.entries) c.in-Close.is) in
+    let laid = pre.3 in
+    let short = close_short (got_close _ _ _ (c.decode_ring.ensures laid.sizes laid.are.entries) c.in-Close.is) in
     record {
-      used_bound = (forget.ensures.0, omega (arith, short.0), short.1, short.2);
+      onward = short;
       takes = λ s laid m.
-          let dec = c.decode_ring-here.ensures s laid.entries in
+          let dec = c.decode_ring.ensures s laid.entries in
           let e = c.in-Close.is in
-          (takes_close s _ _ _ _ dec _ e, λ _. forget.ensures.1 _ _ (λ n ne. fate_other _ _ _ dec pre.4.before_tail n e (λ x. ne (sym x))) m);
+          (takes_close s _ _ _ _ dec _ e, c.forget.ensures _ _ (λ n ne. fate_other _ _ _ dec pre.1.before_tail n e (λ x. ne (sym x))) m);
     }
 
 pub returns-in-Malformed : goal.returns-in-Malformed
 returns-in-Malformed c =
-    let pre = c.requires in
-    record {
-      used_bound = (pre.0, omega arith, omega arith, omega (arith, pre.4.before_tail));
-      takes = λ s laid m. (takes_malformed s _ _ _ _ (c.decode_ring-here.ensures s laid.entries) _ c.in-Malformed.is, λ ne. absurd (ne refl));
-    }
+    record { onward = tt; takes = λ s laid m. takes_malformed s _ _ _ _ (c.decode_ring.ensures s laid.entries) _ c.in-Malformed.is }

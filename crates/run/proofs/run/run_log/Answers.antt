@@ -1,4 +1,5 @@
--- `run::run::run_log` meets its contract: what remains, the first record, and then the run. Assumes nothing.
+-- `run::run::run_log` meets its contract: what remains, the first record, and then the run.
+use Rattle.std.specs.Prelude.{None}
 use Prim.Native.Nat.{◌<◌}
 use mathlib.Core.Path.{refl, sym, ◌∙◌}
 use native.Mathlib.Omega.{arith}
@@ -52,45 +53,52 @@ pub record_fault-fault-requires : goal.record_fault-fault-requires
 unfolding tail_of
 record_fault-fault-requires c =
     let core = c.args.core in
-    (record { sizes = core.sizes; are = entries_of_lem c.requires.replays }, log_ring c.requires (disk_ring c.requires c.disk_at-place.ensures.0 c.ring_words-ring.ensures), c.if-tail-position.false)
+    (c.new-fates.ensures, record { sizes = core.sizes; are = entries_of_lem c.requires.replays }, log_ring c.requires (disk_ring c.requires c.disk_at-place.ensures.0 c.ring_words-ring.ensures), c.if-tail-position.false)
 
 pub run_ring-ran-requires : goal.run_ring-ran-requires
-unfolding tail_of
+unfolding tail_of position_of
 run_ring-ran-requires c =
     let on = c.requires in
-    (on.replays, on.disk_in, on.page_words_lem, log_ring on (disk_ring on c.disk_at-place.ensures.0 c.ring_words-ring.ensures))
+    let next = c.next_position-position.ensures in
+    let core = c.args.core in (
+      on.replays,
+      on.disk_in,
+      on.page_words_lem,
+      log_ring on (disk_ring on c.disk_at-place.ensures.0 c.ring_words-ring.ensures),
+      rw next.0 at (c.record_fault-fault.ensures core.sizes (entries_of_lem on.replays)).1,
+    )
 
 pub move_on-moved-requires : goal.move_on-moved-requires
 move_on-moved-requires c = eight c.requires
 
-pub returns-in-BadRecord : goal.returns-in-BadRecord
+pub returns-in-Some : goal.returns-in-Some
 unfolding position_of tail_of
-returns-in-BadRecord c =
+returns-in-Some c =
     let on = c.requires in
     let core = c.args.core in
     let next = c.next_position-position.ensures in
     let long : c.args.disk < length core.replay.positions = omega (arith, next.1, eight on) in
     let some = rw next.0 at c.if-tail-position.false in
-    let found = rw next.0 at (c.record_fault-fault.ensures core.sizes (entries_of_lem on.replays)) in
+    let found = rw next.0 at (c.record_fault-fault.ensures core.sizes (entries_of_lem on.replays)).0 in
     λ anchor backups work pass.
     rw c.refuse_at.ensures
     (run_refused _ _ _ _ _ _ _
     (fault_refused core _ c.args.disk _ _
     (fault_at_lem core _ c.args.disk on.disk_in long _ (disk_ring on c.disk_at-place.ensures.0 c.ring_words-ring.ensures) some found
-    ∙ c.in-BadRecord.is)))
+    ∙ c.in-Some.is)))
 
-pub returns-in-NoFault : goal.returns-in-NoFault
+pub returns-in-None : goal.returns-in-None
 unfolding position_of tail_of
-returns-in-NoFault c =
+returns-in-None c =
     let on = c.requires in
     let core = c.args.core in
     let next = c.next_position-position.ensures in
     let long : c.args.disk < length core.replay.positions = omega (arith, next.1, eight on) in
     let some = rw next.0 at c.if-tail-position.false in
-    let found = rw next.0 at (c.record_fault-fault.ensures core.sizes (entries_of_lem on.replays)) in
+    let found = rw next.0 at (c.record_fault-fault.ensures core.sizes (entries_of_lem on.replays)).0 in
     let lies = disk_ring on c.disk_at-place.ensures.0 c.ring_words-ring.ensures in
     λ anchor backups work pass.
-    let sound = fault_at_lem core _ c.args.disk on.disk_in long _ lies some found ∙ c.in-NoFault.is in
+    let sound = fault_at_lem core _ c.args.disk on.disk_in long _ lies some found ∙ c.in-None.is in
     rw (c.finish.ensures, c.move_on-moved.ensures)
     (run_given _ _ _ _ (step_accepted c.args.disk core _ sound (omega (arith, on.disk_in)) (omega (arith, remaining_log core c.args.disk on.disk_in, some)))
     (c.run_ring-ran.ensures anchor backups _ work lies pass))

@@ -1,8 +1,8 @@
--- `replay::image::anchor_refusal` meets its contract: the tests in the definition's order. Assumes nothing.
+-- `replay::image::check_anchor` meets its contract: the tests in the definition's order. Assumes nothing.
 use borrow.Author.Tests.{eq-eqb, ne_eqb}
 use Rattle.model.specs.Anchor.{epoch_on}
 use Rattle.replay.specs.Parts.{anchor_refusal}
-use Rattle.replay.proofs.image.anchor_refusal.Goals as goal
+use Rattle.replay.proofs.image.check_anchor.Goals as goal
 
 pub returns-then-anchor-ne-ANCHOR_WORDS : goal.returns-then-anchor-ne-ANCHOR_WORDS
 unfolding anchor_refusal
