@@ -3,6 +3,7 @@ use mathlib.Core.Path.{◌≡◌, refl}
 use Prim.Native.Nat.{ℕ}
 use mathlib.Core.Bool.{Bool, true, false, cond}
 use borrow.Author.Tests.{eq-eqb, ne_eqb}
+use Rattle.std.specs.Prelude.{Option, Some}
 use Rattle.model.specs.declared.Core.{Core}
 use Rattle.model.specs.declared.Answer.{Answer}
 use Rattle.model.specs.declared.Answer.TheVariants.{Finished, Refused, Interrupted}
@@ -48,7 +49,7 @@ no_value (Interrupted stores) e = refl
 
 -- The line of a restart, by whether the replay came through.
 module _ (c : Core) (w : World) (r : Result) (all : r ≡ replayed_all c w) where
-  pub restart_refused : {outcome : Outcome} {next : Core} → is_finished r.answer ≡ false → outcome ≡ shown_of r.answer 0 → next ≡ r.core
+  pub restart_refused : {outcome : Option Outcome} {next : Core} → is_finished r.answer ≡ false → outcome ≡ Some (shown_of r.answer 0) → next ≡ r.core
       → record { outcome = outcome; core = next; world = r.world } ≡ showing_own (restarted_all c w)
   unfolding restarted_all
   restart_refused refused shown same = rw (← all, refused, shown, same, no_value r.answer refused)

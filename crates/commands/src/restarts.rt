@@ -22,16 +22,23 @@ fn replay(
     ensures { given result (world_of anchor.now pages.new backups.now logs.now work.new)
         ≡ to_end source (given begun (world_of anchor.now pages.old backups.now logs.now work.old)) }
 {
-    let answer = begun.answer;
-    if !is_finished(answer) {
+    if !is_finished(begun.answer) {
         return begun;
     }
-    let state = begun.state;
-    let left = store::restarts::restart_remaining(state, source, work);
+    let left = store::restarts::restart_remaining(begun.state, source, work);
     if left == 0 {
         return begun;
     }
-    store::restarts::restart_run(state, source, left, anchor, pages, backups, logs, work)
+    store::restarts::restart_run(
+        begun.state,
+        source,
+        left,
+        anchor,
+        pages,
+        backups,
+        logs,
+        work,
+    )
 }
 
 // The pages as the backup and the logs give them: source 0 to its end, then 1, then the backup.
@@ -65,14 +72,12 @@ pub fn run_restart(
         result (world_of anchor.new pages.new backups.new logs.now work.new) }
 {
     let replayed = replay_all(state, anchor, pages, backups, logs, work);
-    let answer = replayed.answer;
-    if !is_finished(answer) {
+    if !is_finished(replayed.answer) {
         return done_of(replayed, 0);
     }
-    let state = replayed.state;
     let mut budget = u64::MAX;
     let called = store::restarts::restart_end(
-        state,
+        replayed.state,
         anchor,
         pages,
         backups,
@@ -80,7 +85,5 @@ pub fn run_restart(
         work,
         &mut budget,
     );
-    let answer = called.answer;
-    let value = value_of(answer);
-    done_of(called, value)
+    done_of(called, value_of(called.answer))
 }

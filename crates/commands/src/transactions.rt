@@ -21,9 +21,7 @@ pub fn run_begin(
         result (world_of anchor.now pages.now backups.now logs.now work.new) }
 {
     let called = store::transactions::begin(state, 0, anchor, pages, backups, logs, work);
-    let answer = called.answer;
-    let value = value_of(answer);
-    done_of(called, value)
+    done_of(called, value_of(called.answer))
 }
 
 // A slot, and the number of the transaction that sees it; 0 has no transaction.
@@ -57,10 +55,10 @@ fn slot_word(
         logs,
         work,
     );
-    if words.len() == 0 {
-        return 0;
+    match words {
+        &[word, ..] => word,
+        [] => 0,
     }
-    words[0]
 }
 
 // The value shown is the difference: before, as the transaction reads it, XOR after.
@@ -78,14 +76,13 @@ pub fn run_set(
         result (world_of anchor.now pages.new backups.now logs.new work.new) }
 {
     let before = slot_word(state, seen, anchor, pages, backups, logs, work);
-    let after = [value];
     let mut budget = u64::MAX;
     let called = store::transactions::update(
         state,
         seen.number,
         seen.page,
         seen.slot,
-        &after,
+        &[value],
         anchor,
         pages,
         backups,
@@ -171,6 +168,8 @@ pub fn run_get(
     let answer = store::transactions::read_answer(
         state, 0, page, slot, anchor, pages, backups, logs, work,
     );
-    let outcome = shown(answer, word);
-    Done { outcome, state }
+    Done {
+        outcome: Some(shown(answer, word)),
+        state,
+    }
 }

@@ -5,6 +5,7 @@ use mathlib.Core.List.{List, [], ◌∷◌, ◌++◌, append-nil, append_assoc}
 use mathlib.Core.Bool.{Bool, true, false, not}
 use native.Mathlib.Omega.{arith}
 use lib.ListN.{length, take}
+use Rattle.std.specs.Prelude.{Option}
 use Rattle.model.specs.World.{World}
 use Rattle.model.specs.View.{core_of, body_of}
 use Rattle.lines.specs.declared.command.Command.{Command}
@@ -15,10 +16,10 @@ use Rattle.lines.specs.After.{command_after}
 use Rattle.lines.specs.Output.{tally_text}
 use Rattle.lines.specs.Counting.{one_more, counted}
 use Rattle.commands.specs.declared.outcome.Done.{Done}
-use Rattle.commands.specs.Meaning.{Line, line_of, Runs}
+use Rattle.commands.specs.Meaning.{Line, line_of, line_seen}
 use Rattle.store.specs.declared.State.{State}
 use Rattle.hall.specs.declared.console.Console.{Console}
-use Rattle.hall.specs.Running.{Program, text_of, line_taken, with_read, with_tally, heading, formatting, started}
+use Rattle.hall.specs.Running.{Program, answer_of, text_of, line_taken, with_read, with_tally, heading, formatting, started}
 use Rattle.hall.specs.Held.{Holds, Stands}
 
 -- a console with another fill
@@ -31,11 +32,11 @@ more_text handed front text e added = rw (e, added, append_assoc)
 
 module _ (c : Console) (w : World) (out handed : List ℕ) (p : Program) (h : Holds c w out handed p) where
   -- a line was run
-  pub line_run : (v : World) (after : List ℕ) {command : Command} {done : Done} {tally : Tally} {line fill : ℕ} {fresh : Partial}
+  pub line_run : (v : World) (after : List ℕ) {command : Option Command} {done : Done} {tally : Tally} {line fill : ℕ} {fresh : Partial}
       → command ≡ command_after c.partial []
-      → Runs command c.state.carried w done v
+      → line_seen done.outcome done.state.carried v ≡ line_of command (core_of c.state.carried w.work) (body_of w)
       → line ≡ one_more c.line
-      → tally ≡ counted c.tally done.outcome.answer
+      → tally ≡ counted c.tally (answer_of done.outcome)
       → take fill after ≡ take c.fill out ++ text_of line done.outcome
       → ((l : List ℕ) → command_after fresh l ≡ command_of l)
       → Stands (record { state = done.state; tally = tally; line = line; partial = fresh; begun = false; fill = fill }) v after handed (line_taken p)

@@ -1,5 +1,5 @@
 -- What the program does with its input, byte by byte, and all that it puts out.
-use Rattle.std.specs.Prelude.{ℕ, List, [], ◌∷◌, ◌++◌, cond, replicate, eqb}
+use Rattle.std.specs.Prelude.{ℕ, List, [], ◌∷◌, ◌++◌, cond, replicate, eqb, Option, None, Some}
 use Rattle.model.specs.declared.Sizes.{Sizes}
 use Rattle.model.specs.declared.Core.{Core}
 use Rattle.model.specs.World.{World, world_of}
@@ -49,8 +49,14 @@ started w =
     }
 
 -- a line of the output
-unfoldable pub text_of : ℕ → Outcome → List ℕ
-text_of line o = cond (eqb o.answer 17) (other_text line) (line_text line o.answer o.stores o.value)
+unfoldable pub text_of : ℕ → Option Outcome → List ℕ
+text_of line None = other_text line
+text_of line (Some o) = line_text line o.answer o.stores o.value
+
+-- the answer that a line is counted by
+abbrev pub answer_of : Option Outcome → Option ℕ
+answer_of None = None
+answer_of (Some o) = Some o.answer
 
 -- a line that has ended is run, counted and shown under its number
 unfoldable pub line_taken : Program → Program
@@ -60,7 +66,7 @@ line_taken p =
     record {
       core = l.core;
       world = l.world;
-      tally = counted p.tally l.outcome.answer;
+      tally = counted p.tally (answer_of l.outcome);
       line = number;
       read = [];
       text = p.text ++ text_of number l.outcome;

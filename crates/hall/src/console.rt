@@ -1,17 +1,18 @@
 // What the program keeps from line to line.
 ghost use Rattle.std.specs.Prelude.{◌≡◌, ℕ, ◌+◌, ◌*◌, ◌-◌, ◌≤◌, ◌<◌, List, length, drop};
 ghost use Rattle.model.specs.World.{world_of};
-ghost use Rattle.hall.specs.Running.{Program, line_taken, fed, ended};
+ghost use Rattle.hall.specs.Running.{Program, answer_of, line_taken, fed, ended};
 ghost use Rattle.hall.specs.Held.{Holds, Stands};
 
 use crate::output::add_line;
+use commands::outcome::Outcome;
 use commands::running::run;
 use lines::partial::{Partial, command_of, line_length, read_piece, start};
-use lines::tally::{Tally, after_line, one_more};
+use lines::tally::{Tally, count, one_more};
 use store::State;
 
-// The store's state, the tally, how many lines there were, what is read of the next one and whether anything is, and the fill of
-// the output's buffer.
+// The store's state, the tally, how many lines there were, what is read of the next one and whether anything is (the reader goes on
+// from `partial` either way, so an Option of it would be no plainer), and the fill of the output's buffer.
 #[derive(Clone, Copy)]
 pub struct Console {
     pub state: State,
@@ -20,6 +21,13 @@ pub struct Console {
     pub partial: Partial,
     pub begun: bool,
     pub fill: usize,
+}
+
+// The answer that a line is counted by.
+fn answer_of(outcome: Option<Outcome>) -> Option<u64>
+    ensures { result ≡ answer_of outcome }
+{
+    outcome.map(|o| o.answer)
 }
 
 // Runs the line that is read.
@@ -39,17 +47,15 @@ fn take_line(
 {
     let command = command_of(console.partial);
     let done = run(command, console.state, anchor, pages, backups, logs, work);
-    let outcome = done.outcome;
-    let state = done.state;
     let line = one_more(console.line);
-    let tally = after_line(console.tally, outcome.answer);
-    let fill = add_line(out, console.fill, line, outcome);
-    let partial = start();
+    let mut tally = console.tally;
+    count(&mut tally, answer_of(done.outcome));
+    let fill = add_line(out, console.fill, line, done.outcome);
     Console {
-        state,
+        state: done.state,
         tally,
         line,
-        partial,
+        partial: start(),
         begun: false,
         fill,
     }

@@ -75,12 +75,11 @@ fn opened(
         refused: 0,
         cut: 0,
     };
-    let partial = start();
     Console {
         state,
         tally,
         line: 0,
-        partial,
+        partial: start(),
         begun: false,
         fill,
     }

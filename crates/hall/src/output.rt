@@ -2,7 +2,7 @@
 ghost use Rattle.std.specs.Prelude.{◌≡◌, ◌+◌, ◌≤◌, ◌++◌, length, take, drop};
 ghost use Rattle.hall.specs.Running.{text_of};
 
-use commands::outcome::{OTHER, Outcome};
+use commands::outcome::Outcome;
 use lines::output::{put_line, put_other};
 
 // Adds a text; answers the new fill.
@@ -11,30 +11,25 @@ pub fn add(out: &mut [u8], fill: usize, text: &[u8]) -> usize
     ensures value { result ≡ fill + length text.now }
     ensures out_after { take result out.new ≡ take fill out.old ++ text.now }
 {
-    let n = text.len();
-    let mut i = 0;
-    while i < n {
-        out[fill + i] = text[i];
-        i += 1;
-    }
-    fill + n
+    let end = fill + text.len();
+    out[fill..end].copy_from_slice(text);
+    end
 }
 
 // The line as text, at the end of the array.
-fn text_of(text: &mut [u8], line: u64, outcome: Outcome) -> usize
+fn text_of(text: &mut [u8], line: u64, outcome: Option<Outcome>) -> usize
     requires { 84 ≤ length text.old }
     ensures upper_bound { result ≤ length text.old }
     ensures text_after { drop result text.new ≡ text_of line outcome }
 {
-    let answer = outcome.answer;
-    if answer == OTHER {
-        return put_other(text, line);
+    match outcome {
+        Some(o) => put_line(text, line, o.answer, o.stores, o.value),
+        None => put_other(text, line),
     }
-    put_line(text, line, answer, outcome.stores, outcome.value)
 }
 
 // Adds an outcome's line, of at most 84 bytes; answers the new fill.
-pub fn add_line(out: &mut [u8], fill: usize, line: u64, outcome: Outcome) -> usize
+pub fn add_line(out: &mut [u8], fill: usize, line: u64, outcome: Option<Outcome>) -> usize
     requires { fill + 84 ≤ length out.old }
     ensures upper_bound { result ≤ fill + 84 }
     ensures out_after { take result out.new ≡ take fill out.old ++ text_of line outcome }

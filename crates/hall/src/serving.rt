@@ -19,7 +19,8 @@ pub struct Flushed {
     pub written: bool,
 }
 
-// Hands the text that waits to write. Of what becomes of it no contract of the C library speaks.
+// Hands the text that waits to write. A flag and no Result: the clauses of `flush`, `serve_some` and `serve` tell of the console after a
+// failure too. Of what becomes of it no contract of the C library speaks.
 pub fn flush(console: Console, out: &[u8]) -> Flushed
     requires { console.fill ≤ length out.now }
     ensures fill_value { result.console.fill ≡ 0 }
@@ -84,7 +85,7 @@ fn serve_some(
 }
 
 // Runs every line of the input: it ends when a read gives nothing, or a read or a write has failed. A proved loop has to end, so it
-// counts its turns down from a number that no run uses up.
+// counts its turns up to a number that no run reaches.
 fn serve(
     rt: &HostRuntime,
     console: Console,
@@ -102,9 +103,7 @@ fn serve(
         → (input : List ℕ) × Stands result.console (world_of anchor.new pages.new backups.new logs.new work.new) out.new (fed p input).text (fed p input) }
 {
     let mut c = console;
-    let mut turns = u64::MAX;
-    while 0 < turns {
-        turns -= 1;
+    for _turn in 0..u64::MAX {
         let served = serve_some(rt, c, anchor, pages, backups, logs, work, out);
         let failed = served.failed;
         if failed {

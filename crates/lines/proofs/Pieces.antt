@@ -1,14 +1,12 @@
 -- A line in pieces: what is read of it piece by piece, and the command of the whole line.
-use Prim.Native.Nat.{ℕ, ◌+◌, ◌<◌, ◌≤◌}
+use Prim.Native.Nat.{ℕ, ◌+◌, ◌<◌}
 use mathlib.Core.Path.{◌≡◌, ◌∙◌}
 use mathlib.Core.List.{List, [], ◌∷◌, ◌++◌, append_assoc, append-nil}
 use native.Mathlib.Numerals.{add-one}
-use lib.ListN.{length, get_or, drop, drop_of_length-le}
+use lib.ListN.{length, get_or, drop}
 use lib.Seq.{drop-cons}
-use native.Mathlib.Omega.{arith}
-use borrow.Author.Tests.{eq-eqb, ne_eqb}
 use Rattle.lines.specs.declared.partial.Partial.{Partial}
-use Rattle.lines.specs.Line.{command_of, line_length}
+use Rattle.lines.specs.Line.{command_of}
 use Rattle.lines.specs.After.{command_after, Pieces, none, piece}
 
 -- one byte of a piece
@@ -22,17 +20,3 @@ line_in_pieces p = rw append-nil at (after p [])
     after : {line : List ℕ} {last : Partial} → Pieces line last → (more : List ℕ) → command_after last more ≡ command_of (line ++ more)
     after (none begun) more = begun more
     after (piece {line} before bytes read) more = read more ∙ after before (bytes ++ more) ∙ rw append_assoc
-
--- the first end of a line, from an index on
-module _ (bytes : List ℕ) (i : ℕ) where
-  pub line_here : i < length bytes → get_or bytes i 0 ≡ 10 → i ≡ i + line_length (drop i bytes)
-  unfolding line_length
-  line_here h e = rw (drop-cons bytes i 0 h, eq-eqb _ 10 e) (omega arith)
-
-  pub line_on : i < length bytes → (get_or bytes i 0 ≡ 10 → ⊥) → i + 1 + line_length (drop (i + 1) bytes) ≡ i + line_length (drop i bytes)
-  unfolding line_length
-  line_on h n = rw (drop-cons bytes i 0 h, ne_eqb _ 10 n, add-one i) (omega arith)
-
-  pub line_out : length bytes ≤ i → i ≡ i + line_length (drop i bytes)
-  unfolding line_length
-  line_out h = rw (drop_of_length-le bytes h) (omega arith)

@@ -1,7 +1,7 @@
 -- 01, "Lines of the program": what a line means. A line is the list of its bytes, without the byte 10 that ends it.
-use Rattle.std.specs.Prelude.{ℕ, ◌+◌, ◌*◌, ◌-◌, ◌^◌, List, [], ◌∷◌, map, Bool, true, false, cond, not, ◌&&◌, length, get_or, leb, ltb, eqb}
+use Rattle.std.specs.Prelude.{ℕ, ◌+◌, ◌*◌, ◌-◌, ◌^◌, List, [], ◌∷◌, map, Bool, true, false, cond, not, ◌&&◌, length, get_or, leb, ltb, eqb, Option, None, Some}
 use Rattle.lines.specs.declared.command.Command.{Command}
-use Rattle.lines.specs.declared.command.Command.TheVariants.{Begin, Set, Commit, Abort, Get, Mark, Copy, Close, Restart, Other}
+use Rattle.lines.specs.declared.command.Command.TheVariants.{Begin, Set, Commit, Abort, Get, Mark, Copy, Close, Restart}
 
 -- A line split at each byte 32: what stands before the first, and the fields after it. So two spaces have an empty field between them.
 pub record Fields : Type 0 where
@@ -51,34 +51,34 @@ same (a ∷ l) [] = false
 same (a ∷ l) (b ∷ bs) = eqb a b && same l bs
 
 -- a command that takes no numbers, and those that take some; "Without an allowance it is the largest."
-unfoldable pub without_numbers : Command → List ℕ → Command
-without_numbers command vs = cond (eqb (length vs) 0) command Other
+unfoldable pub without_numbers : Command → List ℕ → Option Command
+without_numbers command vs = cond (eqb (length vs) 0) (Some command) None
 
-unfoldable pub set_of : List ℕ → Command
-set_of vs = cond (eqb (length vs) 4) (Set (get_or vs 0 0) (get_or vs 1 0) (get_or vs 2 0) (get_or vs 3 0)) Other
+unfoldable pub set_of : List ℕ → Option Command
+set_of vs = cond (eqb (length vs) 4) (Some (Set (get_or vs 0 0) (get_or vs 1 0) (get_or vs 2 0) (get_or vs 3 0))) None
 
-unfoldable pub commit_of : List ℕ → Command
+unfoldable pub commit_of : List ℕ → Option Command
 commit_of vs =
-    cond (eqb (length vs) 1) (Commit (get_or vs 0 0) 18446744073709551615)
-    (cond (eqb (length vs) 2) (Commit (get_or vs 0 0) (get_or vs 1 0)) Other)
+    cond (eqb (length vs) 1) (Some (Commit (get_or vs 0 0) 18446744073709551615))
+    (cond (eqb (length vs) 2) (Some (Commit (get_or vs 0 0) (get_or vs 1 0))) None)
 
-unfoldable pub abort_of : List ℕ → Command
-abort_of vs = cond (eqb (length vs) 1) (Abort (get_or vs 0 0)) Other
+unfoldable pub abort_of : List ℕ → Option Command
+abort_of vs = cond (eqb (length vs) 1) (Some (Abort (get_or vs 0 0))) None
 
-unfoldable pub get_of : List ℕ → Command
-get_of vs = cond (eqb (length vs) 2) (Get (get_or vs 0 0) (get_or vs 1 0)) Other
+unfoldable pub get_of : List ℕ → Option Command
+get_of vs = cond (eqb (length vs) 2) (Some (Get (get_or vs 0 0) (get_or vs 1 0))) None
 
 -- The command with a name and numbers; the names in ASCII: mark, copy, close, restart.
-unfoldable pub form_without_numbers : List ℕ → List ℕ → Command
+unfoldable pub form_without_numbers : List ℕ → List ℕ → Option Command
 form_without_numbers name vs =
     cond (same name (109 ∷ 97 ∷ 114 ∷ 107 ∷ [])) (without_numbers Mark vs)
     (cond (same name (99 ∷ 111 ∷ 112 ∷ 121 ∷ [])) (without_numbers Copy vs)
     (cond (same name (99 ∷ 108 ∷ 111 ∷ 115 ∷ 101 ∷ [])) (without_numbers Close vs)
     (cond (same name (114 ∷ 101 ∷ 115 ∷ 116 ∷ 97 ∷ 114 ∷ 116 ∷ [])) (without_numbers Restart vs)
-    Other)))
+    None)))
 
 -- begin, set, commit, abort, get
-unfoldable pub form_of : List ℕ → List ℕ → Command
+unfoldable pub form_of : List ℕ → List ℕ → Option Command
 form_of name vs =
     cond (same name (98 ∷ 101 ∷ 103 ∷ 105 ∷ 110 ∷ [])) (without_numbers Begin vs)
     (cond (same name (115 ∷ 101 ∷ 116 ∷ [])) (set_of vs)
@@ -87,11 +87,11 @@ form_of name vs =
     (cond (same name (103 ∷ 101 ∷ 116 ∷ [])) (get_of vs)
     (form_without_numbers name vs)))))
 
-unfoldable pub fields_mean : List ℕ → List (List ℕ) → Command
-fields_mean name numbers = cond (all_numbers numbers) (form_of name (map value numbers)) Other
+unfoldable pub fields_mean : List ℕ → List (List ℕ) → Option Command
+fields_mean name numbers = cond (all_numbers numbers) (form_of name (map value numbers)) None
 
--- "A line of any other form": Other.
-unfoldable pub command_of : List ℕ → Command
+-- None: "a line of any other form".
+unfoldable pub command_of : List ℕ → Option Command
 command_of line = fields_mean (fields line).first (fields line).rest
 
 -- the bytes before the first byte 10, which ends a line

@@ -1,8 +1,8 @@
 // The commands, by name and numbers.
 ghost use Rattle.std.specs.Prelude.{◌≡◌};
-ghost use Rattle.lines.specs.Line.{same, without_numbers, set_of, commit_of, abort_of, get_of, form_without_numbers, form_of};
+ghost use Rattle.lines.specs.Line.{without_numbers, set_of, commit_of, abort_of, get_of, form_without_numbers, form_of};
 
-// What a line asks for. Other: a line of any other form.
+// What a line asks for.
 #[derive(Clone, Copy)]
 pub enum Command {
     Begin,
@@ -27,127 +27,103 @@ pub enum Command {
     Copy,
     Close,
     Restart,
-    Other,
-}
-
-// Are they the same bytes?
-fn is_same(a: &[u8], b: &[u8]) -> bool
-    ensures { result ≡ same a.now b.now }
-{
-    if a.len() != b.len() {
-        return false;
-    }
-    let mut i = 0;
-    while i < a.len() {
-        if a[i] != b[i] {
-            return false;
-        }
-        i += 1;
-    }
-    true
 }
 
 // A command that takes no numbers.
-fn without_numbers(command: Command, values: &[u64]) -> Command
+#[tactic(auto, unfolding(crate::specs::Line::without_numbers))]
+fn without_numbers(command: Command, values: &[u64]) -> Option<Command>
     ensures { result ≡ without_numbers command values.now }
 {
-    if values.len() == 0 {
-        return command;
+    match values {
+        [] => Some(command),
+        _ => None,
     }
-    Command::Other
 }
 
-fn set_of(values: &[u64]) -> Command
+#[tactic(auto, unfolding(crate::specs::Line::set_of))]
+fn set_of(values: &[u64]) -> Option<Command>
     ensures { result ≡ set_of values.now }
 {
-    if values.len() == 4 {
-        return Command::Set {
-            number: values[0],
-            page: values[1],
-            slot: values[2],
-            value: values[3],
-        };
+    match values {
+        &[number, page, slot, value] => Some(Command::Set {
+            number,
+            page,
+            slot,
+            value,
+        }),
+        _ => None,
     }
-    Command::Other
 }
 
 // Without an allowance it is the largest.
-fn commit_of(values: &[u64]) -> Command
+#[tactic(auto, unfolding(crate::specs::Line::commit_of))]
+fn commit_of(values: &[u64]) -> Option<Command>
     ensures { result ≡ commit_of values.now }
 {
-    if values.len() == 1 {
-        return Command::Commit {
-            number: values[0],
+    match values {
+        &[number] => Some(Command::Commit {
+            number,
             allowance: u64::MAX,
-        };
+        }),
+        &[number, allowance] => Some(Command::Commit { number, allowance }),
+        _ => None,
     }
-    if values.len() == 2 {
-        return Command::Commit {
-            number: values[0],
-            allowance: values[1],
-        };
-    }
-    Command::Other
 }
 
-fn abort_of(values: &[u64]) -> Command
+#[tactic(auto, unfolding(crate::specs::Line::abort_of))]
+fn abort_of(values: &[u64]) -> Option<Command>
     ensures { result ≡ abort_of values.now }
 {
-    if values.len() == 1 {
-        return Command::Abort { number: values[0] };
+    match values {
+        &[number] => Some(Command::Abort { number }),
+        _ => None,
     }
-    Command::Other
 }
 
-fn get_of(values: &[u64]) -> Command
+#[tactic(auto, unfolding(crate::specs::Line::get_of))]
+fn get_of(values: &[u64]) -> Option<Command>
     ensures { result ≡ get_of values.now }
 {
-    if values.len() == 2 {
-        return Command::Get {
-            page: values[0],
-            slot: values[1],
-        };
+    match values {
+        &[page, slot] => Some(Command::Get { page, slot }),
+        _ => None,
     }
-    Command::Other
 }
 
 // The commands of a checkpoint, and restart.
-fn form_without_numbers(name: &[u8], values: &[u64]) -> Command
+#[tactic(auto, using(crate::proofs::Names::same_is), unfolding(crate::specs::Line::form_without_numbers))]
+fn form_without_numbers(name: &[u8], values: &[u64]) -> Option<Command>
     ensures { result ≡ form_without_numbers name.now values.now }
 {
-    if is_same(name, b"mark") {
-        return without_numbers(Command::Mark, values);
+    if name == b"mark".as_slice() {
+        without_numbers(Command::Mark, values)
+    } else if name == b"copy".as_slice() {
+        without_numbers(Command::Copy, values)
+    } else if name == b"close".as_slice() {
+        without_numbers(Command::Close, values)
+    } else if name == b"restart".as_slice() {
+        without_numbers(Command::Restart, values)
+    } else {
+        None
     }
-    if is_same(name, b"copy") {
-        return without_numbers(Command::Copy, values);
-    }
-    if is_same(name, b"close") {
-        return without_numbers(Command::Close, values);
-    }
-    if is_same(name, b"restart") {
-        return without_numbers(Command::Restart, values);
-    }
-    Command::Other
 }
 
-// The command with a name and numbers.
-pub fn form_of(name: &[u8], values: &[u64]) -> Command
+// The command with a name and numbers; none where the line has any other form.
+#[tactic(auto, using(crate::proofs::Names::same_is), unfolding(crate::specs::Line::form_of))]
+pub fn form_of(name: &[u8], values: &[u64]) -> Option<Command>
     ensures { result ≡ form_of name.now values.now }
 {
-    if is_same(name, b"begin") {
-        return without_numbers(Command::Begin, values);
+    if name == b"begin".as_slice() {
+        without_numbers(Command::Begin, values)
+    } else if name == b"set".as_slice() {
+        set_of(values)
+    } else if name == b"commit".as_slice() {
+        commit_of(values)
+    } else if name == b"abort".as_slice() {
+        abort_of(values)
+    } else if name == b"get".as_slice() {
+        get_of(values)
+    } else {
+        form_without_numbers(name, values)
     }
-    if is_same(name, b"set") {
-        return set_of(values);
-    }
-    if is_same(name, b"commit") {
-        return commit_of(values);
-    }
-    if is_same(name, b"abort") {
-        return abort_of(values);
-    }
-    if is_same(name, b"get") {
-        return get_of(values);
-    }
-    form_without_numbers(name, values)
 }

@@ -2,6 +2,7 @@
 #![tactic(auto)]
 
 pub mod command;
+mod few;
 pub mod output;
 pub mod partial;
 pub mod tally;

@@ -8,5 +8,5 @@ returns c =
     let add = c.add-fill in
     record {
       fill_in_bounds = omega (arith, add.ensures.value, c.requires);
-      stands = console_opened _ _ _ c.args.out.now _ (c.formatted-state.ensures.work_value, c.formatted-state.ensures.work_value_2) add.ensures.out_after c.start-partial.ensures;
+      stands = console_opened _ _ _ c.args.out.now _ (c.formatted-state.ensures.work_value, c.formatted-state.ensures.work_value_2) add.ensures.out_after c.start.ensures;
     }

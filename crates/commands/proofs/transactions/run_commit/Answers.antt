@@ -1,8 +1,8 @@
 -- `commands::transactions::run_commit` meets its contract: the line shows what the call gives.
-use Rattle.commands.specs.Meaning.{line_of}
+use Rattle.commands.specs.Meaning.{command_line}
 use Rattle.commands.proofs.Showing.{shows}
 use Rattle.commands.proofs.transactions.run_commit.Goals as goal
 
 pub returns : goal.returns
-unfolding line_of
+unfolding command_line
 returns c = shows _ _ _ _ _ _ _ c.commit-called.ensures.serves c.done_of.ensures.1 0 c.done_of.ensures.0

@@ -8,14 +8,6 @@ use Rattle.hall.proofs.console.feed.Goals as goal
 pub loop-at-init : goal.loop-at-init
 loop-at-init c = (search rules, λ handed p s. (p, s, refl))
 
-pub feed_line-step-requires : goal.feed_line-step-requires
-feed_line-step-requires c =
-    let here = c.loop-at.invariant.0 in
-    record {
-      at_in_bounds = c.loop-at-test.true;
-      at_in_bounds_2 = omega (arith, here.6, here.7);
-    }
-
 pub loop-at-preserved : goal.loop-at-preserved
 loop-at-preserved c =
     let l = c.loop-at in (
@@ -30,6 +22,6 @@ pub returns : goal.returns
 returns c =
     let l = c.loop-at in
     record {
-      fill_in_bounds = omega (arith, l.invariant.0.7);
+      fill_in_bounds = omega (arith, l.invariant.0.1);
       by_index = λ handed p s. let old = l.invariant.1 handed p s in rw (← fed_through p old.0 _ _ c.loop-at-test.false old.2) old.1;
     }

@@ -9,8 +9,7 @@ use Rattle.hall.specs.Held.{Stands}
 use Rattle.hall.proofs.console.feed.Given as goal
 
 abbrev pub invariant-loop-at : goal.invariant-loop-at
-invariant-loop-at l = ((l.at ≤ length l.bytes) × (length l.anchor ≡ length l.initial.anchor) × (length l.pages ≡ length l.initial.pages) × (length l.backups ≡ length l.initial.backups)
-    × (length l.logs ≡ length l.initial.logs) × (length l.work ≡ length l.initial.work) × (length l.out ≡ length l.initial.out) × (l.c.fill + 84 * (length l.bytes - l.at) ≤ length l.initial.out))
+invariant-loop-at l = ((l.at ≤ length l.bytes) × (l.c.fill + 84 * (length l.bytes - l.at) ≤ length l.initial.out))
     × ((handed : List ℕ) (p : Program) → Stands l.initial.c (world_of l.initial.anchor l.initial.pages l.initial.backups l.initial.logs l.initial.work) l.initial.out handed p
     → (q : Program) × Stands l.c (world_of l.anchor l.pages l.backups l.logs l.work) l.out handed q × (fed q (drop l.at l.bytes) ≡ fed p l.bytes))
 

@@ -4,34 +4,6 @@ use Rattle.hall.proofs.Feeding.{line_ends, line_goes_on, piece_some}
 use Rattle.hall.proofs.Holding.{piece_read, has_begun}
 use Rattle.hall.proofs.console.feed_line.Goals as goal
 
-pub line_length-n-requires : goal.line_length-n-requires
-line_length-n-requires c = tt
-
-pub read_piece-partial-requires : goal.read_piece-partial-requires
-read_piece-partial-requires c = tt
-
-pub take_line-console-requires : goal.take_line-console-requires
-take_line-console-requires c =
-    omega (arith, c.requires.at_in_bounds, c.requires.at_in_bounds_2)
-
-pub shape_of-anchor-then-end-bytes : goal.shape_of-anchor-then-end-bytes
-shape_of-anchor-then-end-bytes c = c.anchor-1.given
-
-pub shape_of-pages-then-end-bytes : goal.shape_of-pages-then-end-bytes
-shape_of-pages-then-end-bytes c = c.pages-1.given
-
-pub shape_of-backups-then-end-bytes : goal.shape_of-backups-then-end-bytes
-shape_of-backups-then-end-bytes c = c.backups-1.given
-
-pub shape_of-logs-then-end-bytes : goal.shape_of-logs-then-end-bytes
-shape_of-logs-then-end-bytes c = c.logs-1.given
-
-pub shape_of-work-then-end-bytes : goal.shape_of-work-then-end-bytes
-shape_of-work-then-end-bytes c = c.work-1.given
-
-pub shape_of-out-then-end-bytes : goal.shape_of-out-then-end-bytes
-shape_of-out-then-end-bytes c = c.out-1.given
-
 pub returns-then-end-bytes : goal.returns-then-end-bytes
 returns-then-end-bytes c =
     record {

@@ -14,7 +14,7 @@ returns c =
           c.command_of-command.ensures
           c.run-done.ensures
           c.one_more-line.ensures
-          c.after_line-tally.ensures
+          (rw c.answer_of.ensures at c.count.ensures)
           c.add_line-fill.ensures.out_after
-          c.start-partial.ensures;
+          c.start.ensures;
     }

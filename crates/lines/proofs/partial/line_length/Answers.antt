@@ -1,26 +1,14 @@
--- `lines::partial::line_length` meets its contract: no byte passed ends the line.
-use native.Mathlib.Omega.{arith}
-use mathlib.Core.Path.{◌∙◌}
-use Rattle.lines.proofs.Pieces.{line_here, line_on, line_out}
+-- `lines::partial::line_length` meets its contract: the index of the first end of a line, if there is one.
+use mathlib.Core.Path.{◌≡◌, refl, sym, ◌∙◌}
+use borrow.Author.Rules.{rules}
+use borrow.Author.Tests.{tests, eq-eqb, ne_eqb}
+use Rattle.std.proofs.lemmas.Iterator.{IsFirst-from_position, YieldsList-from_slice, index_from_first}
+use Rattle.lines.specs.Line.{line_length}
 use Rattle.lines.proofs.partial.line_length.Goals as goal
 
-pub loop-i-init : goal.loop-i-init
-loop-i-init c = (omega arith, omega arith)
-
-pub returns-then-bytes-i-eq10 : goal.returns-then-bytes-i-eq10
-returns-then-bytes-i-eq10 c =
-    record {
-      value = line_here c.args.bytes.now c.loop-i.i (omega arith) c.if-bytes-i-eq10.true ∙ c.loop-i.invariant.1;
-      upper_bound = omega arith;
-    }
-
-pub loop-i-preserved : goal.loop-i-preserved
-loop-i-preserved c =
-    (omega arith, line_on c.args.bytes.now c.loop-i.i (omega arith) c.if-bytes-i-eq10.false ∙ c.loop-i.invariant.1)
-
-pub returns : goal.returns
-returns c =
-    record {
-      value = line_out c.args.bytes.now c.loop-i.i (omega arith) ∙ c.loop-i.invariant.1;
-      upper_bound = omega arith;
-    }
+pub returns-clause-value : goal.returns-clause-value
+unfolding line_length
+returns-clause-value c =
+    let first = IsFirst-from_position _ _ _ (λ b. b ≡ 10) (λ b. b ≡ 10 → ⊥) c.position.ensures.ran (YieldsList-from_slice c.args.bytes.now cc)
+    (λ x q k. search (rules, tests)) (λ x q k. search (rules, tests)) in
+    c.unwrap_or.ensures ∙ sym (index_from_first line_length (λ b. b ≡ 10) (λ b. b ≡ 10 → ⊥) refl (λ b bs e. rw (eq-eqb b 10 e)) (λ b bs n. rw (ne_eqb b 10 n)) c.args.bytes.now c.position.result first)

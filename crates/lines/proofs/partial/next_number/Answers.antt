@@ -1,17 +1,26 @@
 -- `lines::partial::next_number` meets its contract: a number begins, or the line is no command.
+use Prim.Native.Nat.{◌≤◌}
 use native.Mathlib.Omega.{arith}
 use borrow.Author.Rules.{rules}
-use Rattle.lines.proofs.Steps.{stays_past_hope, space_missing, space_too_many, number_space}
+use mathlib.Core.Path.{◌≡◌}
+use lib.ListN.{length, take, length-take}
+use Rattle.lines.specs.Line.{fields}
+use Rattle.lines.specs.After.{command_after}
+use Rattle.lines.proofs.Rest.{none_ends, number_ends, too_many}
 use Rattle.lines.proofs.partial.next_number.Goals as goal
 
-pub returns-then-p : goal.returns-then-p
-returns-then-p c =
-    λ more. stays_past_hope c.args.p _ _ more (omega arith) (space_missing c.args.p more c.requires.0 c.requires.1 c.requires.2 c.if-p.true)
+pub returns-in_default : goal.returns-in_default
+unfolding command_after
+returns-in_default c = λ more. rw c.in_default.is (none_ends _ _ more)
 
-pub returns-then-at-ge4 : goal.returns-then-at-ge4
-returns-then-at-ge4 c =
-    λ more. stays_past_hope c.args.p _ _ more (omega arith) (space_too_many c.args.p more c.requires.0 c.requires.1 c.requires.2 c.if-at-ge4.true (search rules))
+pub returns-in-None : goal.returns-in-None
+unfolding command_after
+returns-in-None c =
+    let numbers = c.args.numbers in
+    let places : length numbers.ended.items ≡ 4 = search rules in
+    let full : 4 ≤ length (take numbers.ended.count numbers.ended.items) = rw length-take (omega (arith, c.in-None.ensures)) in
+    λ more. too_many _ _ numbers.last (fields _) full
 
-pub returns : goal.returns
-returns c =
-    λ more. number_space c.args.p more c.requires.0 c.requires.1 c.requires.2 c.if-p.false (search rules) c.if-at-ge4.false (search rules)
+pub returns-in-Some-with : goal.returns-in-Some-with
+unfolding command_after
+returns-in-Some-with c = λ more. rw c.in-Some.is (number_ends _ _ c.in-Some.value _ more (search rules) c.in-Some-with.ensures)

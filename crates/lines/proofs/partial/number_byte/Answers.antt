@@ -1,20 +1,28 @@
 -- `lines::partial::number_byte` meets its contract: the digit is taken, or the field is no number.
 use native.Mathlib.Omega.{arith}
-use Rattle.lines.proofs.Steps.{stays_past_hope, byte_low, byte_high, byte_too_large, byte_digit}
+use borrow.Author.Rules.{rules}
+use Prim.Native.Nat.{◌<◌}
+use mathlib.Core.Path.{◌≡◌}
+use mathlib.Core.Logic.{◌⊎◌}
+use Rattle.std.specs.Prelude.{unwrap_or}
+use Rattle.lines.specs.After.{command_after}
+use Rattle.lines.proofs.Rest.{number_more, no_digit, too_large}
 use Rattle.lines.proofs.partial.number_byte.Goals as goal
 
-pub returns-then-b-lt48 : goal.returns-then-b-lt48
-returns-then-b-lt48 c =
-    λ more. stays_past_hope c.args.p _ _ more (omega arith) (byte_low c.args.p more c.requires.0 c.requires.1 c.requires.2 c.args.b c.requires.3 c.if-b-lt48.true)
+pub returns-then-not-contains : goal.returns-then-not-contains
+unfolding command_after
+returns-then-not-contains c =
+    let out : (c.args.b < 48) ⊎ (57 < c.args.b) = search rules in
+    λ more. no_digit _ _ c.args.b more c.requires c.args.numbers.last out
 
-pub returns-then-b-gt57 : goal.returns-then-b-gt57
-returns-then-b-gt57 c =
-    λ more. stays_past_hope c.args.p _ _ more (omega arith) (byte_high c.args.p more c.requires.0 c.requires.1 c.requires.2 c.args.b c.requires.3 c.if-b-gt57.true)
+pub returns-in-Some : goal.returns-in-Some
+unfolding command_after
+returns-in-Some c =
+    let u : c.unwrap_or.result ≡ unwrap_or c.args.numbers.last 0 = c.unwrap_or.ensures in
+    λ more. rw (c.in-Some.ensures.1, u) (number_more _ _ c.args.b more c.requires c.args.numbers.last (search rules) (search rules))
 
-pub returns-then-digit-value : goal.returns-then-digit-value
-returns-then-digit-value c =
-    λ more. stays_past_hope c.args.p _ _ more (omega arith) (byte_too_large c.args.p more c.requires.0 c.requires.1 c.requires.2 c.args.b c.requires.3 (omega arith))
-
-pub returns : goal.returns
-returns c =
-    λ more. byte_digit c.args.p more c.requires.0 c.requires.1 c.requires.2 c.args.b c.requires.3 (omega arith) (omega arith)
+pub returns-in-None : goal.returns-in-None
+unfolding command_after
+returns-in-None c =
+    let u : c.unwrap_or.result ≡ unwrap_or c.args.numbers.last 0 = c.unwrap_or.ensures in
+    λ more. too_large _ _ c.args.b more c.requires c.args.numbers.last (omega (arith, c.in-None.ensures))
