@@ -3,12 +3,12 @@ use crate::making::make;
 use store::{Called, State};
 use trial_table::calls::Call;
 use trial_table::shape::{Shape, log_words, total_of, work_words};
-use trial_table::words::{front_mut, less, times};
+use trial_table::words::{front_mut, times};
 
 // How many words of a slice are lent.
 fn lent(words: u64, short: u64, slice: u64) -> u64 {
     if short == slice {
-        less(words, 1)
+        words.saturating_sub(1)
     } else {
         words
     }

@@ -2,50 +2,27 @@
 use crate::devices::Devices;
 use crate::reading::LIMIT;
 use trial_table::random;
-use trial_table::words::{get, less, put, sum};
+use trial_table::words::{get, put};
 
 // A good image damaged; pages and work memory hold anything.
 pub fn damaged(good: Devices, which: u64, seed: u64) -> Devices {
-    let mut anchor = good.anchor;
-    let mut backups = good.backups;
-    let mut logs = good.logs;
-    let mut pages = good.pages;
-    let mut work = good.work;
-    damage_devices(which, seed, &mut anchor, &mut backups, &mut logs);
-    random::fill(&mut pages, 2, 5);
-    random::fill(&mut work, 411, 6);
-    Devices {
-        anchor,
-        pages,
-        backups,
-        logs,
-        work,
-    }
+    let mut d = good;
+    damage_devices(which, seed, &mut d);
+    random::fill(&mut d.pages, 2, 5);
+    random::fill(&mut d.work, 411, 6);
+    d
 }
 
 // The first 2,248 are the single changes: eight of each word, the anchor's first, then the backups', then the log's.
-fn damage_devices(
-    which: u64,
-    seed: u64,
-    anchor: &mut [u64],
-    backups: &mut [u64],
-    logs: &mut [u64],
-) {
+fn damage_devices(which: u64, seed: u64, d: &mut Devices) {
     let word = which / 8;
     let variant = which % 8;
-    if word < 148 {
-        change(anchor, word, variant, seed);
-        return;
+    match word {
+        0..=147 => change(&mut d.anchor, word, variant, seed),
+        148..=151 => change(&mut d.backups, word - 148, variant, seed),
+        152..=280 => change(&mut d.logs, word - 152, variant, seed),
+        _ => randomize(which, seed, &mut d.anchor, &mut d.logs),
     }
-    if word < 152 {
-        change(backups, word - 148, variant, seed);
-        return;
-    }
-    if word < 281 {
-        change(logs, word - 152, variant, seed);
-        return;
-    }
-    randomize(which, seed, anchor, logs);
 }
 
 pub fn change(device: &mut [u64], at: u64, variant: u64, seed: u64) {
@@ -58,8 +35,8 @@ fn changed(word: u64, variant: u64, seed: u64) -> u64 {
     match variant {
         0 => 0,
         1 => 1,
-        2 => sum(word, 1),
-        3 => less(word, 1),
+        2 => word.saturating_add(1),
+        3 => word.saturating_sub(1),
         4 => u64::MAX,
         5 => word ^ LIMIT,
         6 => word ^ (1u64 << (seed % 64)),

@@ -16,11 +16,10 @@ pub struct Machine {
 
 // A new state, before any call.
 pub fn shut(devices: Devices) -> Machine {
-    let state = store::new_state();
     Machine {
         devices,
         answer: Answer::Interrupted { stores: 0 },
-        state,
+        state: store::new_state(),
     }
 }
 
@@ -37,47 +36,27 @@ fn shape() -> Shape {
 
 // What remains of a source.
 pub fn remaining(m: Machine, source: u64) -> u64 {
-    let d = m.devices;
-    let work = d.work;
-    restart_remaining(m.state, source, &work)
+    restart_remaining(m.state, source, &m.devices.work)
 }
 
 // A call on a machine, with the largest allowance; none is a read, which would want a book.
 pub fn performed(m: Machine, call: Call) -> Machine {
-    let d = m.devices;
-    let mut anchor = d.anchor;
-    let mut pages = d.pages;
-    let mut backups = d.backups;
-    let mut logs = d.logs;
-    let mut work = d.work;
-    let whole_logs: &mut [u64] = &mut logs;
-    let whole_work: &mut [u64] = &mut work;
-    let mut book = [0u64; 1];
-    let mut budget = u64::MAX;
+    let mut devices = m.devices;
     let called = lend(
         m.state,
         shape(),
         call,
-        &mut anchor,
-        &mut pages,
-        &mut backups,
-        whole_logs,
-        whole_work,
-        &mut book,
-        &mut budget,
+        &mut devices.anchor,
+        &mut devices.pages,
+        &mut devices.backups,
+        &mut devices.logs,
+        &mut devices.work,
+        &mut [0],
+        &mut u64::MAX,
     );
-    let answer = called.answer;
-    let state = called.state;
-    let devices = Devices {
-        anchor,
-        pages,
-        backups,
-        logs,
-        work,
-    };
     Machine {
         devices,
-        answer,
-        state,
+        answer: called.answer,
+        state: called.state,
     }
 }

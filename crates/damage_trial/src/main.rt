@@ -21,8 +21,7 @@ use crate::trial::try_image;
 use damage::devices::{Devices, blank};
 use trial_table::calls::Kind;
 use trial_table::random;
-use trial_table::text::{count, read_number};
-use trial_table::words::sum;
+use trial_table::text::read_number;
 
 // The good image: two commits with a checkpoint between them, then an abort and a third commit.
 fn make_image(p: Probe) -> Probe {
@@ -34,18 +33,16 @@ fn make_image(p: Probe) -> Probe {
 }
 
 fn try_images(p: Probe, good: Devices, images: u64) -> Probe {
-    let mut left = images;
     let mut seed: u64 = 88172645463325252;
     let mut after = p;
-    while left > 0 {
-        left -= 1;
+    for which in (0..images).rev() {
         seed = random::next(seed);
-        after = try_image(after, good, left, seed);
+        after = try_image(after, good, which, seed);
     }
     after
 }
 
-fn main() {
+fn main(rt: HostRuntime) {
     let first = Probe {
         machine: shut(blank()),
         taken: true,
@@ -55,14 +52,11 @@ fn main() {
         agreed: 0,
     };
     let made = make_image(first);
-    let machine = made.machine;
-    let images = sum(2248, read_number(500));
-    tell(try_images(made, machine.devices, images));
-}
-
-fn tell(p: Probe) {
-    count(p.images, b" damaged images, ");
-    count(p.taken_images, b" taken by a restart; ");
-    count(p.calls, b" calls, ");
-    count(p.agreed, b" agreed\n");
+    let images = read_number(500).saturating_add(2248);
+    let p = try_images(made, made.machine.devices, images);
+    // A text that cannot be written is passed over: nobody is left to tell.
+    let _ = println!(rt;
+        "{} damaged images, {} taken by a restart; {} calls, {} agreed",
+        p.images, p.taken_images, p.calls, p.agreed
+    );
 }

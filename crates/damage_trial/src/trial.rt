@@ -8,13 +8,13 @@ use damage::reading::{answers, wanted_on};
 use damage::replay::restarted;
 use trial_table::answers::{number_of, stores_of};
 use trial_table::calls::{Call, Kind, call_of};
-use trial_table::words::{more, tally};
+use trial_table::words::tally;
 
 pub fn try_image(p: Probe, good: Devices, which: u64, seed: u64) -> Probe {
     let fresh = Probe {
         machine: shut(damaged(good, which, seed)),
         taken: false,
-        images: more(p.images),
+        images: p.images.saturating_add(1),
         ..p
     };
     let begun = begin_restart(begin_short(fresh));
@@ -27,11 +27,11 @@ pub fn try_image(p: Probe, good: Devices, which: u64, seed: u64) -> Probe {
 
 // Begins that are lent a short slice.
 fn begin_short(p: Probe) -> Probe {
-    let anchor = try_begin(p, 1);
-    let pages = try_begin(anchor, 2);
-    let backups = try_begin(pages, 3);
-    let logs = try_begin(backups, 4);
-    try_begin(logs, 5)
+    let mut after = p;
+    for short in 1..=5 {
+        after = try_begin(after, short);
+    }
+    after
 }
 
 // A restart's begin, which answers as the table says; taken, it leaves the pages zero.
@@ -42,22 +42,15 @@ fn try_begin(p: Probe, short: u64) -> Probe {
         ..call_of(Kind::RestartBegin, 0)
     };
     let after = performed(before, call);
-    let answer = after.answer;
-    let zero = number_of(answer) > 0 || zero_pages(after.devices);
-    let right = zero && answers(answer, wanted_on(before.devices, short));
-    judged(Probe { taken: true, ..p }, after, 8445, right)
-}
-
-fn zero_pages(d: Devices) -> bool {
-    let pages = d.pages;
-    pages[0] == 0 && pages[1] == 0
+    let zero = number_of(after.answer) > 0 || after.devices.pages == [0, 0];
+    let right = zero && answers(after.answer, wanted_on(before.devices, short));
+    let numbers = [0, 2, 3, 4, 5, 6, 7, 13];
+    judged(Probe { taken: true, ..p }, after, &numbers, right)
 }
 
 fn begin_restart(p: Probe) -> Probe {
     let after = try_begin(p, 0);
-    let machine = after.machine;
-    let answer = machine.answer;
-    let taken = number_of(answer) == 0;
+    let taken = number_of(after.machine.answer) == 0;
     Probe {
         taken,
         taken_images: tally(p.taken_images, taken),
@@ -75,37 +68,34 @@ fn by_runs(p: Probe) -> Probe {
 
 fn try_run(p: Probe, source: u64, most: u64) -> Probe {
     let machine = p.machine;
-    let set = if remaining(machine, source) > 0 {
-        1
+    let number = if remaining(machine, source) > 0 {
+        0
     } else {
-        32768
+        15
     };
     let call = Call {
         most,
         ..call_of(Kind::RestartRun, source)
     };
-    judged(p, performed(machine, call), set, true)
+    judged(p, performed(machine, call), &[number], true)
 }
 
-fn try_step(p: Probe, source: u64, set: u64) -> Probe {
-    let machine = p.machine;
-    let after = performed(machine, call_of(Kind::RestartStep, source));
-    judged(p, after, set, true)
+fn try_step(p: Probe, source: u64, number: u64) -> Probe {
+    let after = performed(p.machine, call_of(Kind::RestartStep, source));
+    judged(p, after, &[number], true)
 }
 
 // Steps until nothing remains; then each source has nothing left.
 fn by_steps(p: Probe) -> Probe {
     let short = tried_short(p, call_of(Kind::RestartStep, 0));
-    let log_done = try_step(steps(short), 0, 32768);
-    try_step(log_done, 1, 32768)
+    let log_done = try_step(steps(short), 0, 15);
+    try_step(log_done, 1, 15)
 }
 
 // The log has at most 64 records, and the backup one page.
 fn steps(p: Probe) -> Probe {
-    let mut left: u64 = 65;
     let mut after = p;
-    while left > 0 {
-        left -= 1;
+    for _ in 0..65 {
         after = step_if_any(after);
     }
     after
@@ -115,10 +105,10 @@ fn steps(p: Probe) -> Probe {
 fn step_if_any(p: Probe) -> Probe {
     let machine = p.machine;
     if remaining(machine, 0) > 0 {
-        return try_step(p, 0, 1);
+        return try_step(p, 0, 0);
     }
     if remaining(machine, 1) > 0 {
-        return try_step(p, 1, 1);
+        return try_step(p, 1, 0);
     }
     p
 }
@@ -127,10 +117,9 @@ fn step_if_any(p: Probe) -> Probe {
 fn end_restart(p: Probe) -> Probe {
     let before = p.machine;
     let after = performed(before, call_of(Kind::RestartEnd, 0));
-    let answer = after.answer;
     let wanted = restarted(before.devices);
-    let right = stores_of(answer) == 4 && same_but_work(wanted, after.devices);
-    judged(p, after, 1, right || !p.taken)
+    let right = stores_of(after.answer) == 4 && same_but_work(wanted, after.devices);
+    judged(p, after, &[0], right || !p.taken)
 }
 
 // A commit, and an abort across a checkpoint.

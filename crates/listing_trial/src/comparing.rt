@@ -6,15 +6,22 @@ use model::Answer;
 use store::State;
 use store::listings::{list_line, list_lines};
 use trial_table::answers::{number_of, second_of, stores_of, value_of};
-use trial_table::words::{front, less, sum, tally, times};
+use trial_table::words::{front, tally, times};
 
 // Bytes of 500 lines.
 pub type Out = [u8; 36500];
 
-// One line, or the lines from `first` on, into so many bytes. So many words of the logs are lent.
+// Which of the two calls is made: for one line, or for as many as there are bytes for.
+#[derive(Clone, Copy)]
+pub enum Listing {
+    Line,
+    Lines,
+}
+
+// The line `first`, or the lines from it on, into so many bytes. So many words of the logs are lent.
 #[derive(Clone, Copy)]
 pub struct Ask {
-    pub single: bool,
+    pub listing: Listing,
     pub first: u64,
     pub bytes: u64,
     pub words: u64,
@@ -26,23 +33,13 @@ fn mark(i: u64) -> u8 {
 }
 
 fn byte_at(s: &Out, i: u64) -> u8 {
-    let j = i as usize;
-    if j < s.len() { s[j] } else { 0 }
+    s.get(i as usize).copied().unwrap_or(0)
 }
 
 // Puts marks into the first n bytes.
 fn put_marks(out: &mut Out, n: u64) {
-    let mut left = n;
-    while left > 0 {
-        left -= 1;
-        put_mark(out, left);
-    }
-}
-
-fn put_mark(out: &mut Out, i: u64) {
-    let j = i as usize;
-    if j < out.len() {
-        out[j] = mark(i);
+    for (i, byte) in front_bytes(out, n).iter_mut().enumerate() {
+        *byte = mark(i as u64);
     }
 }
 
@@ -53,10 +50,9 @@ fn front_bytes(s: &mut [u8], n: u64) -> &mut [u8] {
 }
 
 fn listed(state: State, ask: Ask, anchor: &[u64], logs: &[u64], out: &mut [u8]) -> Answer {
-    if ask.single {
-        list_line(state, ask.first, anchor, logs, out)
-    } else {
-        list_lines(state, ask.first, anchor, logs, out)
+    match ask.listing {
+        Listing::Line => list_line(state, ask.first, anchor, logs, out),
+        Listing::Lines => list_lines(state, ask.first, anchor, logs, out),
     }
 }
 
@@ -79,11 +75,8 @@ pub fn asked(state: State, ask: Ask, anchor: &[u64], logs: &Logs, out: &mut Out)
 
 // How many of the bytes from `from` to `end` hold something else than their marks.
 fn mark_faults(out: &Out, from: u64, end: u64) -> u64 {
-    let mut left = less(end, from);
     let mut faults = 0;
-    while left > 0 {
-        left -= 1;
-        let at = sum(from, left);
+    for at in from..end {
         faults = tally(faults, byte_at(out, at) != mark(at));
     }
     faults
@@ -91,11 +84,10 @@ fn mark_faults(out: &Out, from: u64, end: u64) -> u64 {
 
 // In how many bytes a line differs.
 fn line_faults(shown: Shown, out: &Out, at: u64) -> u64 {
-    let mut left: u64 = 73;
     let mut faults = 0;
-    while left > 0 {
-        left -= 1;
-        faults = tally(faults, byte_at(out, sum(at, left)) != byte_of(shown, left));
+    for column in 0..73 {
+        let byte = byte_at(out, at.saturating_add(u64::from(column)));
+        faults = tally(faults, byte != byte_of(shown, column));
     }
     faults
 }
@@ -109,21 +101,17 @@ fn lines_faults(
     lines: u64,
     out: &Out,
 ) -> u64 {
-    let mut left = lines;
-    let mut faults = 0;
-    while left > 0 {
-        left -= 1;
-        let shown = shown_at(anchor, logs, notes, sum(first, left));
-        faults = sum(faults, line_faults(shown, out, times(left, 73)));
+    let mut faults: u64 = 0;
+    for line in 0..lines {
+        let shown = shown_at(anchor, logs, notes, first.saturating_add(line));
+        faults = faults.saturating_add(line_faults(shown, out, times(line, 73)));
     }
     faults
 }
 
 // How many lines a call with this request writes, of so many that there are.
 pub fn lines_written(ask: Ask, lines: u64) -> u64 {
-    let room = ask.bytes / 73;
-    let there = less(lines, ask.first);
-    if there < room { there } else { room }
+    lines.saturating_sub(ask.first).min(ask.bytes / 73)
 }
 
 // Whether a taken call's answer is right; it is followed by the bytes.
@@ -142,10 +130,13 @@ pub fn taken_faults(
     out: &Out,
 ) -> u64 {
     let written = lines_written(ask, lines);
-    let value = if ask.single { 0 } else { written };
+    let value = match ask.listing {
+        Listing::Line => 0,
+        Listing::Lines => written,
+    };
     let bytes = lines_faults(anchor, logs, notes, ask.first, written, out);
     let rest = mark_faults(out, times(written, 73), ask.bytes);
-    tally(sum(bytes, rest), !is_taken(answer, value))
+    tally(bytes.saturating_add(rest), !is_taken(answer, value))
 }
 
 // What is wrong with a call that must be refused with this number and these values, and leave the bytes.

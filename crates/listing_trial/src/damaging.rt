@@ -1,6 +1,6 @@
 // Damaged devices: a listing must be refused where a restart's begin is, with the same number and values, and show what stands where it is
 // taken. A begin's 13 is no cause for a listing.
-use crate::comparing::{Ask, Out, asked, refused_faults};
+use crate::comparing::{Ask, Listing, Out, asked, refused_faults};
 use crate::machine::{Anchor, Logs, Machine};
 use crate::reading::{disk_at, page_words};
 use crate::requests::{Found, try_whole};
@@ -12,7 +12,7 @@ use trial_table::answers::{number_of, second_of, value_of};
 use trial_table::random;
 use trial_table::random::below;
 use trial_table::shape::HEAD_WORDS;
-use trial_table::words::{add_to, front, front_mut, get, more, sum, times};
+use trial_table::words::{add_to, front, front_mut, get, times};
 
 // A begin that is lent so many words of the logs. The slices that a listing is not lent are as long as the sizes on the anchor say: so a 5
 // is the logs'.
@@ -25,14 +25,17 @@ fn begun(
     words: u64,
 ) -> Called {
     let total = page_words(anchor);
-    let buffers = times(64, sum(get(anchor, 1), 1));
+    let buffers = times(64, get(anchor, 1).saturating_add(1));
     restart_begin(
         store::new_state(),
         anchor,
         front_mut(pages, total),
         front(backups, times(total, 2)),
         front(logs, words),
-        front_mut(work, sum(HEAD_WORDS, sum(total, buffers))),
+        front_mut(
+            work,
+            HEAD_WORDS.saturating_add(total).saturating_add(buffers),
+        ),
     )
 }
 
@@ -49,7 +52,7 @@ fn begin_answer(anchor: &Anchor, logs: &Logs, words: u64) -> Answer {
 fn anchor_word(seed: u64) -> u64 {
     match below(seed, 4) {
         0 => 3,
-        1 | 2 => sum(132, below(random::next(seed), 16)),
+        1 | 2 => below(random::next(seed), 16).saturating_add(132),
         _ => below(random::next(seed), 148),
     }
 }
@@ -66,18 +69,17 @@ fn log_word(anchor: &Anchor, words: u64, seed: u64) -> u64 {
 
 // Devices with a word of the anchor, or of the logs, changed in one of eight ways.
 fn damaged(m: Machine, words: u64, seed: u64) -> Machine {
-    let mut anchor = m.anchor;
-    let mut logs = m.logs;
+    let mut image = m;
     let first = random::next(seed);
     let second = random::next(first);
     let variant = below(second, 8);
     if below(seed, 2) == 0 {
-        change(&mut anchor, anchor_word(first), variant, second);
+        change(&mut image.anchor, anchor_word(first), variant, second);
     } else {
-        let at = log_word(&anchor, words, first);
-        change(&mut logs, at, variant, second);
+        let at = log_word(&image.anchor, words, first);
+        change(&mut image.logs, at, variant, second);
     }
-    Machine { anchor, logs, ..m }
+    image
 }
 
 // One image, tried. `counts` has how many were refused with each number.
@@ -96,7 +98,7 @@ fn try_image(
         return try_whole(found, words, anchor, logs, out);
     }
     let ask = Ask {
-        single: true,
+        listing: Listing::Line,
         first: 0,
         bytes: 73,
         words,
@@ -104,8 +106,8 @@ fn try_image(
     let answer = asked(store::new_state(), ask, anchor, logs, out);
     let wrong = refused_faults(answer, ask, number, value_of(begin), second_of(begin), out);
     Found {
-        refusals: more(found.refusals),
-        faults: sum(found.faults, wrong),
+        refusals: found.refusals.saturating_add(1),
+        faults: found.faults.saturating_add(wrong),
         ..found
     }
 }
@@ -119,16 +121,12 @@ pub fn try_images(
     counts: &mut [u64; 16],
     out: &mut Out,
 ) -> Found {
-    let mut left = images;
     let mut seed: u64 = 362436069;
     let mut found = before;
-    while left > 0 {
-        left -= 1;
+    for _ in 0..images {
         seed = random::next(random::next(random::next(seed)));
         let image = damaged(m, words, seed);
-        let anchor = image.anchor;
-        let logs = image.logs;
-        found = try_image(found, words, &anchor, &logs, counts, out);
+        found = try_image(found, words, &image.anchor, &image.logs, counts, out);
     }
     found
 }

@@ -1,18 +1,34 @@
 // The retained records by 01's words, with no help of the store. Only for devices that a restart takes: nothing is checked.
 use crate::machine::{Anchor, Logs};
-use trial_table::words::{get, less, more, put, sum, times};
+use trial_table::words::{get, times};
 
-// A disk and a position for each record.
-pub type Notes = [u64; 1536];
+// Where a record stands.
+#[derive(Clone, Copy)]
+pub struct Note {
+    pub disk: u64,
+    pub position: u64,
+}
+
+pub type Notes = [Note; 768];
+
+// Notes of no record.
+pub fn no_notes() -> Notes {
+    [Note {
+        disk: 0,
+        position: 0,
+    }; 768]
+}
 
 // Where a disk's words begin: its tail, then its ring.
 pub fn disk_at(anchor: &Anchor, disk: u64) -> u64 {
-    times(disk, sum(get(anchor, 2), 1))
+    times(disk, get(anchor, 2).saturating_add(1))
 }
 
 // Where the start of a disk stands in the current row.
 pub fn start_at(anchor: &Anchor, disk: u64) -> u64 {
-    sum(132, sum(times(get(anchor, 3) % 2, 8), disk))
+    times(get(anchor, 3) % 2, 8)
+        .saturating_add(disk)
+        .saturating_add(132)
 }
 
 // The word at a position of a disk.
@@ -21,7 +37,8 @@ pub fn ring_word(anchor: &Anchor, logs: &Logs, disk: u64, position: u64) -> u64 
     if size == 0 {
         return 0;
     }
-    get(logs, sum(sum(disk_at(anchor, disk), 1), position % size))
+    let ring = disk_at(anchor, disk).saturating_add(1);
+    get(logs, ring.saturating_add(position % size))
 }
 
 // The words of a record with this first word.
@@ -29,49 +46,51 @@ fn record_words(head: u64) -> u64 {
     if head % 8 > 1 {
         2
     } else {
-        sum(3, head / 65536)
+        (head / 65536).saturating_add(3)
     }
+}
+
+// The note of a record, and that of none past the last.
+pub fn note_at(notes: &Notes, record: u64) -> Note {
+    notes.get(record as usize).copied().unwrap_or(Note {
+        disk: 0,
+        position: 0,
+    })
 }
 
 // Notes a disk's records behind so many others, and answers how many there are then.
 fn note_disk(anchor: &Anchor, logs: &Logs, disk: u64, notes: &mut Notes, count: u64) -> u64 {
     let tail = get(logs, disk_at(anchor, disk));
     let mut at = get(anchor, start_at(anchor, disk));
-    let mut left: u64 = 768;
     let mut n = count;
-    while left > 0 {
-        left -= 1;
+    for _ in 0..768 {
         if at >= tail {
             return n;
         }
-        put(notes, times(n, 2), disk);
-        put(notes, sum(times(n, 2), 1), at);
-        n = more(n);
-        at = sum(at, record_words(ring_word(anchor, logs, disk, at)));
+        if let Some(note) = notes.get_mut(n as usize) {
+            *note = Note { disk, position: at };
+        }
+        n = n.saturating_add(1);
+        at = at.saturating_add(record_words(ring_word(anchor, logs, disk, at)));
     }
     n
 }
 
 // Notes the records of all disks, and answers how many there are.
 pub fn note_records(anchor: &Anchor, logs: &Logs, notes: &mut Notes) -> u64 {
-    let disks = get(anchor, 1);
-    let mut left = disks;
     let mut count = 0;
-    while left > 0 {
-        count = note_disk(anchor, logs, less(disks, left), notes, count);
-        left -= 1;
+    for disk in 0..get(anchor, 1) {
+        count = note_disk(anchor, logs, disk, notes, count);
     }
     count
 }
 
 // The words of all pages.
 pub fn page_words(anchor: &Anchor) -> u64 {
-    let mut left: u64 = 64;
-    let mut total = 0;
-    while left > 0 {
-        left -= 1;
-        let slots = get(anchor, sum(4, left));
-        total = sum(total, times(slots, get(anchor, sum(68, left))));
+    let mut total: u64 = 0;
+    for page in 0..64 {
+        let slots = get(anchor, 4 + page);
+        total = total.saturating_add(times(slots, get(anchor, 68 + page)));
     }
     total
 }

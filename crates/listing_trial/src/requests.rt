@@ -1,25 +1,17 @@
 // A whole listing asked for in several ways, and requests that are refused.
-use crate::comparing::{Ask, Out, asked, lines_written, refused_faults, taken_faults};
+use crate::comparing::{Ask, Listing, Out, asked, lines_written, refused_faults, taken_faults};
 use crate::machine::{Anchor, Logs};
-use crate::reading::{Notes, note_records};
+use crate::reading::{Notes, no_notes, note_records};
 use crate::shown::lines_of;
 use store::State;
-use trial_table::words::{front, less, more, sum, times};
+use trial_table::words::front;
 
 // What was found so far.
-#[derive(Clone, Copy)]
+#[derive(Clone, Copy, Default)]
 pub struct Found {
     pub lines: u64,
     pub refusals: u64,
     pub faults: u64,
-}
-
-pub fn nothing() -> Found {
-    Found {
-        lines: 0,
-        refusals: 0,
-        faults: 0,
-    }
 }
 
 // A call that must be refused.
@@ -35,8 +27,8 @@ pub fn try_refused(
     let answer = asked(state, ask, anchor, logs, out);
     let wrong = refused_faults(answer, ask, number, 0, 0, out);
     Found {
-        refusals: more(found.refusals),
-        faults: sum(found.faults, wrong),
+        refusals: found.refusals.saturating_add(1),
+        faults: found.faults.saturating_add(wrong),
         ..found
     }
 }
@@ -58,8 +50,8 @@ fn try_call(
     let answer = asked(state, ask, anchor, logs, out);
     let wrong = taken_faults(answer, ask, anchor, logs, notes, lines, out);
     Found {
-        lines: sum(found.lines, lines_written(ask, lines)),
-        faults: sum(found.faults, wrong),
+        lines: found.lines.saturating_add(lines_written(ask, lines)),
+        faults: found.faults.saturating_add(wrong),
         ..found
     }
 }
@@ -74,13 +66,11 @@ fn try_each(
     lines: u64,
     out: &mut Out,
 ) -> Found {
-    let mut left = sum(lines, 3);
     let mut found = before;
-    while left > 0 {
-        left -= 1;
+    for first in 0..lines.saturating_add(3) {
         let ask = Ask {
-            single: true,
-            first: left,
+            listing: Listing::Line,
+            first,
             bytes: 73,
             words,
         };
@@ -99,13 +89,11 @@ fn try_pieces(
     lines: u64,
     out: &mut Out,
 ) -> Found {
-    let mut left: u64 = 72;
     let mut found = before;
-    while left > 0 {
-        left -= 1;
+    for piece in 0..72 {
         let ask = Ask {
-            single: false,
-            first: times(left, 7),
+            listing: Listing::Lines,
+            first: piece * 7,
             bytes: 511,
             words,
         };
@@ -116,10 +104,10 @@ fn try_pieces(
 
 // All lines at once, into more bytes than they need.
 pub fn try_whole(found: Found, words: u64, anchor: &Anchor, logs: &Logs, out: &mut Out) -> Found {
-    let mut notes = [0u64; 1536];
+    let mut notes = no_notes();
     let lines = lines_of(note_records(anchor, logs, &mut notes));
     let ask = Ask {
-        single: false,
+        listing: Listing::Lines,
         first: 0,
         bytes: 36500,
         words,
@@ -129,12 +117,12 @@ pub fn try_whole(found: Found, words: u64, anchor: &Anchor, logs: &Logs, out: &m
 
 // All lines, one by one, in pieces, at once, and into no bytes.
 pub fn try_listing(found: Found, words: u64, anchor: &Anchor, logs: &Logs, out: &mut Out) -> Found {
-    let mut notes = [0u64; 1536];
+    let mut notes = no_notes();
     let lines = lines_of(note_records(anchor, logs, &mut notes));
     let each = try_each(found, words, anchor, logs, &notes, lines, out);
     let pieces = try_pieces(each, words, anchor, logs, &notes, lines, out);
     let none = Ask {
-        single: false,
+        listing: Listing::Lines,
         first: 0,
         bytes: 0,
         words,
@@ -155,7 +143,7 @@ fn try_both(
 ) -> Found {
     let line = try_refused(found, state, ask, number, anchor, logs, out);
     let lines = Ask {
-        single: false,
+        listing: Listing::Lines,
         ..ask
     };
     try_refused(line, state, lines, number, anchor, logs, out)
@@ -172,7 +160,7 @@ pub fn try_refusals(
 ) -> Found {
     let state = store::new_state();
     let ask = Ask {
-        single: true,
+        listing: Listing::Line,
         first: 0,
         bytes: 73,
         words,
@@ -184,7 +172,7 @@ pub fn try_refusals(
     let large = Ask { bytes: 74, ..ask };
     let d = try_both(c, state, large, 5, anchor, logs, out);
     let short = Ask {
-        words: less(words, 1),
+        words: words.saturating_sub(1),
         ..ask
     };
     try_both(d, state, short, 5, anchor, logs, out)

@@ -5,7 +5,6 @@ use trial_table::calls::{Call, Kind, call_of};
 use trial_table::random;
 use trial_table::random::below;
 use trial_table::shape::{Shape, slots_of, width_of};
-use trial_table::words::{less, sum};
 
 // An update of any slot.
 fn drawn_update(shape: Shape, number: u64, seed: u64) -> Call {
@@ -24,10 +23,10 @@ fn drawn_update(shape: Shape, number: u64, seed: u64) -> Call {
 
 // A begin, or a call of one of the newest transactions, mostly an update.
 fn drawn(shape: Shape, newest: u64, seed: u64) -> Call {
-    let number = less(newest, below(seed, 6));
+    let number = newest.saturating_sub(below(seed, 6));
     let other = random::next(seed);
     match below(other, 16) {
-        0 | 1 | 2 => call_of(Kind::Begin, 0),
+        0..=2 => call_of(Kind::Begin, 0),
         3 | 4 => call_of(Kind::Commit, number),
         5 => call_of(Kind::Abort, number),
         _ => drawn_update(shape, number, random::next(other)),
@@ -36,11 +35,9 @@ fn drawn(shape: Shape, newest: u64, seed: u64) -> Call {
 
 // So many calls.
 fn turns(m: Machine, shape: Shape, calls: u64, first_seed: u64) -> Machine {
-    let mut left = calls;
     let mut seed = first_seed;
     let mut after = m;
-    while left > 0 {
-        left -= 1;
+    for _ in 0..calls {
         seed = random::next(random::next(seed));
         after = performed(after, shape, drawn(shape, after.newest, seed));
     }
@@ -49,11 +46,9 @@ fn turns(m: Machine, shape: Shape, calls: u64, first_seed: u64) -> Machine {
 
 // Commits what is still open, but for the two newest: those hold their disks' starts back.
 fn close_older(m: Machine, shape: Shape) -> Machine {
-    let mut left: u64 = 98;
     let mut after = m;
-    while left > 0 {
-        left -= 1;
-        let number = less(m.newest, sum(left, 2));
+    for newer in (2..100).rev() {
+        let number = m.newest.saturating_sub(newer);
         after = performed(after, shape, call_of(Kind::Commit, number));
     }
     after
@@ -61,10 +56,8 @@ fn close_older(m: Machine, shape: Shape) -> Machine {
 
 // As many steps as there are pages; those past the last marked page are refused.
 fn copy_pages(m: Machine, shape: Shape) -> Machine {
-    let mut left = shape.pages;
     let mut after = m;
-    while left > 0 {
-        left -= 1;
+    for _ in 0..shape.pages {
         after = performed(after, shape, call_of(Kind::CheckpointStep, 0));
     }
     after
@@ -79,12 +72,10 @@ fn checkpoint(m: Machine, shape: Shape, seed: u64) -> Machine {
 
 // The machine after a format and these rounds.
 pub fn run(shape: Shape, rounds: u64) -> Machine {
-    let mut left = rounds;
     let mut seed: u64 = 88172645463325252;
     let mut m = performed(blank(), shape, call_of(Kind::Format, 0));
-    while left > 0 {
-        left -= 1;
-        seed = random::next(sum(seed, left));
+    for left in (0..rounds).rev() {
+        seed = random::next(seed.saturating_add(left));
         m = close_older(turns(m, shape, 480, seed), shape);
         if left > 0 {
             m = checkpoint(m, shape, seed);

@@ -8,21 +8,11 @@
 mod turns;
 mod watching;
 
-ghost use Rattle.std.specs.Prelude.{◌<◌};
-
 use crate::turns::{Trial, turn};
 use script::progress::new_progress;
 use script::sizes::{how_many, shape_at};
 use trial_table::text::read_number;
 use trial_table::words::zeros;
-
-// How many turns are left: none once the last size is done.
-fn turns_left(left: u64, size: u64) -> u64
-    requires { 0 < left }
-    ensures { result < left }
-{
-    if size < how_many() { left - 1 } else { 0 }
-}
 
 // All turns of all sizes.
 fn run(
@@ -34,11 +24,12 @@ fn run(
     work: &mut [u64],
     book: &mut [u64],
 ) {
-    let mut left: u64 = u64::MAX;
     let mut now = t;
-    while left > 0 {
+    for _ in 0..u64::MAX {
         now = turn(now, anchor, pages, backups, logs, work, book);
-        left = turns_left(left, now.size);
+        if now.size >= how_many() {
+            return;
+        }
     }
 }
 

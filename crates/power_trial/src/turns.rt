@@ -5,11 +5,11 @@ use script::progress;
 use script::progress::{Progress, mode_of, new_progress, next_call};
 use script::sizes::{shape_at, tell};
 use store::State;
+use store::restarts::restart_remaining;
 use trial_table::calls::{Call, Kind};
 use trial_table::random::{below, fill};
 use trial_table::shape::{HEAD_WORDS, Shape, total_of, work_words};
-use trial_table::wanted::cause;
-use trial_table::words::{front, less, more, put, tail_mut, wipe};
+use trial_table::words::{front, put, tail_mut, wipe};
 
 #[derive(Clone, Copy)]
 pub struct Trial {
@@ -28,25 +28,7 @@ pub fn turn(
     work: &mut [u64],
     book: &mut [u64],
 ) -> Trial {
-    let mode = mode_of(t.progress);
-    match mode {
-        Mode::Losing | Mode::Comparing | Mode::Telling => {
-            quiet_turn(t, mode, anchor, pages, work, book)
-        }
-        _ => call_turn(t, anchor, pages, backups, logs, work, book),
-    }
-}
-
-// A turn with no call.
-fn quiet_turn(
-    t: Trial,
-    mode: Mode,
-    anchor: &mut [u64],
-    pages: &mut [u64],
-    work: &mut [u64],
-    book: &mut [u64],
-) -> Trial {
-    match mode {
+    match mode_of(t.progress) {
         Mode::Losing => Trial {
             state: store::new_state(),
             progress: lose_power(t.progress, pages, work, book),
@@ -56,7 +38,8 @@ fn quiet_turn(
             progress: progress::compared(t.progress, pages, book),
             ..t
         },
-        _ => next_size(t, anchor, book),
+        Mode::Telling => next_size(t, anchor, book),
+        _ => call_turn(t, anchor, pages, backups, logs, work, book),
     }
 }
 
@@ -68,8 +51,7 @@ fn lose_power(
     book: &mut [u64],
 ) -> Progress {
     let shape = progress.shape;
-    let plan = progress.plan;
-    let filled = fill(pages, total_of(shape), plan.seed);
+    let filled = fill(pages, total_of(shape), progress.plan.seed);
     let seed = fill_work(shape, filled, work);
     progress::after_loss(progress, seed, book)
 }
@@ -78,7 +60,7 @@ fn lose_power(
 fn fill_work(shape: Shape, seed: u64, work: &mut [u64]) -> u64 {
     let last = fill(
         tail_mut(work, HEAD_WORDS),
-        less(work_words(shape), HEAD_WORDS),
+        work_words(shape).saturating_sub(HEAD_WORDS),
         seed,
     );
     fill(work, HEAD_WORDS, last);
@@ -91,7 +73,7 @@ fn next_size(t: Trial, anchor: &mut [u64], book: &mut [u64]) -> Trial {
     tell(progress.shape, progress.counts);
     put(anchor, 3, 0);
     wipe(book, 8600);
-    let size = more(t.size);
+    let size = t.size.saturating_add(1);
     Trial {
         state: store::new_state(),
         progress: new_progress(shape_at(size), t.lists),
@@ -100,43 +82,23 @@ fn next_size(t: Trial, anchor: &mut [u64], book: &mut [u64]) -> Trial {
     }
 }
 
-// The first source from a random one on, in turn, of which something remains; one too large where there is none, or in another stage.
-fn some_source(state: State, progress: Progress, work: &[u64]) -> u64 {
-    let shape = progress.shape;
-    let plan = progress.plan;
-    let plain = progress.plain;
-    let sources = more(shape.disks);
-    if plain.stage != 1 {
-        return sources;
+// The first source from a random one on, in turn, of which something remains; none where there is no such, or in another stage.
+fn some_source(state: State, progress: Progress, work: &[u64]) -> Option<u64> {
+    if progress.plain.stage != 1 {
+        return None;
     }
-    next_source(state, sources, below(plan.seed, sources), work)
-}
-
-fn next_source(state: State, sources: u64, from: u64, work: &[u64]) -> u64 {
-    let mut left = sources;
-    let mut source = from;
-    while left > 0 {
-        left -= 1;
-        if store::restarts::restart_remaining(state, source, work) > 0 {
-            return source;
-        }
-        source = if more(source) < sources {
-            more(source)
-        } else {
-            0
-        };
-    }
-    sources
+    let sources = progress.shape.disks.saturating_add(1);
+    let from = below(progress.plan.seed, sources);
+    (from..sources)
+        .chain(0..from)
+        .find(|&source| restart_remaining(state, source, work) > 0)
 }
 
 // What remains to be replayed, by the call that tells: of the source that a step names, or of any.
-fn remaining(state: State, call: Call, source: u64, disks: u64, work: &[u64]) -> u64 {
-    let kind = call.kind;
-    match kind {
-        Kind::RestartStep | Kind::RestartRun => {
-            store::restarts::restart_remaining(state, call.number, work)
-        }
-        Kind::RestartEnd => cause(source <= disks, 1),
+fn remaining(state: State, call: Call, source: Option<u64>, work: &[u64]) -> u64 {
+    match call.kind {
+        Kind::RestartStep | Kind::RestartRun => restart_remaining(state, call.number, work),
+        Kind::RestartEnd => u64::from(source.is_some()),
         _ => 0,
     }
 }
@@ -149,16 +111,20 @@ struct Asked {
     remains: u64,
 }
 
+// Where no source has something left, the next call is told one too large.
 fn ask(state: State, progress: Progress, work: &[u64], book: &[u64]) -> Asked {
     let shape = progress.shape;
-    let plan = progress.plan;
     let own = front(work, work_words(shape));
     let source = some_source(state, progress, own);
-    let call = next_call(progress, source, book);
+    let call = next_call(
+        progress,
+        source.unwrap_or(shape.disks.saturating_add(1)),
+        book,
+    );
     Asked {
         call,
-        budget: plan.budget,
-        remains: remaining(state, call, source, shape.disks, own),
+        budget: progress.plan.budget,
+        remains: remaining(state, call, source, own),
     }
 }
 
@@ -191,20 +157,17 @@ fn call_turn(
 
 fn judge(t: Trial, asked: Asked, made: Made, book: &mut [u64]) -> Trial {
     let called = made.called;
-    let answer = called.answer;
-    let state = called.state;
-    let progress = progress::after_call(
-        t.progress,
-        asked.call,
-        asked.remains,
-        answer,
-        made.left,
-        made.kept,
-        book,
-    );
     Trial {
-        state,
-        progress,
+        state: called.state,
+        progress: progress::after_call(
+            t.progress,
+            asked.call,
+            asked.remains,
+            called.answer,
+            made.left,
+            made.kept,
+            book,
+        ),
         ..t
     }
 }

@@ -35,7 +35,7 @@ pub fn watch(
     Made { called, left, kept }
 }
 
-// A digest of the slices, of the logs the first 8,192 words, for a call that is lent a short one and has to leave all; 0 for any other.
+// A digest of the slices, of the logs the first 8,192 words, for a call that is lent a short one and has to leave all; none for any other.
 fn seal(
     short: u64,
     anchor: &[u64],
@@ -43,13 +43,13 @@ fn seal(
     backups: &[u64],
     logs: &[u64],
     work: &[u64],
-) -> u64 {
+) -> Option<u64> {
     if short == 0 {
-        return 0;
+        return None;
     }
     let a = digest(anchor, 148, 1);
     let b = digest(pages, pages.len() as u64, a);
     let c = digest(backups, backups.len() as u64, b);
     let d = digest(logs, 8192, c);
-    digest(work, work.len() as u64, d)
+    Some(digest(work, work.len() as u64, d))
 }

@@ -4,28 +4,23 @@ use trial_table::calls::{Call, Kind, call_of};
 use trial_table::plain::Plain;
 use trial_table::random::{below, next};
 use trial_table::shape::{Shape, slots_of, width_of};
-use trial_table::wanted::cause;
-use trial_table::words::{get, sum};
+use trial_table::words::get;
 use trial_table::write_sets::open_at;
 
 // Some open transaction, the first from a random place on; 0 where there is none.
 fn some_open(seed: u64, book: &[u64]) -> u64 {
-    let mut left: u64 = 16;
     let from = below(seed >> 14, 16);
-    while left > 0 {
-        left -= 1;
-        let number = get(book, open_at(sum(from, left)));
-        if number > 0 {
-            return number;
-        }
-    }
-    0
+    (0..16)
+        .rev()
+        .map(|place| get(book, open_at(from.saturating_add(place))))
+        .find(|&number| number > 0)
+        .unwrap_or(0)
 }
 
 // An open transaction; one in sixteen times any small number.
 fn some_number(seed: u64, next_number: u64, book: &[u64]) -> u64 {
     if below(seed >> 4, 16) == 0 {
-        return below(seed >> 10, sum(next_number, 2));
+        return below(seed >> 10, next_number.saturating_add(2));
     }
     some_open(seed, book)
 }
@@ -33,7 +28,7 @@ fn some_number(seed: u64, next_number: u64, book: &[u64]) -> u64 {
 // A number below n, half of the time below 2; now and then it is too large.
 fn some_below(seed: u64, n: u64) -> u64 {
     if below(seed, 64) == 0 {
-        return sum(n, below(seed >> 6, 3));
+        return n.saturating_add(below(seed >> 6, 3));
     }
     let low = below(seed >> 9, 2);
     if below(seed >> 7, 2) == 0 && low < n {
@@ -66,7 +61,7 @@ fn update_call(shape: Shape, plain: Plain, seed: u64, book: &[u64]) -> Call {
     };
     Call {
         length,
-        filled: cause(below(die >> 11, 8) > 0, length),
+        filled: if below(die >> 11, 8) > 0 { length } else { 0 },
         seed: die,
         ..call
     }
@@ -76,7 +71,11 @@ fn update_call(shape: Shape, plain: Plain, seed: u64, book: &[u64]) -> Call {
 fn read_call(shape: Shape, plain: Plain, seed: u64, book: &[u64]) -> Call {
     let call = named_call(Kind::Read, shape, plain, seed, book);
     Call {
-        number: cause(below(seed >> 20, 2) == 0, call.number),
+        number: if below(seed >> 20, 2) == 0 {
+            call.number
+        } else {
+            0
+        },
         ..call
     }
 }
@@ -188,13 +187,17 @@ pub fn restart_call(shape: Shape, stage: u64, left: u64, source: u64, seed: u64)
         return call_of(Kind::RestartEnd, 0);
     }
     if below(seed >> 8, 16) == 0 {
-        return replay_call(below(seed >> 16, sum(disks, 3)), next(seed));
+        return replay_call(below(seed >> 16, disks.saturating_add(3)), next(seed));
     }
     replay_call(source, next(seed))
 }
 
 // One in 256 calls is lent one slice that is a word short.
 pub fn lent_short(call: Call, seed: u64) -> Call {
-    let short = cause(below(seed >> 24, 256) == 0, sum(1, below(seed >> 32, 5)));
+    let short = if below(seed >> 24, 256) == 0 {
+        below(seed >> 32, 5).saturating_add(1)
+    } else {
+        0
+    };
     Call { short, ..call }
 }

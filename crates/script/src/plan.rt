@@ -2,9 +2,10 @@
 // budget is used up; then power is lost, and a restart is tried until one is taken. There are three sweeps: the same list under every
 // budget from 0 on until it is not cut; lists of every length, each another, with power lost between two calls; one list, and the end
 // of the restart after it under every budget from 0 on.
+use model::Answer;
 use trial_table::calls::Kind;
 use trial_table::random::{below, next};
-use trial_table::words::{less, more, tally, times};
+use trial_table::words::times;
 
 // What the next turn does: a call (of a format, of the restart after a cut format, of a list, of a restart), or power is lost, or
 // the pages are compared with the results, or the size's counts are told.
@@ -36,8 +37,26 @@ pub struct Plan {
 }
 
 // The calls of a list.
-fn longest() -> u64 {
-    200
+const LONGEST: u64 = 200;
+
+// The first seed.
+const FIRST: u64 = 88172645463325252;
+
+// What a sweep varies: the budget of a list, its length, or the budget of the restart's end after it.
+#[derive(Clone, Copy, PartialEq, Eq)]
+enum Sweep {
+    Budgets,
+    Lengths,
+    Ends,
+}
+
+// The sweep under way where so many are left.
+fn sweep_of(sweeps: u64) -> Sweep {
+    match sweeps % 3 {
+        0 => Sweep::Budgets,
+        2 => Sweep::Lengths,
+        _ => Sweep::Ends,
+    }
 }
 
 pub fn new_plan(lists: u64) -> Plan {
@@ -49,8 +68,8 @@ pub fn new_plan(lists: u64) -> Plan {
         budget: 0,
         attempt: u64::MAX,
         cut: false,
-        list: 88172645463325252,
-        seed: 88172645463325252,
+        list: FIRST,
+        seed: FIRST,
     }
 }
 
@@ -73,19 +92,19 @@ fn new_run(plan: Plan, calls: u64, budget: u64, attempt: u64) -> Plan {
 
 // The run that the plan has come to.
 fn start_run(plan: Plan) -> Plan {
-    match plan.sweeps % 3 {
-        0 => new_run(plan, longest(), plan.run, u64::MAX),
-        2 => new_run(plan, plan.run, u64::MAX, u64::MAX),
-        _ => new_run(plan, longest(), u64::MAX, 0),
+    match sweep_of(plan.sweeps) {
+        Sweep::Budgets => new_run(plan, LONGEST, plan.run, u64::MAX),
+        Sweep::Lengths => new_run(plan, plan.run, u64::MAX, u64::MAX),
+        Sweep::Ends => new_run(plan, LONGEST, u64::MAX, 0),
     }
 }
 
 // Whether a sweep's last run is done.
 fn last_run(plan: Plan) -> bool {
-    match plan.sweeps % 3 {
-        0 => !plan.cut || plan.run > 65536,
-        2 => plan.run >= longest(),
-        _ => true,
+    match sweep_of(plan.sweeps) {
+        Sweep::Budgets => !plan.cut || plan.run > 65536,
+        Sweep::Lengths => plan.run >= LONGEST,
+        Sweep::Ends => true,
     }
 }
 
@@ -97,19 +116,15 @@ fn other_list(seed: u64) -> u64 {
 // The next run of the sweep, or the first of the next.
 pub fn next_run(plan: Plan) -> Plan {
     let last = last_run(plan);
-    let sweeps = if last {
-        less(plan.sweeps, 1)
-    } else {
-        plan.sweeps
-    };
-    let run = if last { 0 } else { more(plan.run) };
+    let sweeps = plan.sweeps.saturating_sub(last as u64);
+    let run = if last { 0 } else { plan.run.saturating_add(1) };
     if sweeps == 0 {
         return Plan {
             mode: Mode::Telling,
             ..plan
         };
     }
-    let list = if last || sweeps % 3 == 2 {
+    let list = if last || sweep_of(sweeps) == Sweep::Lengths {
         other_list(plan.list)
     } else {
         plan.list
@@ -138,27 +153,22 @@ pub fn after_loss(plan: Plan, seed: u64) -> Plan {
     }
 }
 
-// After a call that answered this number and left the store in this stage. A format or a restart that does not answer as expected ends the
+// After a call, by its answer and the stage that it left the store in. A format or a restart that does not answer as expected ends the
 // size's trial.
-pub fn after_call(plan: Plan, kind: Kind, number: u64, stage: u64, agrees: bool) -> Plan {
-    let mode = plan.mode;
-    match mode {
+pub fn after_call(plan: Plan, kind: Kind, answer: Answer, stage: u64, agrees: bool) -> Plan {
+    match plan.mode {
         Mode::Listing => after_list_call(plan, stage),
-        _ => {
-            if !agrees {
-                return Plan {
-                    mode: Mode::Telling,
-                    ..plan
-                };
-            }
-            after_sure_call(plan, kind, number)
-        }
+        _ if agrees => after_sure_call(plan, kind, answer),
+        _ => Plan {
+            mode: Mode::Telling,
+            ..plan
+        },
     }
 }
 
 // A list ends with its last call, or where it is cut.
 fn after_list_call(plan: Plan, stage: u64) -> Plan {
-    let calls = less(plan.calls, 1);
+    let calls = plan.calls.saturating_sub(1);
     if stage == 0 || calls == 0 {
         return Plan {
             mode: Mode::Losing,
@@ -169,37 +179,35 @@ fn after_list_call(plan: Plan, stage: u64) -> Plan {
     Plan { calls, ..plan }
 }
 
-fn after_sure_call(plan: Plan, kind: Kind, number: u64) -> Plan {
+fn after_sure_call(plan: Plan, kind: Kind, answer: Answer) -> Plan {
     match kind {
-        Kind::Format => after_format(plan, number),
-        Kind::RestartEnd => after_restart(plan, number),
-        Kind::RestartBegin => after_begin(plan, number),
+        Kind::Format => after_format(plan, answer),
+        Kind::RestartEnd => after_restart(plan, answer),
+        Kind::RestartBegin => after_begin(plan, answer),
         _ => Plan {
-            calls: less(plan.calls, 1),
+            calls: plan.calls.saturating_sub(1),
             ..plan
         },
     }
 }
 
 // A format that was cut is followed by a restart, which finds no store.
-fn after_format(plan: Plan, number: u64) -> Plan {
-    if number == 0 {
-        return start_run(Plan { run: 0, ..plan });
-    }
-    if number == 16 {
-        return Plan {
+fn after_format(plan: Plan, answer: Answer) -> Plan {
+    match answer {
+        Answer::Finished { .. } => start_run(Plan { run: 0, ..plan }),
+        Answer::Interrupted { .. } => Plan {
             mode: Mode::Probing,
             ..plan
-        };
+        },
+        Answer::Refused { .. } => plan,
     }
-    plan
 }
 
-fn after_begin(plan: Plan, number: u64) -> Plan {
-    if number != 3 {
+fn after_begin(plan: Plan, answer: Answer) -> Plan {
+    let Answer::Refused { number: 3, .. } = answer else {
         return plan;
-    }
-    let run = more(plan.run);
+    };
+    let run = plan.run.saturating_add(1);
     Plan {
         mode: Mode::Formatting,
         run,
@@ -209,16 +217,20 @@ fn after_begin(plan: Plan, number: u64) -> Plan {
 }
 
 // A restart that did not end loses power again; where its end was cut, the next one has a larger budget.
-fn after_restart(plan: Plan, number: u64) -> Plan {
-    if number == 0 {
-        return Plan {
+fn after_restart(plan: Plan, answer: Answer) -> Plan {
+    match answer {
+        Answer::Finished { .. } => Plan {
             mode: Mode::Comparing,
             ..plan
-        };
-    }
-    Plan {
-        mode: Mode::Losing,
-        attempt: tally(plan.attempt, number == 16),
-        ..plan
+        },
+        Answer::Interrupted { .. } => Plan {
+            mode: Mode::Losing,
+            attempt: plan.attempt.saturating_add(1),
+            ..plan
+        },
+        Answer::Refused { .. } => Plan {
+            mode: Mode::Losing,
+            ..plan
+        },
     }
 }

@@ -3,14 +3,13 @@ use crate::choices::{lent_short, list_call, restart_call};
 use crate::plan;
 use crate::plan::{Mode, Plan, new_plan};
 use model::Answer;
-use trial_table::answers::number_of;
 use trial_table::calls::{Call, Kind, call_of};
 use trial_table::costs::expected;
 use trial_table::plain::{Plain, new_plain};
 use trial_table::random::next;
 use trial_table::shape::{Shape, address_of, total_of, width_of};
 use trial_table::wanted::is_wanted;
-use trial_table::words::{differing, get, more, tally};
+use trial_table::words::{get, same, tally};
 use trial_table::{plain, write_sets};
 
 // Calls made, and those that answered as expected; restarts taken, and those after which the pages were the results.
@@ -46,8 +45,7 @@ pub fn new_progress(shape: Shape, lists: u64) -> Progress {
 
 // What the next turn does.
 pub fn mode_of(progress: Progress) -> Mode {
-    let plan = progress.plan;
-    plan.mode
+    progress.plan.mode
 }
 
 // The next call; `source` has something left to replay.
@@ -56,8 +54,7 @@ pub fn next_call(progress: Progress, source: u64, book: &[u64]) -> Call {
     let plain = progress.plain;
     let shape = progress.shape;
     let seed = plan.seed;
-    let mode = plan.mode;
-    let call = match mode {
+    let call = match plan.mode {
         Mode::Formatting => call_of(Kind::Format, 0),
         Mode::Probing => call_of(Kind::RestartBegin, 0),
         Mode::Listing => list_call(shape, plain, seed, book),
@@ -66,26 +63,23 @@ pub fn next_call(progress: Progress, source: u64, book: &[u64]) -> Call {
     lent_short(call, next(seed))
 }
 
-// In how many words a read that was to be taken differs from the reader's newest entry, or from the results.
-fn read_differs(progress: Progress, call: Call, book: &[u64]) -> u64 {
+// Whether what was read is the reader's newest entry, or what the results have.
+fn reads_newest(progress: Progress, call: Call, book: &[u64]) -> bool {
     let shape = progress.shape;
-    let plain = progress.plain;
-    let page = call.page;
-    let address = address_of(shape, page, call.slot);
-    let at = write_sets::current_at(book, plain.entries, address);
-    write_sets::seen_differs(book, at, width_of(shape, page))
+    let address = address_of(shape, call.page, call.slot);
+    let at = write_sets::current_at(book, progress.plain.entries, address);
+    write_sets::seen_is(book, at, width_of(shape, call.page))
 }
 
-// Whether what was read is what it should be: nothing, where the read was refused.
-fn reads_well(progress: Progress, call: Call, refusal: u64, book: &[u64]) -> bool {
-    let kind = call.kind;
-    let Kind::Read = kind else {
+// Whether what was read is what it should be: nothing, where the read is to be refused.
+fn reads_well(progress: Progress, call: Call, wanted: Answer, book: &[u64]) -> bool {
+    if call.kind != Kind::Read {
         return true;
-    };
-    if refusal > 0 {
-        return get(book, write_sets::seen_at(0)) == 0;
     }
-    read_differs(progress, call, book) == 0
+    match wanted {
+        Answer::Refused { .. } => get(book, write_sets::seen_at(0)) == 0,
+        _ => reads_newest(progress, call, book),
+    }
 }
 
 // The progress after a call: its answer is compared with what is expected, with the budget left and whether it kept what it had to keep.
@@ -101,13 +95,11 @@ pub fn after_call(
     let shape = progress.shape;
     let plan = progress.plan;
     let counts = progress.counts;
-    let kind = call.kind;
     let wanted = expected(shape, progress.plain, call, remains, plan.budget, book);
-    let agrees = is_wanted(answer, plan.budget, left, wanted)
+    let agrees = is_wanted(answer, left, wanted)
         && kept
-        && reads_well(progress, call, wanted.number, book);
-    let number = number_of(answer);
-    let plain = plain::after_call(progress.plain, shape, call, number, book);
+        && reads_well(progress, call, wanted.answer, book);
+    let plain = plain::after_call(progress.plain, shape, call, answer, book);
     let rolled = Plan {
         budget: left,
         seed: next(plan.seed),
@@ -116,9 +108,9 @@ pub fn after_call(
     Progress {
         shape,
         plain,
-        plan: plan::after_call(rolled, kind, number, plain.stage, agrees),
+        plan: plan::after_call(rolled, call.kind, answer, plain.stage, agrees),
         counts: Counts {
-            calls: more(counts.calls),
+            calls: counts.calls.saturating_add(1),
             agreed: tally(counts.agreed, agrees),
             ..counts
         },
@@ -137,7 +129,7 @@ pub fn after_loss(progress: Progress, seed: u64, book: &mut [u64]) -> Progress {
 // After a restart: the pages are compared with the results.
 pub fn compared(progress: Progress, pages: &[u64], book: &[u64]) -> Progress {
     let counts = progress.counts;
-    let differ = differing(
+    let right = same(
         pages,
         write_sets::results_of(book),
         total_of(progress.shape),
@@ -145,8 +137,8 @@ pub fn compared(progress: Progress, pages: &[u64], book: &[u64]) -> Progress {
     Progress {
         plan: plan::next_run(progress.plan),
         counts: Counts {
-            restarts: more(counts.restarts),
-            right: tally(counts.right, differ == 0),
+            restarts: counts.restarts.saturating_add(1),
+            right: tally(counts.right, right),
             ..counts
         },
         ..progress

@@ -1,7 +1,7 @@
 // The store's calls as data: which one, and with what arguments.
 use crate::random::fill;
 
-#[derive(Clone, Copy)]
+#[derive(Clone, Copy, PartialEq, Eq)]
 pub enum Kind {
     Format,
     Begin,
@@ -55,4 +55,11 @@ pub fn call_of(kind: Kind, number: u64) -> Call {
 // Lays an update's value into a slice of zeros.
 pub fn lay_value(call: Call, value: &mut [u64]) {
     fill(value, call.filled, call.seed);
+}
+
+// An update's value, with zeros behind it.
+pub fn laid_value(call: Call) -> [u64; 40] {
+    let mut value = [0u64; 40];
+    lay_value(call, &mut value);
+    value
 }

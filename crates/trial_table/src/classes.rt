@@ -1,12 +1,12 @@
 // Which disks serve which class, by 02's S-5: a set of disks for each of the 256 classes, in the book. It is 0 where no table is set, and
 // then every disk serves the class. A table is read class by class, each time line by line.
 use crate::drawing::{high_at, lay_lines, low_at, power, set_at};
-use crate::wanted::cause;
-use crate::words::{get, put, sum, tail_mut, tally, wipe};
+use crate::wanted::Refusal;
+use crate::words::{get, put, tail_mut, wipe};
 
 // Where a class's set stands in the book.
 fn class_at(class: u64) -> u64 {
-    sum(8344, class % 256)
+    8344 + class % 256
 }
 
 // Whether a disk serves a class.
@@ -20,114 +20,99 @@ pub fn forget(book: &mut [u64]) {
     wipe(tail_mut(book, class_at(0)), 256);
 }
 
+// A table that follows from a seed: its lines, and how many words of them are lent.
+#[derive(Drop)]
+struct Table {
+    lines: [u64; 64],
+    words: u64,
+}
+
+impl Table {
+    fn new(disks: u64, seed: u64) -> Table {
+        let mut lines = [0u64; 64];
+        let words = lay_lines(seed, disks, &mut lines);
+        Table { lines, words }
+    }
+
+    fn count(&self) -> u64 {
+        self.words / 3
+    }
+
+    fn word(&self, at: u64) -> u64 {
+        get(&self.lines, at)
+    }
+
+    fn covers(&self, line: u64, class: u64) -> bool {
+        (self.word(low_at(line))..=self.word(high_at(line))).contains(&class)
+    }
+
+    // The set of a class, by the line that covers it.
+    fn set_of(&self, class: u64) -> u64 {
+        let line = (0..self.count())
+            .rev()
+            .find(|&line| self.covers(line, class));
+        line.map_or(0, |line| self.word(set_at(line)))
+    }
+
+    // How many lines cover a class.
+    fn times_covered(&self, class: u64) -> usize {
+        (0..self.count())
+            .filter(|&line| self.covers(line, class))
+            .count()
+    }
+
+    // The lowest class that no line covers.
+    fn not_covered(&self) -> Option<u64> {
+        (0..256).find(|&class| self.times_covered(class) == 0)
+    }
+
+    // The lowest class that several lines cover.
+    fn covered_twice(&self) -> Option<u64> {
+        (0..256).find(|&class| self.times_covered(class) > 1)
+    }
+
+    // The first line that is wrong by itself.
+    fn wrong_line(&self, disks: u64) -> Option<u64> {
+        (0..self.count()).find(|&line| self.is_wrong(line, disks))
+    }
+
+    fn is_wrong(&self, line: u64, disks: u64) -> bool {
+        let high = self.word(high_at(line));
+        let set = self.word(set_at(line));
+        self.word(low_at(line)) > high || high > 255 || set == 0 || set >= power(disks)
+    }
+}
+
 // The table that follows from a seed is set.
 pub fn keep(disks: u64, seed: u64, book: &mut [u64]) {
-    let mut lines = [0u64; 64];
-    let words = lay_lines(seed, disks, &mut lines);
-    keep_sets(&lines, words / 3, book);
-}
-
-fn keep_sets(lines: &[u64], count: u64, book: &mut [u64]) {
-    let mut class: u64 = 256;
-    while class > 0 {
-        class -= 1;
-        let set = set_of(lines, count, class);
-        put(book, class_at(class), set);
+    let table = Table::new(disks, seed);
+    for class in 0..256 {
+        put(book, class_at(class), table.set_of(class));
     }
 }
 
-fn covers(lines: &[u64], line: u64, class: u64) -> bool {
-    get(lines, low_at(line)) <= class && class <= get(lines, high_at(line))
-}
-
-// The set of a class, by the line that covers it.
-fn set_of(lines: &[u64], count: u64, class: u64) -> u64 {
-    let mut left = count;
-    while left > 0 {
-        left -= 1;
-        if covers(lines, left, class) {
-            return get(lines, set_at(left));
-        }
-    }
-    0
-}
-
-// How many lines cover a class.
-fn times_covered(lines: &[u64], count: u64, class: u64) -> u64 {
-    let mut left = count;
-    let mut covered = 0;
-    while left > 0 {
-        left -= 1;
-        covered = tally(covered, covers(lines, left, class));
-    }
-    covered
-}
-
-// The lowest class that is covered by fewer than `least` lines or by more than `most`; 256 where there is none.
-fn class_amiss(lines: &[u64], count: u64, least: u64, most: u64) -> u64 {
-    let mut class = 0;
-    while class < 256 {
-        let covered = times_covered(lines, count, class);
-        if covered < least || covered > most {
-            return class;
-        }
-        class += 1;
-    }
-    256
-}
-
-fn not_covered(lines: &[u64], count: u64) -> u64 {
-    class_amiss(lines, count, 1, count)
-}
-
-fn covered_twice(lines: &[u64], count: u64) -> u64 {
-    class_amiss(lines, count, 0, 1)
-}
-
-// The first line that is wrong by itself; their number where there is none.
-fn wrong_line(lines: &[u64], count: u64, disks: u64) -> u64 {
-    let mut line = 0;
-    while line < count {
-        if is_wrong(lines, line, disks) {
-            return line;
-        }
-        line += 1;
-    }
-    count
-}
-
-fn is_wrong(lines: &[u64], line: u64, disks: u64) -> bool {
-    let high = get(lines, high_at(line));
-    let set = get(lines, set_at(line));
-    get(lines, low_at(line)) > high || high > 255 || set == 0 || set >= power(disks)
-}
-
-// 5 no line, more than 16, or no whole number of lines; 17 a wrong line; 18 a class that no line covers; 19 one that several do.
-pub fn table_refusal(disks: u64, seed: u64) -> u64 {
-    let mut lines = [0u64; 64];
-    let words = lay_lines(seed, disks, &mut lines);
-    let count = words / 3;
+// 5 no line, more than 16, or no whole number of lines; 17 a wrong line; 18 a class that no line covers; 19 one that several do. The
+// value is the line, or the class.
+pub fn table_refusal(disks: u64, seed: u64) -> Option<Refusal> {
+    let table = Table::new(disks, seed);
+    let words = table.words;
     if words == 0 || words > 48 || words % 3 > 0 {
-        return 5;
+        return Some(Refusal::from(5));
     }
-    if wrong_line(&lines, count, disks) < count {
-        return 17;
+    if let Some(line) = table.wrong_line(disks) {
+        return Some(Refusal {
+            number: 17,
+            value: line,
+        });
     }
-    if not_covered(&lines, count) < 256 {
-        return 18;
+    if let Some(class) = table.not_covered() {
+        return Some(Refusal {
+            number: 18,
+            value: class,
+        });
     }
-    cause(covered_twice(&lines, count) < 256, 19)
-}
-
-// What a table's refusal by this number tells: the line, or the class.
-pub fn refused_value(disks: u64, seed: u64, number: u64) -> u64 {
-    let mut lines = [0u64; 64];
-    let words = lay_lines(seed, disks, &mut lines);
-    let count = words / 3;
-    match number {
-        17 => wrong_line(&lines, count, disks),
-        18 => not_covered(&lines, count),
-        19 => covered_twice(&lines, count),
-        _ => 0,
-    }
+    table.covered_twice().map(|class| Refusal {
+        number: 19,
+        value: class,
+    })
 }

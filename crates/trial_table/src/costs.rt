@@ -1,12 +1,12 @@
 // What a call that is not refused stores, and how it changes the log room.
-use crate::budget::{Budget, budget_of, spend};
 use crate::calls::{Call, Kind};
+use crate::logs::Budget;
 use crate::plain::Plain;
 use crate::refusals::refusal;
 use crate::shape::{Shape, start_of, total_of, width_of};
 use crate::wanted::{Wanted, charged, refused};
-use crate::words::{get, less, more, sum};
-use crate::{classes, logs, ones, rooms, write_sets};
+use crate::words::get;
+use crate::{logs, ones, rooms, write_sets};
 
 // What a call under a budget is to answer.
 pub fn expected(
@@ -17,42 +17,37 @@ pub fn expected(
     budget: u64,
     book: &mut [u64],
 ) -> Wanted {
-    let number = refusal(shape, plain, call, remains, book);
-    if number > 0 {
-        let value = classes::refused_value(shape.disks, call.seed, number);
-        return refused(number, value, budget);
+    if let Some(refusal) = refusal(shape, plain, call, remains, book) {
+        return refused(refusal, budget);
     }
     let value = value_of(shape, plain, call, book);
-    let budget = charge(shape, plain, call, budget_of(budget), book);
-    charged(budget, value)
+    let after = charge(shape, plain, call, Some(budget), book);
+    charged(budget, after, value)
 }
 
 // A begin answers its number, an update the bits that it changes, an abort those that it changes back, a restart's run the steps that it
 // makes, a restart's end the new c.
 fn value_of(shape: Shape, plain: Plain, call: Call, book: &[u64]) -> u64 {
-    let kind = call.kind;
-    match kind {
+    match call.kind {
         Kind::Begin => plain.next,
         Kind::Update => ones::update_ones(shape, plain.entries, call, book),
         Kind::Abort => ones::abort_ones(plain.entries, call.number, book),
         Kind::RestartRun => steps_of(shape, call, book),
-        Kind::RestartEnd => more(plain.epoch),
+        Kind::RestartEnd => plain.epoch.saturating_add(1),
         _ => 0,
     }
 }
 
 // The steps that a restart's step or run makes.
 fn steps_of(shape: Shape, call: Call, book: &[u64]) -> u64 {
-    let kind = call.kind;
-    let Kind::RestartRun = kind else {
+    if call.kind != Kind::RestartRun {
         return 1;
-    };
-    let most = call.most;
+    }
     let left = logs::steps_left(book, shape.disks, shape.pages, call.number);
-    if most < left { most } else { left }
+    call.most.min(left)
 }
 
-// A transaction's place and its disk; for 0 the first free place.
+// A transaction's place and its disk; for 0 the first free place. A call that is not refused has one.
 #[derive(Clone, Copy)]
 struct Seat {
     place: u64,
@@ -60,7 +55,7 @@ struct Seat {
 }
 
 fn seat_of(number: u64, book: &[u64]) -> Seat {
-    let place = write_sets::place_of(book, number);
+    let place = write_sets::place_of(book, number).unwrap_or(0);
     let disk = get(book, rooms::disk_at(place));
     Seat { place, disk }
 }
@@ -73,10 +68,12 @@ fn charge_transaction(
     budget: Budget,
     book: &mut [u64],
 ) -> Budget {
-    let kind = call.kind;
     let seat = seat_of(call.number, book);
-    match kind {
-        Kind::Begin => charge_begin(shape, call.class, seat.place, budget, book),
+    match call.kind {
+        Kind::Begin => {
+            seat_begun(shape, call.class, seat.place, book);
+            budget
+        }
         Kind::Update => charge_update(width_of(shape, call.page), seat, budget, book),
         Kind::Commit => charge_commit(seat, budget, book),
         _ => charge_abort(entries, call.number, seat, budget, book),
@@ -84,15 +81,21 @@ fn charge_transaction(
 }
 
 fn charge(shape: Shape, plain: Plain, call: Call, budget: Budget, book: &mut [u64]) -> Budget {
-    let kind = call.kind;
-    match kind {
+    match call.kind {
         Kind::Begin | Kind::Update | Kind::Commit | Kind::Abort => {
             charge_transaction(shape, plain.entries, call, budget, book)
         }
-        Kind::CheckpointBegin => charge_mark(shape.disks, budget, book),
+        Kind::CheckpointBegin => {
+            logs::mark(book, shape.disks);
+            budget
+        }
         Kind::CheckpointEnd => charge_close(shape.disks, budget, book),
-        Kind::RestartStep | Kind::RestartRun => charge_replay(shape, call, budget, book),
-        _ => spend(budget, stores_of(shape, plain.copied, kind)),
+        Kind::RestartStep | Kind::RestartRun => {
+            let steps = steps_of(shape, call, book);
+            logs::replay(book, call.number, steps);
+            budget
+        }
+        _ => budget?.checked_sub(stores_of(shape, plain.copied, call.kind)),
     }
 }
 
@@ -100,37 +103,34 @@ fn charge(shape: Shape, plain: Plain, call: Call, budget: Budget, book: &mut [u6
 // a checkpoint step's are its page; a restart end's are all pages, a start for each disk, and c.
 fn stores_of(shape: Shape, copied: u64, kind: Kind) -> u64 {
     match kind {
-        Kind::Format => sum(149, sum(shape.disks, total_of(shape))),
-        Kind::CheckpointStep => less(start_of(shape, more(copied)), start_of(shape, copied)),
-        Kind::RestartEnd => sum(total_of(shape), sum(shape.disks, 1)),
+        Kind::Format => total_of(shape)
+            .saturating_add(shape.disks)
+            .saturating_add(149),
+        Kind::CheckpointStep => {
+            start_of(shape, copied.saturating_add(1)).saturating_sub(start_of(shape, copied))
+        }
+        Kind::RestartEnd => total_of(shape).saturating_add(starts_of(shape.disks)),
         _ => 0,
     }
 }
 
-fn charge_begin(shape: Shape, class: u8, place: u64, budget: Budget, book: &mut [u64]) -> Budget {
-    let disk = rooms::idlest(book, class as u64, shape.disks, shape.ring);
-    rooms::begin(book, place, disk);
-    budget
+// A start for each disk, and c.
+fn starts_of(disks: u64) -> u64 {
+    disks.saturating_add(1)
 }
 
-fn charge_mark(disks: u64, budget: Budget, book: &mut [u64]) -> Budget {
-    logs::mark(book, disks);
-    budget
-}
-
-fn charge_replay(shape: Shape, call: Call, budget: Budget, book: &mut [u64]) -> Budget {
-    let steps = steps_of(shape, call, book);
-    logs::replay(book, call.number, steps);
-    budget
+// A begun transaction's disk.
+fn seat_begun(shape: Shape, class: u8, place: u64, book: &mut [u64]) {
+    if let Some(disk) = rooms::idlest(book, u64::from(class), shape.disks, shape.ring) {
+        rooms::begin(book, place, disk);
+    }
 }
 
 fn charge_update(width: u64, seat: Seat, budget: Budget, book: &mut [u64]) -> Budget {
-    let words = sum(width, 3);
-    let after = logs::append(book, seat.disk, words, budget);
-    if !after.cut {
-        rooms::update(book, seat.place, words);
-    }
-    after
+    let words = width.saturating_add(3);
+    let left = logs::append(book, seat.disk, words, budget)?;
+    rooms::update(book, seat.place, words);
+    Some(left)
 }
 
 // The closing record, and a flush.
@@ -152,31 +152,26 @@ fn charge_abort(entries: u64, number: u64, seat: Seat, budget: Budget, book: &mu
 }
 
 fn compensate(entries: u64, number: u64, disk: u64, budget: Budget, book: &mut [u64]) -> Budget {
-    let mut left = entries;
     let mut after = budget;
-    while left > 0 {
-        left -= 1;
-        let words = compensation(left, number, book);
-        after = logs::append(book, disk, words, after);
+    for entry in (0..entries).rev() {
+        if let Some(words) = compensation(entry, number, book) {
+            after = logs::append(book, disk, words, after);
+        }
     }
     after
 }
 
 // The words of an entry's compensation, none where the entry is not the transaction's.
-fn compensation(entry: u64, number: u64, book: &[u64]) -> u64 {
+fn compensation(entry: u64, number: u64, book: &[u64]) -> Option<u64> {
     let at = write_sets::entry_at(entry);
-    if get(book, at) != number {
-        return 0;
-    }
-    sum(3, get(book, sum(at, 2)))
+    let width = get(book, at.saturating_add(2));
+    (get(book, at) == number).then_some(width.saturating_add(3))
 }
 
 // The flushes, a start for each disk, and c.
 fn charge_close(disks: u64, budget: Budget, book: &mut [u64]) -> Budget {
     let flushed = logs::flush_all(book, disks, budget);
-    let after = spend(flushed, sum(disks, 1));
-    if !after.cut {
-        logs::move_starts(book, disks);
-    }
-    after
+    let left = flushed?.checked_sub(starts_of(disks))?;
+    logs::move_starts(book, disks);
+    Some(left)
 }

@@ -3,7 +3,6 @@
 #![tactic(auto)]
 
 pub mod answers;
-mod budget;
 pub mod calls;
 mod classes;
 pub mod costs;

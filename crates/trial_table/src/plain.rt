@@ -1,11 +1,13 @@
 // What the plain table knows beside its book, and how a call changes both.
-use crate::calls::{Call, Kind, lay_value};
+use crate::calls::{Call, Kind, laid_value};
 use crate::shape::{Shape, address_of, width_of};
-use crate::words::{more, put};
+use crate::words::put;
 use crate::{classes, logs, write_sets};
+use model::Answer;
 
 // Stages are 0 shut, 1 replaying, 2 open, 3 copying. `next` is the number that a begin answers, `epoch` 01's c, `copied` the pages that
 // the checkpoint under way has copied, `entries` the entries of all write sets.
+// The stage stays a number: public functions of `script` take it, and an enum would ask more of a caller.
 #[derive(Clone, Copy)]
 pub struct Plain {
     pub stage: u64,
@@ -38,29 +40,36 @@ pub fn lost(plain: Plain, book: &mut [u64]) -> Plain {
     }
 }
 
-// After a call that answered this number: 0 where it was taken, 16 where it was cut.
-pub fn after_call(plain: Plain, shape: Shape, call: Call, number: u64, book: &mut [u64]) -> Plain {
-    if number == 16 {
-        classes::forget(book);
-        return Plain { stage: 0, ..plain };
+// After a call, by its answer.
+pub fn after_call(
+    plain: Plain,
+    shape: Shape,
+    call: Call,
+    answer: Answer,
+    book: &mut [u64],
+) -> Plain {
+    match answer {
+        Answer::Finished { .. } => {
+            note(plain, shape, call, book);
+            taken(plain, call.kind)
+        }
+        Answer::Refused { .. } => plain,
+        Answer::Interrupted { .. } => {
+            classes::forget(book);
+            Plain { stage: 0, ..plain }
+        }
     }
-    if number > 0 {
-        return plain;
-    }
-    note(plain, shape, call, book);
-    let kind = call.kind;
-    taken(plain, kind)
 }
 
 // The numbers after a call that was taken.
 fn taken(plain: Plain, kind: Kind) -> Plain {
     match kind {
         Kind::Begin => Plain {
-            next: more(plain.next),
+            next: plain.next.saturating_add(1),
             ..plain
         },
         Kind::Update => Plain {
-            entries: more(plain.entries),
+            entries: plain.entries.saturating_add(1),
             ..plain
         },
         Kind::CheckpointBegin => Plain {
@@ -69,7 +78,7 @@ fn taken(plain: Plain, kind: Kind) -> Plain {
             ..plain
         },
         Kind::CheckpointStep => Plain {
-            copied: more(plain.copied),
+            copied: plain.copied.saturating_add(1),
             ..plain
         },
         Kind::RestartBegin => Plain { stage: 1, ..plain },
@@ -80,26 +89,21 @@ fn taken(plain: Plain, kind: Kind) -> Plain {
 
 // After a call that makes a checkpoint current; transactions' numbers start again from 1 where no checkpoint's end did.
 fn opened(plain: Plain, kind: Kind) -> Plain {
-    let epoch = more(plain.epoch);
-    if let Kind::CheckpointEnd = kind {
-        return Plain {
-            stage: 2,
-            epoch,
-            ..plain
-        };
-    }
     Plain {
         stage: 2,
-        epoch,
-        next: 1,
+        epoch: plain.epoch.saturating_add(1),
+        next: if kind == Kind::CheckpointEnd {
+            plain.next
+        } else {
+            1
+        },
         ..plain
     }
 }
 
 // The book after a call that was taken.
 fn note(plain: Plain, shape: Shape, call: Call, book: &mut [u64]) {
-    let kind = call.kind;
-    match kind {
+    match call.kind {
         Kind::Begin => note_begin(plain.next, book),
         Kind::Update => note_update(plain.entries, shape, call, book),
         Kind::Commit => write_sets::close(book, plain.entries, call.number, true),
@@ -116,22 +120,21 @@ fn note_restart(book: &mut [u64]) {
     classes::forget(book);
 }
 
+// A begin that is taken finds a free place.
 fn note_begin(number: u64, book: &mut [u64]) {
-    let place = write_sets::place_of(book, 0);
+    let place = write_sets::place_of(book, 0).unwrap_or(0);
     put(book, write_sets::open_at(place), number);
 }
 
 fn note_update(entries: u64, shape: Shape, call: Call, book: &mut [u64]) {
-    let mut value = [0u64; 40];
-    lay_value(call, &mut value);
-    let page = call.page;
-    let address = address_of(shape, page, call.slot);
+    let value = laid_value(call);
+    let address = address_of(shape, call.page, call.slot);
     write_sets::add(
         book,
         entries,
         call.number,
         address,
-        width_of(shape, page),
+        width_of(shape, call.page),
         &value,
     );
 }

@@ -14,25 +14,17 @@ pub fn below(seed: u64, n: u64) -> u64 {
     if n == 0 { 0 } else { (seed >> 20) % n }
 }
 
-// Fills the first n words with what follows the seed, and answers the last seed.
+// Fills the first n words, the last one first, with what follows the seed, and answers the last seed.
 pub fn fill(target: &mut [u64], n: u64, seed: u64) -> u64 {
-    let mut left = n;
     let mut now = seed;
-    while left > 0 {
-        left -= 1;
+    for i in (0..n).rev() {
         now = next(now);
-        put(target, left, now);
+        put(target, i, now);
     }
     now
 }
 
 // A digest of the first n words, on top of another.
 pub fn digest(s: &[u64], n: u64, seed: u64) -> u64 {
-    let mut i = 0;
-    let mut now = seed;
-    while i < n {
-        now = next(now ^ get(s, i));
-        i += 1;
-    }
-    now
+    (0..n).fold(seed, |now, i| next(now ^ get(s, i)))
 }

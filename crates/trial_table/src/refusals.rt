@@ -1,51 +1,50 @@
-// 01's table "Turned away", for a list of calls on devices that nobody else writes: the lowest number that applies, 0 where none does.
+// 01's table "Turned away", for a list of calls on devices that nobody else writes: the lowest number that applies, if one does.
 use crate::calls::{Call, Kind};
 use crate::classes::table_refusal;
 use crate::plain::Plain;
 use crate::shape::{Shape, address_of, slots_of, width_of};
-use crate::wanted::{cause, first_of};
-use crate::words::{get, sum};
+use crate::wanted::Refusal;
+use crate::words::get;
 use crate::{rooms, write_sets};
 
 // `remains` is what remains to be replayed: of the source that a step or a run names, or of any.
-pub fn refusal(shape: Shape, plain: Plain, call: Call, remains: u64, book: &[u64]) -> u64 {
-    let first = first_refusal(plain, call);
-    if first > 0 {
-        return first;
+pub fn refusal(
+    shape: Shape,
+    plain: Plain,
+    call: Call,
+    remains: u64,
+    book: &[u64],
+) -> Option<Refusal> {
+    if let Some(number) = first_refusal(plain, call) {
+        return Some(Refusal::from(number));
     }
-    let kind = call.kind;
-    match kind {
-        Kind::Begin => begin_refusal(shape, call.class, book),
-        Kind::SetClasses => table_refusal(shape.disks, call.seed),
-        Kind::Update => update_refusal(shape, plain.entries, call, book),
-        Kind::Read => read_refusal(shape, plain.entries, call, book),
-        Kind::Commit | Kind::Abort => cause(!write_sets::is_open(book, call.number), 9),
-        _ => items_refusal(shape, plain.copied, call, remains),
+    if call.kind == Kind::SetClasses {
+        return table_refusal(shape.disks, call.seed);
     }
+    later_refusal(shape, plain, call, remains, book).map(Refusal::from)
 }
 
 // 1 stage, 2 anchor, 3 no store, 5 another slice.
-fn first_refusal(plain: Plain, call: Call) -> u64 {
-    let kind = call.kind;
-    let short = missed(kind, call.short);
-    if !allowed(plain.stage, kind) {
-        return 1;
+fn first_refusal(plain: Plain, call: Call) -> Option<u64> {
+    let short = missed(call);
+    if !allowed(plain.stage, call.kind) {
+        return Some(1);
     }
     if short == 1 {
-        return 2;
+        return Some(2);
     }
-    if needs_store(kind) && plain.epoch == 0 {
-        return 3;
+    if call.kind == Kind::RestartBegin && plain.epoch == 0 {
+        return Some(3);
     }
-    cause(short > 0, 5)
+    (short > 0).then_some(5)
 }
 
 // The slice that a call finds short: a table of classes is set with the work memory alone.
-fn missed(kind: Kind, short: u64) -> u64 {
-    if let Kind::SetClasses = kind {
-        cause(short == 5, 5)
+fn missed(call: Call) -> u64 {
+    if call.kind == Kind::SetClasses && call.short != 5 {
+        0
     } else {
-        short
+        call.short
     }
 }
 
@@ -60,88 +59,90 @@ fn allowed(stage: u64, kind: Kind) -> bool {
     }
 }
 
-fn needs_store(kind: Kind) -> bool {
-    if let Kind::RestartBegin = kind {
-        true
-    } else {
-        false
+// 9 not open, and the numbers of each call's own.
+fn later_refusal(
+    shape: Shape,
+    plain: Plain,
+    call: Call,
+    remains: u64,
+    book: &[u64],
+) -> Option<u64> {
+    match call.kind {
+        Kind::Begin => begin_refusal(shape, call.class, book),
+        Kind::Update => update_refusal(shape, plain.entries, call, book),
+        Kind::Read => read_refusal(shape, plain.entries, call, book),
+        Kind::Commit | Kind::Abort => (!write_sets::is_open(book, call.number)).then_some(9),
+        _ => items_refusal(shape, plain.copied, call, remains),
     }
 }
 
 // 12 sixteen open, 14 no room on any disk that serves the class.
-fn begin_refusal(shape: Shape, class: u8, book: &[u64]) -> u64 {
-    let disks = shape.disks;
-    let place = write_sets::place_of(book, 0);
-    let disk = rooms::idlest(book, class as u64, disks, shape.ring);
-    first_of(cause(place >= 16, 12), cause(disk >= disks, 14))
+fn begin_refusal(shape: Shape, class: u8, book: &[u64]) -> Option<u64> {
+    if write_sets::place_of(book, 0).is_none() {
+        return Some(12);
+    }
+    rooms::idlest(book, u64::from(class), shape.disks, shape.ring)
+        .is_none()
+        .then_some(14)
 }
 
 // 8 page or slot too large.
-fn large_cause(shape: Shape, call: Call) -> u64 {
-    let page = call.page;
-    cause(page >= shape.pages || call.slot >= slots_of(shape, page), 8)
+fn is_large(shape: Shape, call: Call) -> bool {
+    call.page >= shape.pages || call.slot >= slots_of(shape, call.page)
 }
 
 // 11 the slot is held by another transaction.
-fn held_cause(shape: Shape, entries: u64, call: Call, book: &[u64]) -> u64 {
+fn is_held(shape: Shape, entries: u64, call: Call, book: &[u64]) -> bool {
     let address = address_of(shape, call.page, call.slot);
-    let newest = write_sets::newest(book, entries, address);
-    if newest == 0 {
-        return 0;
+    match write_sets::newest(book, entries, address) {
+        Some(entry) => get(book, write_sets::entry_at(entry)) != call.number,
+        None => false,
     }
-    let holder = get(book, write_sets::entry_at(newest - 1));
-    cause(holder != call.number, 11)
 }
 
-// 14 no room for an update and its compensation.
-fn room_cause(shape: Shape, call: Call, book: &[u64]) -> u64 {
-    let place = write_sets::place_of(book, call.number);
+// 14 no room for an update and its compensation on the disk of the transaction at a place.
+fn is_crowded(shape: Shape, call: Call, place: u64, book: &[u64]) -> bool {
     let disk = get(book, rooms::disk_at(place));
-    let words = sum(width_of(shape, call.page), 3);
-    cause(!rooms::fits(book, disk, shape.ring, sum(words, words)), 14)
+    let words = width_of(shape, call.page).saturating_add(3);
+    !rooms::fits(book, disk, shape.ring, words.saturating_add(words))
 }
 
 // 8, 9 not open, 10 not the slot's length, 11, 14.
-fn update_refusal(shape: Shape, entries: u64, call: Call, book: &[u64]) -> u64 {
-    let large = large_cause(shape, call);
-    if large > 0 {
-        return large;
+fn update_refusal(shape: Shape, entries: u64, call: Call, book: &[u64]) -> Option<u64> {
+    if is_large(shape, call) {
+        return Some(8);
     }
-    if !write_sets::is_open(book, call.number) {
-        return 9;
-    }
+    let Some(place) = write_sets::open_place(book, call.number) else {
+        return Some(9);
+    };
     if call.length != width_of(shape, call.page) {
-        return 10;
+        return Some(10);
     }
-    first_of(
-        held_cause(shape, entries, call, book),
-        room_cause(shape, call, book),
-    )
+    if is_held(shape, entries, call, book) {
+        return Some(11);
+    }
+    is_crowded(shape, call, place, book).then_some(14)
 }
 
 // 8, 9 (reader 0 excepted), 11.
-fn read_refusal(shape: Shape, entries: u64, call: Call, book: &[u64]) -> u64 {
-    let number = call.number;
-    let large = large_cause(shape, call);
-    if large > 0 {
-        return large;
+fn read_refusal(shape: Shape, entries: u64, call: Call, book: &[u64]) -> Option<u64> {
+    if is_large(shape, call) {
+        return Some(8);
     }
-    if number > 0 && !write_sets::is_open(book, number) {
-        return 9;
+    if call.number > 0 && !write_sets::is_open(book, call.number) {
+        return Some(9);
     }
-    held_cause(shape, entries, call, book)
+    is_held(shape, entries, call, book).then_some(11)
 }
 
 // 8 source too large; 15 a step or a run where no items remain, an end while some do.
-fn items_refusal(shape: Shape, copied: u64, call: Call, remains: u64) -> u64 {
-    let kind = call.kind;
-    match kind {
-        Kind::CheckpointStep => cause(copied >= shape.pages, 15),
-        Kind::CheckpointEnd => cause(copied < shape.pages, 15),
-        Kind::RestartStep | Kind::RestartRun => {
-            first_of(cause(call.number > shape.disks, 8), cause(remains == 0, 15))
-        }
-        Kind::RestartEnd => cause(remains > 0, 15),
-        _ => 0,
+fn items_refusal(shape: Shape, copied: u64, call: Call, remains: u64) -> Option<u64> {
+    match call.kind {
+        Kind::CheckpointStep => (copied >= shape.pages).then_some(15),
+        Kind::CheckpointEnd => (copied < shape.pages).then_some(15),
+        Kind::RestartStep | Kind::RestartRun if call.number > shape.disks => Some(8),
+        Kind::RestartStep | Kind::RestartRun => (remains == 0).then_some(15),
+        Kind::RestartEnd => (remains > 0).then_some(15),
+        _ => None,
     }
 }

@@ -4,7 +4,7 @@
 // A room memory, the first 96 words of a book, has the starts, tails, buffered lengths and remembered ends, 8 words each; then for each
 // of 16 places its disk, the position of its first update record and the words owed; then for each source the steps made of it.
 use crate::classes::serves;
-use crate::words::{add_to, get, less, put, sum};
+use crate::words::{add_to, get, put};
 
 // Where the retained log starts, its tail, its buffered length, and the end that a checkpoint's begin remembered.
 pub fn start_at(disk: u64) -> u64 {
@@ -42,7 +42,7 @@ pub fn steps_at(source: u64) -> u64 {
 
 // The length of a record.
 pub fn record_of(words: u64) -> u64 {
-    if words > 0 { sum(words, 4294967296) } else { 0 }
+    words.saturating_add(4294967296)
 }
 
 fn words_in(length: u64) -> u64 {
@@ -55,18 +55,14 @@ pub fn records_in(length: u64) -> u64 {
 
 // Tail plus buffered length.
 pub fn end_of(rooms: &[u64], disk: u64) -> u64 {
-    sum(get(rooms, tail_at(disk)), get(rooms, fill_at(disk)))
+    get(rooms, tail_at(disk)).saturating_add(get(rooms, fill_at(disk)))
 }
 
 // The words owed to a disk's open transactions.
 fn owed_on(rooms: &[u64], disk: u64) -> u64 {
-    let mut left = 16;
-    let mut owed = 0;
-    while left > 0 {
-        left -= 1;
-        owed = sum(owed, owed_by(rooms, disk, left));
-    }
-    owed
+    (0..16)
+        .map(|place| owed_by(rooms, disk, place))
+        .fold(0, u64::saturating_add)
 }
 
 fn owed_by(rooms: &[u64], disk: u64, place: u64) -> u64 {
@@ -79,35 +75,18 @@ fn owed_by(rooms: &[u64], disk: u64, place: u64) -> u64 {
 
 // Whether a need fits.
 pub fn fits(rooms: &[u64], disk: u64, ring: u64, need: u64) -> bool {
-    let used = less(end_of(rooms, disk), get(rooms, start_at(disk)));
-    sum(sum(words_in(used), owed_on(rooms, disk)), need) <= ring
+    let used = end_of(rooms, disk).saturating_sub(get(rooms, start_at(disk)));
+    words_in(used)
+        .saturating_add(owed_on(rooms, disk))
+        .saturating_add(need)
+        <= ring
 }
 
-// The disk with the fewest started blocks among those that serve a class and have room for a begin; the number of disks where there is
-// none.
-pub fn idlest(book: &[u64], class: u64, disks: u64, ring: u64) -> u64 {
-    let mut left = disks;
-    let mut best = disks;
-    while left > 0 {
-        left -= 1;
-        if serves(book, class, left) {
-            best = idler(book, disks, ring, best, left);
-        }
-    }
-    best
-}
-
-fn idler(rooms: &[u64], disks: u64, ring: u64, best: u64, disk: u64) -> u64 {
-    if !fits(rooms, disk, ring, 2) {
-        return best;
-    }
-    if best == disks {
-        return disk;
-    }
-    if blocks(rooms, disk) <= blocks(rooms, best) {
-        return disk;
-    }
-    best
+// The disk with the fewest started blocks among those that serve a class and have room for a begin; the lowest one of several.
+pub fn idlest(book: &[u64], class: u64, disks: u64, ring: u64) -> Option<u64> {
+    (0..disks)
+        .filter(|&disk| serves(book, class, disk) && fits(book, disk, ring, 2))
+        .min_by_key(|&disk| blocks(book, disk))
 }
 
 pub fn buffered(rooms: &[u64], disk: u64) -> u64 {
@@ -116,7 +95,7 @@ pub fn buffered(rooms: &[u64], disk: u64) -> u64 {
 
 // The blocks of 16 words that the buffered words start.
 fn blocks(rooms: &[u64], disk: u64) -> u64 {
-    sum(buffered(rooms, disk), 15) / 16
+    buffered(rooms, disk).saturating_add(15) / 16
 }
 
 // A begun transaction is owed its closing record.
@@ -139,7 +118,7 @@ fn first_of(rooms: &[u64], place: u64, words: u64) -> u64 {
         return get(rooms, first_at(place));
     }
     let disk = get(rooms, disk_at(place));
-    less(end_of(rooms, disk), record_of(words))
+    end_of(rooms, disk).saturating_sub(record_of(words))
 }
 
 // A closed transaction is owed nothing.

@@ -1,38 +1,27 @@
 // Reading a number, and writing counts.
-use crate::words::{less, sum, times};
+use crate::words::times;
 
 // The number that standard input begins with; `otherwise` where it begins with none.
 pub fn read_number(otherwise: u64) -> u64 {
     let mut text = [0u8; 20];
     let n = io::read_full(0, &mut text);
-    number_in(&text[..n], otherwise)
+    number_in(&text[..n]).unwrap_or(otherwise)
 }
 
-fn number_in(text: &[u8], otherwise: u64) -> u64 {
-    let mut i = 0;
-    let mut number = 0;
-    while i < text.len() {
-        let b = text[i];
-        if b < 48 || b > 57 {
-            return chosen(i, number, otherwise);
+fn number_in(text: &[u8]) -> Option<u64> {
+    let mut number = None;
+    for b in text {
+        if !b.is_ascii_digit() {
+            break;
         }
-        number = with_digit(number, b);
-        i += 1;
+        number = Some(with_digit(number.unwrap_or(0), *b));
     }
-    chosen(i, number, otherwise)
-}
-
-fn chosen(digits: usize, number: u64, otherwise: u64) -> u64 {
-    if digits > 0 { number } else { otherwise }
-}
-
-fn wide(b: u8) -> u64 {
-    b as u64
+    number
 }
 
 // A number with one more digit, as long as it is small.
-fn with_digit(number: u64, b: u8) -> u64 {
-    sum(times(number, 10), less(wide(b), 48))
+fn with_digit(number: u64, digit: u8) -> u64 {
+    times(number, 10).saturating_add(u64::from(digit.saturating_sub(b'0')))
 }
 
 // Writes a number, and a text after it.

@@ -1,53 +1,66 @@
 // What the plain table expects of a call, and whether an answer is that.
 use crate::answers::{number_of, second_of, stores_of, value_of};
-use crate::budget::Budget;
-use crate::words::less;
+use crate::logs::Budget;
 use model::Answer;
 
-// The number, the value, and the budget that is left.
+// A refusal: 01's number, and the first value that comes with it.
+#[derive(Clone, Copy)]
+pub struct Refusal {
+    pub number: u64,
+    pub value: u64,
+}
+
+impl From<u64> for Refusal {
+    // A number with no value.
+    fn from(number: u64) -> Refusal {
+        Refusal { number, value: 0 }
+    }
+}
+
+// The answer, and the budget that is left.
 #[derive(Clone, Copy)]
 pub struct Wanted {
-    pub number: u64,
-    value: u64,
+    pub answer: Answer,
     left: u64,
 }
 
-pub fn refused(number: u64, value: u64, budget: u64) -> Wanted {
+pub fn refused(refusal: Refusal, budget: u64) -> Wanted {
     Wanted {
-        number,
-        value,
+        answer: Answer::Refused {
+            number: refusal.number,
+            first: refusal.value,
+            second: 0,
+        },
         left: budget,
     }
 }
 
-// Taken or cut, by what is left of the budget.
-pub fn charged(budget: Budget, value: u64) -> Wanted {
-    let left = budget.left;
-    if budget.cut {
-        return refused(16, 0, 0);
+// Taken or cut, by what is left of a budget.
+pub fn charged(budget: u64, after: Budget, value: u64) -> Wanted {
+    match after {
+        Some(left) => Wanted {
+            answer: Answer::Finished {
+                stores: budget.saturating_sub(left),
+                value,
+            },
+            left,
+        },
+        None => Wanted {
+            answer: Answer::Interrupted { stores: budget },
+            left: 0,
+        },
     }
-    Wanted {
-        number: 0,
-        value,
-        left,
-    }
 }
 
-// Whether an answer, and the budget after the call, are as expected: number, value, stores made.
-pub fn is_wanted(answer: Answer, before: u64, after: u64, wanted: Wanted) -> bool {
-    number_of(answer) == wanted.number
-        && value_of(answer) == wanted.value
-        && second_of(answer) == 0
-        && stores_of(answer) == less(before, wanted.left)
-        && after == wanted.left
+// Whether an answer, and the budget after the call, are as expected.
+pub fn is_wanted(answer: Answer, after: u64, wanted: Wanted) -> bool {
+    is_same(answer, wanted.answer) && after == wanted.left
 }
 
-// A number where the test holds, else 0.
-pub fn cause(holds: bool, number: u64) -> u64 {
-    if holds { number } else { 0 }
-}
-
-// The first of two numbers that is not 0.
-pub fn first_of(a: u64, b: u64) -> u64 {
-    if a > 0 { a } else { b }
+// Whether two answers have the same number, values and stores.
+fn is_same(a: Answer, b: Answer) -> bool {
+    number_of(a) == number_of(b)
+        && value_of(a) == value_of(b)
+        && second_of(a) == second_of(b)
+        && stores_of(a) == stores_of(b)
 }

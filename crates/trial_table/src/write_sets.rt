@@ -3,7 +3,7 @@
 // read, a length and 39 words; the results, 8,192 words; the sets of disks of the 256 classes (`classes`); then entries of 36 words in
 // the order made: transaction (0: gone), the slot's address, its width, its value.
 use crate::words::{
-    differing, find, get, move_words, put, put_words, sum, tail, tail_mut, tally, times, wipe,
+    find, front, get, move_words, put, put_words, same, tail, tail_mut, times, wipe,
 };
 
 pub fn open_at(place: u64) -> u64 {
@@ -15,15 +15,15 @@ pub fn seen_at(i: u64) -> u64 {
 }
 
 pub fn result_at(address: u64) -> u64 {
-    sum(152, address)
+    address.saturating_add(152)
 }
 
 pub fn entry_at(entry: u64) -> u64 {
-    sum(8600, times(entry, 36))
+    times(entry, 36).saturating_add(8600)
 }
 
 pub fn value_at(entry: u64) -> u64 {
-    sum(entry_at(entry), 3)
+    entry_at(entry).saturating_add(3)
 }
 
 // The results, and what stands behind them.
@@ -31,67 +31,66 @@ pub fn results_of(book: &[u64]) -> &[u64] {
     tail(book, result_at(0))
 }
 
-// The place of a transaction among those open, the first free one for 0; 16 where there is none.
-pub fn place_of(book: &[u64], number: u64) -> u64 {
+// The place of a transaction among those open, the first free one for 0.
+pub fn place_of(book: &[u64], number: u64) -> Option<u64> {
     find(tail(book, open_at(0)), 16, number)
+}
+
+// The place of an open transaction.
+pub fn open_place(book: &[u64], number: u64) -> Option<u64> {
+    if number > 0 {
+        place_of(book, number)
+    } else {
+        None
+    }
 }
 
 // Whether a transaction is open.
 pub fn is_open(book: &[u64], number: u64) -> bool {
-    number > 0 && place_of(book, number) < 16
+    open_place(book, number).is_some()
 }
 
-// The newest entry of an address, and 1; 0 where there is none.
-pub fn newest(book: &[u64], entries: u64, address: u64) -> u64 {
-    let mut left = entries;
-    while left > 0 {
-        let above = left;
-        left -= 1;
-        if is_of(book, left, address) {
-            return above;
-        }
-    }
-    0
+// The newest entry of an address.
+pub fn newest(book: &[u64], entries: u64, address: u64) -> Option<u64> {
+    (0..entries)
+        .rev()
+        .find(|&entry| is_of(book, entry, address))
 }
 
 // Where an address's value stands, with the first `entries` entries laid over the results.
 pub fn current_at(book: &[u64], entries: u64, address: u64) -> u64 {
-    let above = newest(book, entries, address);
-    if above > 0 {
-        return value_at(above - 1);
+    match newest(book, entries, address) {
+        Some(entry) => value_at(entry),
+        None => result_at(address),
     }
-    result_at(address)
 }
 
 // Whether an entry stands and is of the address.
 fn is_of(book: &[u64], entry: u64, address: u64) -> bool {
     let at = entry_at(entry);
-    get(book, at) > 0 && get(book, sum(at, 1)) == address
+    get(book, at) > 0 && get(book, at.saturating_add(1)) == address
 }
 
 // Adds an entry; its value is the first `width` words of the one lent.
 pub fn add(book: &mut [u64], entry: u64, number: u64, address: u64, width: u64, value: &[u64]) {
-    let head = [number, address, width];
-    put_words(book, entry_at(entry), &head, 3);
+    put_words(book, entry_at(entry), &[number, address, width]);
     if width < 33 {
-        put_words(book, value_at(entry), value, width);
+        put_words(book, value_at(entry), front(value, width));
     }
 }
 
 // Sets an entry's value in the results.
 fn set_entry(book: &mut [u64], entry: u64) {
     let at = entry_at(entry);
-    let address = get(book, sum(at, 1));
-    let width = get(book, sum(at, 2));
+    let address = get(book, at.saturating_add(1));
+    let width = get(book, at.saturating_add(2));
     move_words(book, value_at(entry), result_at(address), width);
 }
 
 // Closes a transaction: its entries go, first to last; a committed one's are set in the results.
 pub fn close(book: &mut [u64], entries: u64, number: u64, commits: bool) {
-    let mut i = 0;
-    while i < entries {
-        close_entry(book, i, number, commits);
-        i += 1;
+    for entry in 0..entries {
+        close_entry(book, entry, number, commits);
     }
     leave(book, number);
 }
@@ -110,8 +109,7 @@ fn close_entry(book: &mut [u64], entry: u64, number: u64, commits: bool) {
 
 // Takes a transaction's number off the list of those open.
 fn leave(book: &mut [u64], number: u64) {
-    let place = place_of(book, number);
-    if place < 16 {
+    if let Some(place) = place_of(book, number) {
         put(book, open_at(place), 0);
     }
 }
@@ -126,12 +124,11 @@ pub fn note_seen(book: &mut [u64], words: &[u64]) {
     let length = words.len() as u64;
     put(book, seen_at(0), length);
     if length < 40 {
-        put_words(book, seen_at(1), words, length);
+        put_words(book, seen_at(1), words);
     }
 }
 
-// In how many of its words what was read differs from `width` words at a place of the book, and 1 where the lengths differ.
-pub fn seen_differs(book: &[u64], at: u64, width: u64) -> u64 {
-    let count = differing(tail(book, at), tail(book, seen_at(1)), width);
-    tally(count, get(book, seen_at(0)) != width)
+// Whether what was read is `width` words at a place of the book.
+pub fn seen_is(book: &[u64], at: u64, width: u64) -> bool {
+    get(book, seen_at(0)) == width && same(tail(book, at), tail(book, seen_at(1)), width)
 }

@@ -1,8 +1,0 @@
--- `lines_faults` is safe and ends.
-use Rattle.listing_trial.proofs.comparing.lines_faults.Given as goal
-
-abbrev pub invariant-loop-left : goal.invariant-loop-left
-invariant-loop-left l = Unit {0}
-
-abbrev pub decreases-loop-left : goal.decreases-loop-left
-decreases-loop-left l = l.left

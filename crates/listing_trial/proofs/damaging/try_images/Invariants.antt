@@ -1,8 +1,0 @@
--- `try_images` is safe and ends.
-use Rattle.listing_trial.proofs.damaging.try_images.Given as goal
-
-abbrev pub invariant-loop-left : goal.invariant-loop-left
-invariant-loop-left l = Unit {0}
-
-abbrev pub decreases-loop-left : goal.decreases-loop-left
-decreases-loop-left l = l.left

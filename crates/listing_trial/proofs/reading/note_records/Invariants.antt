@@ -1,8 +1,0 @@
--- `note_records` is safe and ends.
-use Rattle.listing_trial.proofs.reading.note_records.Given as goal
-
-abbrev pub invariant-loop-left : goal.invariant-loop-left
-invariant-loop-left l = Unit {0}
-
-abbrev pub decreases-loop-left : goal.decreases-loop-left
-decreases-loop-left l = l.left

@@ -1,8 +1,0 @@
--- `page_words` is safe and ends.
-use Rattle.listing_trial.proofs.reading.page_words.Given as goal
-
-abbrev pub invariant-loop-left : goal.invariant-loop-left
-invariant-loop-left l = Unit {0}
-
-abbrev pub decreases-loop-left : goal.decreases-loop-left
-decreases-loop-left l = l.left

@@ -1,8 +1,0 @@
--- `run` is safe and ends.
-use Rattle.listing_trial.proofs.running.run.Given as goal
-
-abbrev pub invariant-loop-left : goal.invariant-loop-left
-invariant-loop-left l = Unit {0}
-
-abbrev pub decreases-loop-left : goal.decreases-loop-left
-decreases-loop-left l = l.left

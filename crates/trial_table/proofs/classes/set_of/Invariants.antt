@@ -1,8 +1,0 @@
--- `set_of` is safe and ends.
-use Rattle.trial_table.proofs.classes.set_of.Given as goal
-
-abbrev pub invariant-loop-left : goal.invariant-loop-left
-invariant-loop-left l = Unit {0}
-
-abbrev pub decreases-loop-left : goal.decreases-loop-left
-decreases-loop-left l = l.left

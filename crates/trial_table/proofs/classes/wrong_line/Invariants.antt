@@ -1,9 +1,0 @@
--- `wrong_line` is safe and ends.
-use Prim.Native.Nat.{◌-◌}
-use Rattle.trial_table.proofs.classes.wrong_line.Given as goal
-
-abbrev pub invariant-loop-line : goal.invariant-loop-line
-invariant-loop-line l = Unit {0}
-
-abbrev pub decreases-loop-line : goal.decreases-loop-line
-decreases-loop-line l = l.count - l.line

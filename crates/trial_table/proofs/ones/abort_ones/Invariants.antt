@@ -1,8 +1,0 @@
--- `abort_ones` is safe and ends.
-use Rattle.trial_table.proofs.ones.abort_ones.Given as goal
-
-abbrev pub invariant-loop-left : goal.invariant-loop-left
-invariant-loop-left l = Unit {0}
-
-abbrev pub decreases-loop-left : goal.decreases-loop-left
-decreases-loop-left l = l.left

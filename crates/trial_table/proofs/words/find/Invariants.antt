@@ -1,9 +1,0 @@
--- `find` is safe and ends.
-use Prim.Native.Nat.{◌-◌}
-use Rattle.trial_table.proofs.words.find.Given as goal
-
-abbrev pub invariant-loop-i : goal.invariant-loop-i
-invariant-loop-i l = Unit {0}
-
-abbrev pub decreases-loop-i : goal.decreases-loop-i
-decreases-loop-i l = l.n - l.i
