@@ -5,15 +5,11 @@ use model::Answer;
 pub fn value_of(answer: Answer) -> u64 {
     match answer {
         Answer::Finished { value, .. } => value,
-        Answer::Refused { .. } => 0,
-        Answer::Interrupted { .. } => 0,
+        _ => 0,
     }
 }
 
+// Refused, or cut.
 pub fn is_refused(answer: Answer) -> bool {
-    match answer {
-        Answer::Finished { .. } => false,
-        Answer::Refused { .. } => true,
-        Answer::Interrupted { .. } => true,
-    }
+    !matches!(answer, Answer::Finished { .. })
 }

@@ -14,9 +14,7 @@ fn copied(
     budget: &mut u64,
 ) -> State {
     let mut s = state;
-    let mut i: u64 = 0;
-    while i < count {
-        i += 1;
+    for _ in 0..count {
         let done = checkpoint_step(s, anchor, pages, backups, logs, work, budget);
         s = done.state;
     }

@@ -1,6 +1,5 @@
 // What is counted on the devices, and how it is printed.
 use crate::stream::SEED;
-use std::num::wrapping_add_u64;
 use trial_table::random;
 use trial_table::words::get;
 
@@ -13,11 +12,9 @@ pub fn digest(words: &[u64]) -> u64 {
 pub fn log_words(logs: &[u64], disks: u64, ring: u64) -> u64 {
     let mut sum: u64 = 0;
     let mut at: u64 = 0;
-    let mut d: u64 = 0;
-    while d < disks {
-        sum = wrapping_add_u64(sum, get(logs, at));
-        at = wrapping_add_u64(at, wrapping_add_u64(ring, 1));
-        d += 1;
+    for _ in 0..disks {
+        sum = sum.wrapping_add(get(logs, at));
+        at = at.wrapping_add(ring.wrapping_add(1));
     }
     sum
 }

@@ -1,7 +1,6 @@
 // The restarts after a power failure.
 use crate::answers::{is_refused, value_of};
 use crate::input::Plan;
-use std::num::wrapping_add_u64;
 use store::State;
 use store::restarts::{restart_begin, restart_end, restart_run, restart_step};
 
@@ -14,7 +13,7 @@ struct Progress {
 
 // The most items that a source can have: no more than a ring has words and the store has pages.
 fn most_items(plan: Plan) -> u64 {
-    wrapping_add_u64(plan.ring, plan.pages)
+    plan.ring.wrapping_add(plan.pages)
 }
 
 // A source by single steps, up to the one that is refused.
@@ -30,19 +29,17 @@ fn source_stepped(
 ) -> Progress {
     let most = most_items(plan);
     let mut s = state;
-    let mut records: u64 = 0;
-    let mut i: u64 = 0;
-    while i < most {
+    for records in 0..most {
         let done = restart_step(s, source, anchor, pages, backups, logs, work);
-        let answer = done.answer;
         s = done.state;
-        i += 1;
-        if is_refused(answer) {
+        if is_refused(done.answer) {
             return Progress { state: s, records };
         }
-        records = i;
     }
-    Progress { state: s, records }
+    Progress {
+        state: s,
+        records: most,
+    }
 }
 
 // A source by one run, or by single steps.
@@ -61,11 +58,9 @@ fn source_replayed(
     }
     let most = most_items(plan);
     let done = restart_run(state, source, most, anchor, pages, backups, logs, work);
-    let s = done.state;
-    let answer = done.answer;
     Progress {
-        state: s,
-        records: value_of(answer),
+        state: done.state,
+        records: value_of(done.answer),
     }
 }
 
@@ -81,17 +76,14 @@ fn all_replayed(
 ) -> Progress {
     let mut s = state;
     let mut records: u64 = 0;
-    let mut d: u64 = 0;
-    while d < plan.disks {
-        let one = source_replayed(plan, s, d, anchor, pages, backups, logs, work);
+    for disk in 0..plan.disks {
+        let one = source_replayed(plan, s, disk, anchor, pages, backups, logs, work);
         s = one.state;
-        records = wrapping_add_u64(records, one.records);
-        d += 1;
+        records = records.wrapping_add(one.records);
     }
-    let last = source_replayed(plan, s, d, anchor, pages, backups, logs, work);
-    let reached = last.state;
+    let last = source_replayed(plan, s, plan.disks, anchor, pages, backups, logs, work);
     Progress {
-        state: reached,
+        state: last.state,
         records,
     }
 }
@@ -118,10 +110,8 @@ fn repeated(
     logs: &[u64],
     work: &mut [u64],
 ) {
-    let mut i: u64 = 1;
-    while i < plan.restarts {
+    for _ in 1..plan.restarts {
         replayed(plan, anchor, pages, backups, logs, work);
-        i += 1;
     }
 }
 
@@ -135,7 +125,7 @@ fn finished(
     work: &mut [u64],
 ) -> u64 {
     let last = replayed(plan, anchor, pages, backups, logs, work);
-    let mut budget: u64 = 18446744073709551615;
+    let mut budget = u64::MAX;
     restart_end(last.state, anchor, pages, backups, logs, work, &mut budget);
     last.records
 }

@@ -3,7 +3,7 @@ use crate::answers::{is_refused, value_of};
 use crate::copying::checkpointed;
 use crate::input::Plan;
 use crate::stream::{SEED, next, pick, product, spread};
-use std::num::{wrapping_add_u64, wrapping_sub_u64};
+use model::Answer;
 use store::State;
 use store::transactions::{abort, begin, commit, update};
 use trial_table::words::get;
@@ -27,22 +27,16 @@ fn opened(
     budget: &mut u64,
 ) -> Transaction {
     let mut state = from;
-    let mut number: u64 = 0;
-    let mut tries: u64 = 0;
-    while tries < 2 {
-        tries += 1;
+    for _ in 0..2 {
         let called = begin(state, 0, anchor, pages, backups, logs, work);
         state = called.state;
-        let answer = called.answer;
-        if is_refused(answer) {
-            let copied = checkpointed(state, count, anchor, pages, backups, logs, work, budget);
-            state = copied.state;
-        } else {
-            number = value_of(answer);
-            tries = 2;
+        if let Answer::Finished { value: number, .. } = called.answer {
+            return Transaction { state, number };
         }
+        let copied = checkpointed(state, count, anchor, pages, backups, logs, work, budget);
+        state = copied.state;
     }
-    Transaction { state, number }
+    Transaction { state, number: 0 }
 }
 
 // The close: an abort for one transaction in fifty, which answers how many bits it changed back.
@@ -60,8 +54,7 @@ fn closed(
 ) -> State {
     if aborts {
         let undone = abort(state, number, anchor, pages, backups, logs, work, budget);
-        let answer = undone.answer;
-        *ones = wrapping_add_u64(*ones, value_of(answer));
+        *ones = ones.wrapping_add(value_of(undone.answer));
         return undone.state;
     }
     let done = commit(state, number, anchor, pages, backups, logs, work, budget);
@@ -87,9 +80,10 @@ fn all_updated(
     let mut state = from;
     let mut r = next(seed);
     let mut made: u64 = 0;
-    let mut tries: u64 = 0;
-    while tries < 6 && made < 3 {
-        tries += 1;
+    for _ in 0..6 {
+        if made == 3 {
+            return state;
+        }
         spread(value, r);
         let called = update(
             state,
@@ -105,8 +99,7 @@ fn all_updated(
             budget,
         );
         state = called.state;
-        let answer = called.answer;
-        if is_refused(answer) {
+        if is_refused(called.answer) {
             let copied = checkpointed(
                 state, plan.pages, anchor, pages, backups, logs, work, budget,
             );
@@ -114,7 +107,7 @@ fn all_updated(
         } else {
             made += 1;
             r = next(r);
-            *ones = wrapping_add_u64(*ones, value_of(answer));
+            *ones = ones.wrapping_add(value_of(called.answer));
         }
     }
     state
@@ -130,10 +123,6 @@ pub struct Tally {
     pub ones: u64,
 }
 
-fn one_if(yes: bool) -> u64 {
-    if yes { 1 } else { 0 }
-}
-
 // All transactions of the stream. Each takes five of its numbers: one for its close, three for its updates, one for none. A checkpoint
 // raises c by one, from 1 after the format.
 pub fn served(
@@ -146,14 +135,12 @@ pub fn served(
     logs: &mut [u64],
     work: &mut [u64],
 ) -> Tally {
-    let mut budget: u64 = 18446744073709551615;
+    let mut budget = u64::MAX;
     let mut state = begun;
     let mut r = SEED;
     let mut aborts: u64 = 0;
     let mut ones: u64 = 0;
-    let mut i: u64 = 0;
-    while i < plan.transactions {
-        i += 1;
+    for _ in 0..plan.transactions {
         r = next(r);
         let aborting = r % 50 == 0;
         let called = opened(
@@ -194,13 +181,13 @@ pub fn served(
             &mut budget,
             &mut ones,
         );
-        aborts = wrapping_add_u64(aborts, one_if(aborting));
+        aborts = aborts.wrapping_add(u64::from(aborting));
     }
     Tally {
         taken: product(plan.transactions, 5),
         aborts,
-        checkpoints: wrapping_sub_u64(get(anchor, 3), 1),
-        stores: wrapping_sub_u64(18446744073709551615, budget),
+        checkpoints: get(anchor, 3).wrapping_sub(1),
+        stores: u64::MAX.wrapping_sub(budget),
         ones,
     }
 }

@@ -21,9 +21,7 @@ pub fn pick(r: u64, n: u64) -> u64 {
 
 // A slot's new value: word k is r XOR k.
 pub fn spread(value: &mut [u64], r: u64) {
-    let mut k = 0;
-    while k < value.len() {
-        value[k] = r ^ k as u64;
-        k += 1;
+    for (k, word) in value.iter_mut().enumerate() {
+        *word = r ^ k as u64;
     }
 }

@@ -1,11 +1,11 @@
 // The log is filled.
 use crate::sizes::{Anchor, Backups, Logs, Pages, Work};
-use crate::turns::{ABORTED, Plan, Turn, calls, first_turn, turn_after};
+use crate::turns::{Closing, Plan, Turn, calls, first_turn, turn_after};
 use store::formats::format;
 use store::transactions::{abort, begin, commit, update};
 use store::{Called, State};
 use trial_table::answers::number_of;
-use trial_table::words::{more, sum, tally};
+use trial_table::words::tally;
 
 fn formatted(
     anchor: &mut Anchor,
@@ -43,10 +43,10 @@ fn updated(
     work: &mut Work,
     budget: &mut u64,
 ) -> Called {
-    let value = [more(turn.call)];
+    let value = [turn.call.saturating_add(1)];
     update(
         state,
-        sum(turn.first, turn.member),
+        turn.first.saturating_add(turn.member),
         turn.call % 64,
         turn.call / 64 % 128,
         &value,
@@ -76,11 +76,12 @@ fn made(
     if turn.lap <= plan.length {
         return updated(turn, state, anchor, pages, backups, logs, work, budget);
     }
-    let number = sum(turn.first, turn.member);
-    if plan.closing == ABORTED {
-        return abort(state, number, anchor, pages, backups, logs, work, budget);
+    let number = turn.first.saturating_add(turn.member);
+    if plan.closing == Closing::Aborted {
+        abort(state, number, anchor, pages, backups, logs, work, budget)
+    } else {
+        commit(state, number, anchor, pages, backups, logs, work, budget)
     }
-    commit(state, number, anchor, pages, backups, logs, work, budget)
 }
 
 // The state after all calls, the number of the next transaction, and how many calls were refused.
@@ -104,9 +105,7 @@ fn entered(
     let mut state = begun;
     let mut turn = first_turn();
     let mut refused = 0;
-    let mut left = calls(plan);
-    while 0 < left {
-        left -= 1;
+    for _ in 0..calls(plan) {
         let called = made(
             plan,
             turn,
@@ -119,14 +118,12 @@ fn entered(
             &mut budget,
         );
         state = called.state;
-        let answer = called.answer;
-        refused = tally(refused, number_of(answer) > 0);
+        refused = tally(refused, number_of(called.answer) > 0);
         turn = turn_after(plan, turn);
     }
-    let next = turn.first;
     Reached {
         state,
-        next,
+        next: turn.first,
         refused,
     }
 }

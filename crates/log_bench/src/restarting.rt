@@ -22,11 +22,9 @@ fn source_replayed(
     work: &mut Work,
 ) -> Progress {
     let done = restart_run(begun, source, 65536, anchor, pages, backups, logs, work);
-    let state = done.state;
-    let answer = done.answer;
     Progress {
-        state,
-        items: value_of(answer),
+        state: done.state,
+        items: value_of(done.answer),
     }
 }
 
@@ -56,9 +54,7 @@ fn repeated(
         state: store::new_state(),
         items: 0,
     };
-    let mut left = restarts;
-    while 0 < left {
-        left -= 1;
+    for _ in 0..restarts {
         last = replayed(anchor, pages, backups, logs, work);
     }
     last

@@ -1,6 +1,6 @@
 // What is done, and which call comes next.
 use trial_table::text::read_number;
-use trial_table::words::{more, sum, times};
+use trial_table::words::times;
 
 // In a round `together` transactions begin, make `length` updates each, by turns, and are closed. One long transaction is a round,
 // sixteen interleaved ones are a round, short ones are a round each. Those that are left open have one round, and are at most sixteen.
@@ -9,14 +9,26 @@ pub struct Plan {
     together: u64,
     pub length: u64,
     rounds: u64,
-    pub closing: u64,
+    pub closing: Closing,
     pub restarts: u64,
 }
 
-// What `closing` may be; any other number commits.
-pub const ABORTED: u64 = 1;
+// What becomes of a transaction at its round's end.
+#[derive(Clone, Copy, PartialEq)]
+pub enum Closing {
+    Committed,
+    Aborted,
+    LeftOpen,
+}
 
-const LEFT_OPEN: u64 = 2;
+// 1 aborts, 2 leaves open, any other number commits.
+fn closing_of(number: u64) -> Closing {
+    match number {
+        1 => Closing::Aborted,
+        2 => Closing::LeftOpen,
+        _ => Closing::Committed,
+    }
+}
 
 // Five lines of 20 bytes: a number with zeros in front, and the line's end.
 pub fn read_plan() -> Plan {
@@ -24,17 +36,17 @@ pub fn read_plan() -> Plan {
         together: read_number(1),
         length: read_number(1),
         rounds: read_number(1),
-        closing: read_number(0),
+        closing: closing_of(read_number(0)),
         restarts: read_number(0),
     }
 }
 
 // A lap is a call for each transaction of the round: their begins, an update of each as often as a transaction is long, their closes.
 fn laps(plan: Plan) -> u64 {
-    if plan.closing == LEFT_OPEN {
-        return more(plan.length);
+    if plan.closing == Closing::LeftOpen {
+        return plan.length.saturating_add(1);
     }
-    more(more(plan.length))
+    plan.length.saturating_add(2)
 }
 
 // All calls.
@@ -62,8 +74,8 @@ pub fn first_turn() -> Turn {
 }
 
 pub fn turn_after(plan: Plan, turn: Turn) -> Turn {
-    let call = more(turn.call);
-    let member = more(turn.member);
+    let call = turn.call.saturating_add(1);
+    let member = turn.member.saturating_add(1);
     if member < plan.together {
         return Turn {
             call,
@@ -71,7 +83,7 @@ pub fn turn_after(plan: Plan, turn: Turn) -> Turn {
             ..turn
         };
     }
-    let lap = more(turn.lap);
+    let lap = turn.lap.saturating_add(1);
     if lap < laps(plan) {
         return Turn {
             call,
@@ -83,7 +95,7 @@ pub fn turn_after(plan: Plan, turn: Turn) -> Turn {
     Turn {
         call,
         lap: 0,
-        first: sum(turn.first, plan.together),
+        first: turn.first.saturating_add(plan.together),
         member: 0,
     }
 }

@@ -1,10 +1,7 @@
 -- `bench::serve::served` is safe and ends. Assumes nothing.
-use Rattle.std.proofs.Common.{◌≡◌, ◌-◌, ◌≤◌, length}
+use Rattle.std.proofs.Common.{◌≡◌, length}
 use Rattle.bench.proofs.serve.served.Given as goal
 
-abbrev pub invariant-loop-i : goal.invariant-loop-i
-invariant-loop-i l = (l.i ≤ l.plan.transactions) × (length l.value ≡ length l.initial.value) × (length l.anchor ≡ length l.initial.anchor) × (length l.pages ≡ length l.initial.pages)
+abbrev pub invariant-loop : goal.invariant-loop
+invariant-loop l = (length l.value ≡ length l.initial.value) × (length l.anchor ≡ length l.initial.anchor) × (length l.pages ≡ length l.initial.pages)
     × (length l.backups ≡ length l.initial.backups) × (length l.logs ≡ length l.initial.logs) × (length l.work ≡ length l.initial.work)
-
-abbrev pub decreases-loop-i : goal.decreases-loop-i
-decreases-loop-i l = l.plan.transactions - l.i

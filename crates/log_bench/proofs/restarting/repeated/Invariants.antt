@@ -1,8 +1,0 @@
--- `log_bench::restarting::repeated` is safe and ends: the restarts that are left fall. Assumes nothing.
-use Rattle.log_bench.proofs.restarting.repeated.Given as goal
-
-abbrev pub invariant-loop-left : goal.invariant-loop-left
-invariant-loop-left l = Unit {0}
-
-abbrev pub decreases-loop-left : goal.decreases-loop-left
-decreases-loop-left l = l.left
