@@ -143,11 +143,13 @@ pub fn plan_update(
 {
     let disks = carried.disks;
     let ring = carried.ring;
+    let starts = carried.starts;
+    let tails = carried.tails;
     check_lent(carried, anchor, pages, backups, logs, work)?;
     let asked = find_slot(work, carried.pages, carried.total, page, slot);
-    let opened = find_entry(work, disks, &carried.tails, number);
+    let opened = find_entry(work, disks, &tails, number);
     let (found, entry) = both(asked, opened, anchor.len(), width)?;
-    let start = carried.starts[entry.disk as usize];
+    let start = starts[entry.disk as usize];
     check_late(found, entry, work, disks, ring, start, number)?;
     Ok(make_plan(found, entry, work, disks, page))
 }

@@ -44,8 +44,8 @@ returns-in_err-found c =
     update_early x.carried.now w x.number x.page x.slot value first (c.find_slot-asked.ensures x.carried.now mine refl refl)
     (c.find_entry-opened.ensures x.carried.now mine refl refl) long c.both.ensures refusal c.in_err-found.was))
 
-pub offset_bounds-carried-entry : goal.offset_bounds-carried-entry
-offset_bounds-carried-entry c =
+pub offset_bounds-starts-entry : goal.offset_bounds-starts-entry
+offset_bounds-starts-entry c =
     let x = c.args in
     let w = world_of x.anchor.now x.pages.now x.backups.now x.logs.now x.work.now in
     let first = c.in_ok-check_lent.ensures in
@@ -54,8 +54,8 @@ offset_bounds-carried-entry c =
     let low = disk_low x.carried.now w mine (ready x.carried.now w first) ((c.find_entry-opened.ensures x.carried.now mine refl refl).ready _ both.1) in
     search (rules, low)
 
-pub bounds-carried-entry : goal.bounds-carried-entry
-bounds-carried-entry c =
+pub bounds-starts-entry : goal.bounds-starts-entry
+bounds-starts-entry c =
     let x = c.args in
     let w = world_of x.anchor.now x.pages.now x.backups.now x.logs.now x.work.now in
     let first = c.in_ok-check_lent.ensures in
