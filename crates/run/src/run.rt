@@ -96,7 +96,9 @@ fn run_log(core: Core, disk: u64, most: u64, pages: &mut [u64], logs: &[u64]) ->
     let place = disk_at(sizes.ring, disk);
     let ring = ring_words(logs, place, sizes.ring);
     let mut fates = Fates::new();
-    let fault = record_fault(&mut fates, &slots, &widths, ring, disk, tail, position);
+    let fault = record_fault(
+        &mut fates, &slots, &widths, ring, disk, tail, position, most,
+    );
     match fault {
         Some(bad) => refuse_at(core, Refusal::Malformed, bad.disk, bad.position),
         None => {

@@ -19,17 +19,17 @@ decode_ring-requires c =
     let long = entries_long pre.1 in
     (long.0, long.1, pre.2, record { before_tail = pre.3; at_is = refl })
 
-pub search_ahead-fate-requires : goal.search_ahead-fate-requires
-search_ahead-fate-requires c = let pre = c.requires in (omega (arith, pre.0), pre.1, pre.2)
+pub first_fate-fate-requires : goal.first_fate-fate-requires
+first_fate-fate-requires c = let pre = c.requires in (pre.0, pre.1, pre.2)
 
 pub returns-in-Closed : goal.returns-in-Closed
 returns-in-Closed c =
     let a = c.args in
     λ s e.
     let dec = c.decode_ring.ensures s e in
-    let told = c.search_ahead-fate.ensures s e (λ i l x. absurd (omega (arith, l, c.requires.0))) (remembers_begun c.requires.0 _) in (
+    let told = c.first_fate-fate.ensures s e in (
       fault_ahead s (read_ring a.ring.now) a.tail a.disk a.p dec c.in-Change.is told.0
-          (fate_sound a.disk c.search_ahead-fate.result (λ q x. elim c.in-Closed.is [ inl a ↦ cc | inr a ↦ cc ])),
+          (fate_sound a.disk c.first_fate-fate.result (λ q x. elim c.in-Closed.is [ inl a ↦ cc | inr a ↦ cc ])),
       remembers_later (λ n. sym (fate_change _ _ _ dec c.requires.3 n c.in-Change.is)) told.1,
     )
 
@@ -38,7 +38,7 @@ returns-in-Unreadable c =
     let a = c.args in
     λ s e.
     let dec = c.decode_ring.ensures s e in
-    let told = c.search_ahead-fate.ensures s e (λ i l x. absurd (omega (arith, l, c.requires.0))) (remembers_begun c.requires.0 _) in (
+    let told = c.first_fate-fate.ensures s e in (
       fault_ahead s (read_ring a.ring.now) a.tail a.disk a.p dec c.in-Change.is told.0 (rw c.in-Unreadable.is),
       remembers_later (λ n. sym (fate_change _ _ _ dec c.requires.3 n c.in-Change.is)) told.1,
     )
