@@ -110,12 +110,15 @@ fn step(p: Partial, b: u8) -> Partial
     }
 }
 
-// Reads a piece of a line.
+// Reads a piece of a line, as far as there is hope.
 pub fn read_piece(partial: Partial, bytes: &[u8]) -> Partial
     ensures { (more : List ℕ) → command_after result more ≡ command_after partial (bytes.now ++ more) }
 {
     let mut p = partial;
     for &b in bytes {
+        if let Partial::Hopeless = p {
+            return p;
+        }
         p = step(p, b);
     }
     p
