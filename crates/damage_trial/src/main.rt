@@ -19,9 +19,10 @@ use crate::machine::shut;
 use crate::probe::Probe;
 use crate::trial::try_image;
 use damage::devices::{Devices, blank};
+use std::fmt::Write;
 use trial_table::calls::Kind;
 use trial_table::random;
-use trial_table::text::read_number;
+use trial_table::text::{Output, read_number};
 
 // The good image: two commits with a checkpoint between them, then an abort and a third commit.
 fn make_image(p: Probe) -> Probe {
@@ -42,7 +43,7 @@ fn try_images(p: Probe, good: Devices, images: u64) -> Probe {
     after
 }
 
-fn main(rt: HostRuntime) {
+fn main() {
     let first = Probe {
         machine: shut(blank()),
         taken: true,
@@ -54,8 +55,8 @@ fn main(rt: HostRuntime) {
     let made = make_image(first);
     let images = read_number(500).saturating_add(2248);
     let p = try_images(made, made.machine.devices, images);
-    // A text that cannot be written is passed over: nobody is left to tell.
-    let _ = println!(rt;
+    let _ = writeln!(
+        Output,
         "{} damaged images, {} taken by a restart; {} calls, {} agreed",
         p.images, p.taken_images, p.calls, p.agreed
     );

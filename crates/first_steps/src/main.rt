@@ -8,36 +8,36 @@ use machine::Machine;
 use telling::{show_slot, tell};
 
 // Two results are entered. The second has a budget of 3 stores, and its commit wants 7: there the power fails.
-fn before_the_loss(rt: &impl Print, machine: &mut Machine) {
+fn before_the_loss(machine: &mut Machine) {
     let formatted = machine.format();
-    tell(rt, "format", formatted);
+    tell("format", formatted);
     if formatted.is_err() {
         return;
     }
     let entered = machine.enter(0, 3, &mut u64::MAX);
-    tell(rt, "slot 0 := 3", entered);
+    tell("slot 0 := 3", entered);
     if entered.is_err() {
         return;
     }
     let mut budget = 3;
     let cut = machine.enter(1, 5, &mut budget);
-    tell(rt, "slot 1 := 5", cut);
+    tell("slot 1 := 5", cut);
 }
 
 // The store is restarted; both slots are shown.
-fn after_the_loss(rt: &impl Print, machine: &mut Machine) {
+fn after_the_loss(machine: &mut Machine) {
     let restarted = machine.restart();
-    tell(rt, "restart", restarted);
+    tell("restart", restarted);
     if restarted.is_err() {
         return;
     }
-    show_slot(rt, machine, 0);
-    show_slot(rt, machine, 1);
+    show_slot(machine, 0);
+    show_slot(machine, 1);
 }
 
-fn main(rt: HostRuntime) {
+fn main() {
     let mut machine = Machine::new();
-    before_the_loss(&rt, &mut machine);
+    before_the_loss(&mut machine);
     machine.lose_power();
-    after_the_loss(&rt, &mut machine);
+    after_the_loss(&mut machine);
 }

@@ -21,8 +21,9 @@ use crate::machine::{Anchor, Logs, Machine};
 use crate::reading::{disk_at, no_notes, note_records, start_at};
 use crate::requests::{Found, try_listing, try_refusals};
 use crate::running::run;
+use std::fmt::Write;
 use trial_table::shape::{Shape, log_words};
-use trial_table::text::read_number;
+use trial_table::text::{Output, read_number};
 use trial_table::words::add_to;
 
 // Raises the positions of all disks by a multiple of the ring's size, up to near 2^62.
@@ -46,7 +47,7 @@ fn records_of(m: Machine) -> u64 {
     note_records(&m.anchor, &m.logs, &mut no_notes())
 }
 
-fn try_size(rt: &impl Print, shape: Shape, images: u64, out: &mut Out) {
+fn try_size(shape: Shape, images: u64, out: &mut Out) {
     let m = run(shape, 8);
     let words = log_words(shape);
     let near = try_listing(Found::default(), words, &m.anchor, &m.logs, out);
@@ -55,25 +56,27 @@ fn try_size(rt: &impl Print, shape: Shape, images: u64, out: &mut Out) {
     let refused = try_refusals(far, m.state, words, &m.anchor, &m.logs, out);
     let mut counts = [0; 16];
     let found = try_images(refused, m, words, images, &mut counts, out);
-    tell(rt, shape, records_of(m), found, &counts);
+    tell(shape, records_of(m), found, &counts);
 }
 
-// `counts[0]` changed images were taken, and `counts[number]` refused with a number. A text that cannot be written is passed over.
-fn tell(rt: &impl Print, shape: Shape, records: u64, found: Found, counts: &[u64; 16]) {
-    let _ = print!(rt;
+// `counts[0]` changed images were taken, and `counts[number]` refused with a number.
+fn tell(shape: Shape, records: u64, found: Found, counts: &[u64; 16]) {
+    let mut out = Output;
+    let _ = write!(
+        out,
         "D = {}: {records} records; {} lines and {} refusals compared; changed images by a restart's begin: {} taken",
         shape.disks, found.lines, found.refusals, counts[0]
     );
     for number in 1..16 {
         let images = counts[number];
         if images > 0 {
-            let _ = print!(rt; ", {images} refused with {number}");
+            let _ = write!(out, ", {images} refused with {number}");
         }
     }
-    let _ = println!(rt; "; {} disagreements", found.faults);
+    let _ = writeln!(out, "; {} disagreements", found.faults);
 }
 
-fn main(rt: HostRuntime) {
+fn main() {
     let mut out = [0u8; 36500];
     let images = read_number(300);
     let slots = Shape {
@@ -98,6 +101,6 @@ fn main(rt: HostRuntime) {
         words: 0,
     };
     for shape in [slots, fives, mixed] {
-        try_size(&rt, shape, images, &mut out);
+        try_size(shape, images, &mut out);
     }
 }

@@ -1,5 +1,6 @@
 // Reading a number, and writing counts.
 use crate::words::times;
+use std::fmt::{self, Write};
 
 // The number that standard input begins with; `otherwise` where it begins with none.
 pub fn read_number(otherwise: u64) -> u64 {
@@ -28,4 +29,16 @@ fn with_digit(number: u64, digit: u8) -> u64 {
 pub fn count(n: u64, text: &[u8]) {
     io::print_decimal(1, n);
     io::write_all(1, text);
+}
+
+// Standard output, by the C library's write alone: no contract but that one's is assumed for it. A piece that cannot be written is passed
+// over: nobody is left to tell.
+#[derive(Clone, Copy)]
+pub struct Output;
+
+impl Write for Output {
+    fn write_str(&mut self, s: &str) -> fmt::Result {
+        io::write_all(1, s.as_bytes());
+        Ok(())
+    }
 }
