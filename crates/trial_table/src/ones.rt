@@ -1,12 +1,20 @@
-// How many bits an update changes, and an abort changes back: against the plain table, word by word.
+// How many bits an update changes, and an abort changes back: against the plain table, bit by bit.
 use crate::calls::{Call, laid_value};
 use crate::shape::{Shape, address_of, width_of};
-use crate::words::{get, tail};
+use crate::words::{get, tail, tally};
 use crate::write_sets;
 
-// In how many bits two words differ.
+// In how many bits two words differ. It goes bit by bit: the store counts them by one instruction, and is compared with this.
 fn word_ones(a: u64, b: u64) -> u64 {
-    u64::from((a ^ b).count_ones())
+    let mut x = a;
+    let mut y = b;
+    let mut count = 0;
+    for _ in 0..64 {
+        count = tally(count, x % 2 != y % 2);
+        x /= 2;
+        y /= 2;
+    }
+    count
 }
 
 // The same over the first n words of two slices.
