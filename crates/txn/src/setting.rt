@@ -49,10 +49,12 @@ pub fn set_classes(carried: Carried, lines: &[u64], work: &[u64]) -> Handed
     }
     let classes = classes_of(lines);
     let next = Carried { classes, ..carried };
-    if let Some(class) = uncovered_class(lines) {
+    let uncovered = uncovered_class(lines);
+    let twice = twice_covered(lines);
+    if let Some(class) = uncovered {
         return refused_at(carried, Refusal::NotCovered, class, 0);
     }
-    if let Some(class) = twice_covered(lines) {
+    if let Some(class) = twice {
         return refused_at(carried, Refusal::CoveredTwice, class, 0);
     }
     finished(next, 0, 0)

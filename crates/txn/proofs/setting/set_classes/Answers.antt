@@ -40,26 +40,26 @@ classes_of-classes-requires c =
     table_bytes x.carried.disks x.lines.now (omega (arith, c.in_default-wrong_line.ensures))
     ready.counts.disks_max ready.table
 
-pub returns-in-Some-uncovered_class : goal.returns-in-Some-uncovered_class
-returns-in-Some-uncovered_class c =
+pub returns-in-Some-uncovered : goal.returns-in-Some-uncovered
+returns-in-Some-uncovered c =
     let x = c.args in
     let fault = c.in_default.ensures in
     λ anchor pages backups logs.
     shown_refused (set_classes x.lines.now) x.carried (world_of anchor pages backups logs x.work.now)
     (set_uncovered x.carried (world_of anchor pages backups logs x.work.now) x.lines.now fault refl
-    (omega (arith, c.in_default-wrong_line.ensures)) (omega (arith, c.in-Some-uncovered_class.ensures)))
-    (rw c.in-Some-uncovered_class.ensures.0 at c.refused_at-in-Some-uncovered_class.ensures)
+    (omega (arith, c.in_default-wrong_line.ensures)) (omega (arith, c.in-Some-uncovered.ensures)))
+    (rw c.in-Some-uncovered.ensures.0 at c.refused_at-in-Some-uncovered.ensures)
 
-pub returns-in-Some-twice_covered : goal.returns-in-Some-twice_covered
-returns-in-Some-twice_covered c =
+pub returns-in-Some-twice : goal.returns-in-Some-twice
+returns-in-Some-twice c =
     let x = c.args in
     let fault = c.in_default.ensures in
     λ anchor pages backups logs.
     shown_refused (set_classes x.lines.now) x.carried (world_of anchor pages backups logs x.work.now)
     (set_twice x.carried (world_of anchor pages backups logs x.work.now) x.lines.now fault refl
     (omega (arith, c.in_default-wrong_line.ensures))
-    (omega (arith, c.in_default-uncovered_class.ensures)) (omega (arith, c.in-Some-twice_covered.ensures)))
-    (rw c.in-Some-twice_covered.ensures.0 at c.refused_at-in-Some-twice_covered.ensures)
+    (omega (arith, c.in_default-uncovered.ensures)) (omega (arith, c.in-Some-twice.ensures)))
+    (rw c.in-Some-twice.ensures.0 at c.refused_at-in-Some-twice.ensures)
 
 pub returns : goal.returns
 returns c =
@@ -70,5 +70,5 @@ returns c =
     set_serves x.carried (world_of anchor pages backups logs x.work.now) x.lines.now (settable x.carried x.work.now x.lines.now (sym fault))
     (set_accepted x.carried (world_of anchor pages backups logs x.work.now) x.lines.now fault none
     (omega (arith, c.in_default-wrong_line.ensures))
-    (omega (arith, c.in_default-uncovered_class.ensures)) (omega (arith, c.in_default-twice_covered.ensures)))
+    (omega (arith, c.in_default-uncovered.ensures)) (omega (arith, c.in_default-twice.ensures)))
     (rw c.classes_of-classes.ensures at c.finished.ensures)
