@@ -1,5 +1,6 @@
 -- A disk of a serving state as the functions of `log` are lent it, and what an append on it does.
 use Rattle.std.specs.Prelude.{Option, None, Some}
+use Rattle.std.specs.Option.{option_or}
 use mathlib.Core.Path.{◌≡◌, refl, sym, ◌∙◌}
 use mathlib.Core.List.{List}
 use Prim.Native.Nat.{ℕ, ◌+◌, ◌*◌, ◌≤◌, ◌<◌}
@@ -108,9 +109,14 @@ module _ {s : Sizes} {l : Logs} {disk : ℕ} {logs work : List ℕ} (at : Servin
         width_small = omega (arith, there.width_is, used.width_max);
       }
 
--- what the answer of an append says of the log after it
-pub appended : {budget rest : ℕ} {s : Sizes} {disk : ℕ} (tip : Tip) {words : List ℕ} {w v : World} {r : Option Tip}
+-- what the answer of an append says of the log after it, however that answer is handed on
+pub appended : {budget rest : ℕ} {s : Sizes} {disk : ℕ} (tip : Tip) {words : List ℕ} {w v : World} {q r : Option Tip} → q ≡ r
     → Appends budget rest s (only_log disk tip) disk words w v r
-    → Did disk budget rest (append s (only_log disk tip) w.work disk words) w v r
-appended tip {r = None} did = record { ran = did.ran; state = tt }
-appended {disk} tip {r = Some next} did = record { ran = did.ran; state = sym (did.state ∙ tip_moved disk tip next) }
+    → Did disk budget rest (append s (only_log disk tip) w.work disk words) w v q
+appended tip {r = None} same did = rw same (record { ran = did.ran; state = tt })
+appended {disk} tip {r = Some next} same did = rw same (record { ran = did.ran; state = sym (did.state ∙ tip_moved disk tip next) })
+
+-- an answer or none is that answer
+pub or_none : (r : Option Tip) → option_or r None ≡ r
+or_none None = refl
+or_none (Some tip) = refl

@@ -35,6 +35,14 @@ put_part l at k now vs same long fits =
     let laid : sets l at vs ≡ take at l ++ (vs ++ drop (at + length vs) l) = sets-eq vs l at (omega arith) ∙ append_assoc (take at l) vs _ in
     rw (same, rest) (sym laid)
 
+-- a part, and a run that is put, by numbers that are the right ones, however code says them
+pub part_same : (l : List ℕ) (n from : ℕ) {long begin : ℕ} → long ≡ n → begin ≡ from → take long (drop begin l) ≡ part from n l
+unfolding part
+part_same l n from {begin = b} long begin = ap (λ (k : ℕ). take k (drop b l)) long ∙ ap (λ (k : ℕ). take n (drop k l)) begin
+
+pub put_wide : (l now : List ℕ) (at k : ℕ) {wide : ℕ} {r : List ℕ} → wide ≡ k → put_mid at k l now ≡ r → put_mid at wide l now ≡ r
+put_wide l now at k wide told = rw wide told
+
 -- two runs, one behind the other
 pub sets_append : (l : List ℕ) (at : ℕ) (a b : List ℕ) → sets l at (a ++ b) ≡ sets (sets l at a) (at + length a) b
 sets_append l at [] b = rw add-zero

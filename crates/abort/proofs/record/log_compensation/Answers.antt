@@ -4,7 +4,7 @@ use native.Mathlib.Omega.{arith}
 use Rattle.model.specs.World.{world_of}
 use Rattle.frame.proofs.Homes.{lent_there, disk_there}
 use Rattle.abort.proofs.Tips.{tip_home}
-use Rattle.abort.proofs.Disks.{small, home_asked, home_lies, encodable, appended}
+use Rattle.abort.proofs.Disks.{small, home_asked, home_lies, encodable, appended, or_none}
 use Rattle.abort.proofs.record.log_compensation.Goals as goal
 
 pub home_at-home-requires : goal.home_at-home-requires
@@ -29,4 +29,4 @@ returns c =
     λ anchor pages backups.
     let w = world_of anchor pages backups x.logs.now x.work.now in
     rw (← c.page_copy.ensures x.sizes refl)
-    (appended x.tip (rw (disk_there _ _ _ home) at (c.append_change.ensures.appends _ _ w (lent_there _ _ _ home w refl refl))))
+    (appended x.tip (grind (arith, or_none)) (rw (disk_there _ _ _ home) at (c.append_change.ensures.appends _ _ w (lent_there _ _ _ home w refl refl))))
