@@ -72,7 +72,8 @@ fn first_fate(
     search_ahead(fates, slots, widths, ring, tail, from, number)
 }
 
-// The fault of the record at a position, and of the search ahead from it, whose fates are remembered for the run: the memory is new.
+// The fault of the record at a position, and of the search ahead from it. A run that makes a step remembers the fates that this met: the
+// memory is new.
 pub fn record_fault(
     fates: &mut Fates,
     slots: &[u8],
