@@ -9,6 +9,7 @@ use lib.ListN.{length, get_or, drop, length-take, length-drop}
 use borrow.Author.Tests.{le-leb, lt-leb, eq-eqb, ne_eqb}
 use Rattle.model.specs.declared.Stage.{Stage}
 use Rattle.model.specs.declared.Sizes.{Sizes}
+use Rattle.model.specs.declared.Answer.{Answer}
 use Rattle.model.specs.declared.Answer.TheVariants.{Finished, Refused}
 use Rattle.model.specs.Below.{join_below}
 use Rattle.model.specs.Sizes.{log_words}
@@ -196,3 +197,7 @@ module _ (stage : Stage) (wrong : Bool) (anchor logs : List ℕ) (first : ℕ) (
     unfolding lines_from
     lines_counted =
         length-take (length out / 73) (drop first (listing anchor logs)) ∙ ap (min (length out / 73)) (length-drop first (listing anchor logs) ∙ rw (l.count lines none))
+
+-- an answer that finished with the right number, however code says the number
+pub lines_told : {n m : ℕ} {a : Answer} → Finished 0 m ≡ a → n ≡ m → Finished 0 n ≡ a
+lines_told told same = ap (Finished 0) same ∙ told

@@ -1,9 +1,7 @@
 -- `listing::call::list_lines` meets its contract: the answer by what was found, and as many lines as there is room for.
-use mathlib.Core.Path.{ap, sym, ◌∙◌}
 use native.Mathlib.Omega.{arith}
-use Rattle.model.specs.declared.Answer.TheVariants.{Finished}
 use Rattle.model.specs.Listing.{lines_after}
-use Rattle.listing.proofs.Calling.{answers_refused, leaves_bytes, answers_taken, leaves_lines, line_there, lines_counted}
+use Rattle.listing.proofs.Calling.{answers_refused, leaves_bytes, answers_taken, leaves_lines, line_there, lines_counted, lines_told}
 use Rattle.listing.proofs.call.list_lines.Goals as goal
 
 pub overflow_sub-lines : goal.overflow_sub-lines
@@ -15,7 +13,7 @@ returns-in-Ok c =
     let l = c.list.ensures in
     let none = c.in-Ok.is in
     record {
-      value = ap (Finished 0) (c.min.ensures ∙ sym (lines_counted _ _ _ _ _ _ _ l none)) ∙ answers_taken _ _ _ _ _ _ _ l none _;
+      value = lines_told (answers_taken _ _ _ _ _ _ _ l none _) (omega (arith, lines_counted _ _ _ _ _ _ _ l none));
       out_after = leaves_lines _ _ _ _ _ _ _ l none;
     }
 
